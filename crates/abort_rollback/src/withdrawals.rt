@@ -1,8 +1,7 @@
 //! An aborted run leaves the lineage table.
-ghost use Rattle.std.specs.Prelude.{◌≡◌, ◌<◌, ℕ, length};
+ghost use Rattle.std.specs.Prelude.{length, ℕ, ◌<◌, ◌≡◌};
 ghost use Rattle.abort_rollback.specs.Undos.{next_undo};
-ghost use Rattle.lineage_laws.specs.Laws.{stand_of};
-ghost use Rattle.lineage_table.specs.Lineages.{lineage_at, removed};
+ghost use Rattle.lineage_table.specs.Lineages.{lineage_at, removed, stand_of};
 
 use crate::undos::Undo;
 use home_types::{DeviceNo, RunNo};

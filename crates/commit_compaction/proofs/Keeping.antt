@@ -1,9 +1,8 @@
 -- Why the value that stands on a device is kept where a run commits.
 use Rattle.home_types.specs.declared.numbers.RunNo.{RunNo}
-use Rattle.lineage_laws.specs.Laws.{stand_of}
+use Rattle.lineage_table.specs.Lineages.{LineageState, committed_lineage, stand_of, without_access}
 use Rattle.lineage_table.proofs.Standing.{effective_stands, not_writer, settled_stands, without_stands}
 use Rattle.lineage_table.specs.Accesses.{IsDisciplined, access_of, effective_writer, standing_value, without, written_by}
-use Rattle.lineage_table.specs.Lineages.{LineageState, committed_lineage, without_access}
 use Rattle.lineage_table.specs.declared.accesses.Access.{Access}
 use Rattle.std.proofs.Common.{IsSome, List, None, Option, Some, ap, arith, refl, subst, sym, ℕ, ◌≡◌}
 use Rattle.std.proofs.lemmas.Grind.{common_steps}

@@ -1,7 +1,6 @@
 //! The commit of a run: what is left of the lineage of each device that it has used.
-ghost use Rattle.std.specs.Prelude.{◌≡◌, ◌<◌, ℕ, length};
-ghost use Rattle.lineage_laws.specs.Laws.{stand_of};
-ghost use Rattle.lineage_table.specs.Lineages.{committed_lineage, lineage_at, with_lineage};
+ghost use Rattle.std.specs.Prelude.{length, ℕ, ◌<◌, ◌≡◌};
+ghost use Rattle.lineage_table.specs.Lineages.{committed_lineage, lineage_at, stand_of, with_lineage};
 
 use home_types::{DeviceNo, RunNo};
 use lineage_table::Table;

@@ -21,9 +21,6 @@ pub mod HubRefusals
 pub mod PlannedInTurn
 pub mod PlannedUses
 pub mod Scheduling
-pub mod NotedAnswers
-pub mod PassedRuns
-pub mod WaitingAgain
 pub mod HubOrders
 pub mod SkippedCalls
 pub mod SeenDevices

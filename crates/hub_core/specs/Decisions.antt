@@ -11,7 +11,7 @@ use Rattle.home_types.specs.Numbers.{CommandIndex, Moment, RunId}
 use Rattle.home_types.specs.declared.commands.Answer.TheVariants.{Down, Fine, Found, Skipped}
 use Rattle.home_types.specs.declared.commands.Answer.{Answer}
 use Rattle.home_types.specs.declared.commands.Command.{Command}
-use Rattle.hub_core.specs.OpenHubs.{purpose_of}
+use Rattle.window_order.specs.KeptOrders.{purpose_of}
 use Rattle.hub_core.specs.Steps.{Absent as IsAbsent, Choice, HandsOut as IsHandedOut, Moves, Over as IsOver, Waits as IsWaiting, aborts, behind_case, busy_case, dirty_case, down_case, first_case, overdue_case, skip_entries, strict_case, undo_cases}
 use Rattle.hub_core.specs.declared.decisions.Chosen.TheVariants.{Aborts, Absent, AnswersDown, Arrives, Commits, Drops, FailsAtEnd, HandsOut, Joins, Over, Revokes, Skips, Waits}
 use Rattle.hub_core.specs.declared.decisions.Chosen.{Chosen}

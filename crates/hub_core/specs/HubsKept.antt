@@ -15,7 +15,8 @@ use Rattle.hub_core.specs.Homes.{CountsAreLow}
 use Rattle.hub_core.specs.Bounds.{most_entries, most_items}
 use Rattle.hub_core.specs.HubCalls.{faults_told, probes_taken}
 use Rattle.hub_core.specs.HubSteps.{task_of}
-use Rattle.hub_core.specs.OpenHubs.{OpenHub, configuration_of, device_at, events_in, held_in, purpose_of}
+use Rattle.hub_core.specs.OpenHubs.{OpenHub, configuration_of, device_at, events_in, held_in}
+use Rattle.window_order.specs.KeptOrders.{purpose_of}
 use Rattle.hub_core.specs.KeptByModel.{IsKeptByModel}
 use Rattle.hub_core.specs.KeptOrders.{OrderIsBeside}
 use Rattle.hub_core.specs.ReadHistories.{HistoryState}

@@ -10,10 +10,11 @@ use Rattle.hub_core.specs.declared.known.Counts.{Counts}
 use Rattle.hub_core.specs.declared.known.DeviceProgress.{DeviceProgress}
 use Rattle.hub_core.specs.declared.known.Events.{Events}
 use Rattle.hub_core.specs.declared.known.RunProgress.{RunProgress}
-use Rattle.hub_core.specs.declared.purposes.Purpose.TheVariants.{Command, Probe, Undo}
-use Rattle.hub_core.specs.declared.purposes.Purpose.{Purpose as KeptPurpose}
-use Rattle.lock_leasing.specs.Configurations.{Commands, Configuration, Grip, Probes, Purpose, Undoes}
+use Rattle.window_order.specs.declared.purposes.Purpose.TheVariants.{Command}
+use Rattle.window_order.specs.declared.purposes.Purpose.{Purpose as KeptPurpose}
+use Rattle.lock_leasing.specs.Configurations.{Configuration, Grip}
 use Rattle.std.specs.Prelude.{List, None, Option, Some, length, option_map, slice_get, slice_index_or, ℕ}
+use Rattle.window_order.specs.KeptOrders.{purpose_of}
 
 -- what a hub shows: what is fixed, the rounds of probes and how many windows were opened before, the history and the last moment, what is known of each device, and its place
 pub record OpenHub (D : Type 0) : Type 0 where
@@ -42,11 +43,6 @@ no_device = record { held = 0; probes_left = 0; purpose = Command 0; at_opening 
 -- what is known of the device
 abbrev pub device_at : List DeviceProgress → DeviceId → DeviceProgress
 device_at devices d = slice_index_or devices d no_device
-
-abbrev pub purpose_of : KeptPurpose → Purpose
-purpose_of (Command k) = Commands k
-purpose_of (Undo v) = Undoes v
-purpose_of (Probe value) = Probes value
 
 -- the grip with which the device in this place is out, for this purpose
 abbrev pub grip_in : {D : Type 0} → Option (Place D) → KeptPurpose → Option Grip

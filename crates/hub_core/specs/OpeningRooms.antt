@@ -10,7 +10,7 @@ use Rattle.hub_core.specs.OpenHubs.{no_events}
 use Rattle.hub_core.specs.declared.open_windows.ClosingLists.{ClosingLists}
 use Rattle.hub_core.specs.declared.known.DeviceProgress.{DeviceProgress}
 use Rattle.hub_core.specs.declared.known.RunProgress.{RunProgress}
-use Rattle.hub_core.specs.declared.purposes.Purpose.TheVariants.{Command}
+use Rattle.window_order.specs.declared.purposes.Purpose.TheVariants.{Command}
 use Rattle.lineage_table.specs.Lineages.{IsOpened, LineageState}
 use Rattle.serial_line.specs.KeptRuns.{AreKeptOf}
 use Rattle.serial_line.specs.Marks.{Marked}

@@ -13,7 +13,7 @@ use Rattle.hub_core.specs.Bounds.{most_items}
 use Rattle.hub_core.specs.PlansInTurn.{planned_use}
 use Rattle.hub_core.specs.declared.decisions.Chosen.TheVariants.{Aborts, Absent, AnswersDown, Arrives, Commits, Drops, FailsAtEnd, HandsOut, Joins, Over, Revokes, Skips, Waits}
 use Rattle.hub_core.specs.declared.decisions.Chosen.{Chosen}
-use Rattle.hub_core.specs.declared.plans.PlannedUse.{PlannedUse}
+use Rattle.window_order.specs.declared.planned_uses.PlannedUse.{PlannedUse}
 use Rattle.lock_leasing.specs.Configurations.{Configuration, read_of}
 use Rattle.std.specs.List.{list_any}
 use Rattle.std.specs.Prelude.{List, None, Option, Some, if◌then◌else◌, length, option_map, slice_get, ℕ, ⊤, ◌<◌, ◌≡◌, ◌≤◌}

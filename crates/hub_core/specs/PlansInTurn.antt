@@ -3,7 +3,7 @@ use Rattle.history_book.specs.Plans.{greatest, planned_end, planned_start}
 use Rattle.history_book.specs.Readings.{Planned}
 use Rattle.home_types.specs.Numbers.{DeviceId, Moment}
 use Rattle.home_types.specs.declared.commands.Command.{Command}
-use Rattle.hub_core.specs.declared.plans.PlannedUse.{PlannedUse}
+use Rattle.window_order.specs.declared.planned_uses.PlannedUse.{PlannedUse}
 use Rattle.std.specs.List.{list_any}
 use Rattle.std.specs.Prelude.{List, None, Option, Some, [], if◌then◌else◌, min, ◌+◌, ◌==◌, ◌∷◌}
 

@@ -7,10 +7,10 @@ ghost use Rattle.hub_core.specs.Away.{IsHomeAgain, IsSent, MayComeHome, MaySend,
 ghost use Rattle.hub_core.specs.OpenHubs.{device_at};
 
 use crate::known::{Counts, DeviceProgress, Events, NO_EVENTS};
-use crate::purposes::Purpose;
 use device_gate::{Done, Gate, Grip, Ready, Task, Told};
 use device_states::Device;
 use home_types::{DeviceNo, List, Value};
+use window_order::Purpose;
 
 /// What is known of no device.
 const NOT_KNOWN: DeviceProgress = DeviceProgress {

@@ -1,14 +1,15 @@
 //! What each choice of a step makes of the window, and the entries that it writes.
-ghost use Rattle.std.specs.Prelude.{◌≡◌, ◌<◌, ◌||◌, IsSome, IsTrue, None, Some, [], ◌∷◌, false, if◌then◌else◌, max, not, option_map, true};
+ghost use Rattle.std.specs.Prelude.{IsSome, IsTrue, None, Some, [], false, if◌then◌else◌, max, not, option_map, true, ◌<◌, ◌||◌, ◌∷◌, ◌≡◌};
 ghost use Rattle.command_rules.specs.Rosters.{is_run};
 ghost use Rattle.lock_leasing.specs.Configurations.{read_of};
 ghost use Rattle.hub_core.specs.Decisions.{told_choice};
 ghost use Rattle.hub_core.specs.HubCalls.{Answers, GoesOut, IsPacked, SameWindow};
-ghost use Rattle.hub_core.specs.OpenHubs.{configuration_of, purpose_of};
-ghost use Rattle.hub_core.specs.KeptOrders.{MayLeave, MayNoteAnswer, is_first, left_by, noted_first};
+ghost use Rattle.hub_core.specs.OpenHubs.{configuration_of};
+ghost use Rattle.window_order.specs.KeptOrders.{is_first, left_by, noted_first, purpose_of};
+ghost use Rattle.hub_core.specs.KeptOrders.{MayLeave, MayNoteAnswer};
 ghost use Rattle.hub_core.specs.PlannedPlaces.{HoldsPlan};
 ghost use Rattle.hub_core.specs.ReadHistories.{read_in, with_doom};
-ghost use Rattle.hub_core.specs.Steps.{Waits, Absent, Moves, Over, HandsOut, choice_of};
+ghost use Rattle.hub_core.specs.Steps.{Absent, HandsOut, Moves, Over, Waits, choice_of};
 ghost use Rattle.history_book.specs.Histories.{entries_made};
 ghost use Rattle.history_book.specs.Readings.{is_access, is_doomed, is_fine, is_told, pends};
 ghost use Rattle.history_book.specs.Settings.{is_weak};
@@ -18,16 +19,15 @@ ghost use Rattle.history_book.specs.declared.entries.End.TheVariants.{Aborted, C
 ghost use Rattle.window_order.specs.TableChanges.{ChangesEach, doomed_lineage};
 
 use crate::decisions::Chosen;
-use crate::kept_orders::{KeptOrder, note_of};
 use crate::known::DeviceProgress;
 use crate::open_windows::OpenWindow;
-use crate::purposes::Purpose;
 use crate::read_histories::{ReadHistory, must_down};
 use device_gate::{Grip, Ready};
 use device_states::Device;
 use history_book::{Cause, Entry, Made};
 use home_types::{Answer, DeviceNo, RunNo, Value};
 use timeline_scheduler::Scratch;
+use window_order::{KeptOrder, Purpose, note_of};
 
 /// No entries.
 pub(crate) const NONE_MADE: Made = Made {

@@ -1,11 +1,12 @@
 //! What a run does at its turn: the cases of the rules, in their order, with nothing changed.
-ghost use Rattle.std.specs.Prelude.{◌≡◌, ◌<◌, ◌≤◌, IsTrue, None, false, find, length, max, option_map, true, unwrap_or, ℕ};
+ghost use Rattle.std.specs.Prelude.{IsTrue, None, false, find, length, max, option_map, true, unwrap_or, ℕ, ◌<◌, ◌≡◌, ◌≤◌};
 ghost use Rattle.command_rules.specs.Rosters.{command_at, commands_of, is_run};
 ghost use Rattle.history_book.specs.Readings.{is_live};
 ghost use Rattle.history_book.specs.Settings.{is_weak};
 ghost use Rattle.hub_core.specs.Decisions.{current_command, skipped_command, strong_command, strong_doomed, told_choice, unbarred_command};
 ghost use Rattle.hub_core.specs.HubSteps.{command_task, task_of};
-ghost use Rattle.hub_core.specs.OpenHubs.{configuration_of, purpose_of};
+ghost use Rattle.hub_core.specs.OpenHubs.{configuration_of};
+ghost use Rattle.window_order.specs.KeptOrders.{purpose_of};
 ghost use Rattle.hub_core.specs.Steps.{choice_of, decide_answered};
 ghost use Rattle.hub_core.specs.PlannedPlaces.{HasSameRoom, HoldsChosen, IsForHome};
 ghost use Rattle.lineage_table.specs.Accesses.{access_of};
@@ -17,7 +18,6 @@ ghost use Rattle.lock_leasing.specs.Waits.{behind_wait, grip_wait, strict_wait};
 ghost use Rattle.visibility_models.specs.Models.{IsUnderWay};
 
 use crate::open_windows::OpenWindow;
-use crate::purposes::Purpose;
 use crate::waits::Why;
 use abort_rollback::{Undo, next_undo};
 use command_rules::{driven, reads};
@@ -29,6 +29,7 @@ use lineage_table::Table;
 use lock_leasing::{Touch, test_touch};
 use timeline_scheduler::Scratch;
 use visibility_models::{down_at_end, may_go};
+use window_order::Purpose;
 
 /// What the step of a run is to do.
 #[derive(Clone, Copy, Debug, PartialEq, Eq)]

@@ -7,11 +7,11 @@ ghost use Rattle.hub_core.specs.KeptOrders.{HasFallen, HasRisen, IsLostTo, MayTu
 ghost use Rattle.hub_core.specs.ReadHistories.{with_entry, with_lost};
 ghost use Rattle.lineage_table.specs.Lineages.{accesses_at};
 
-use crate::kept_orders::{KeptOrder, seal};
 use crate::read_histories::ReadHistory;
 use failure_serialization::{fell, rose};
 use history_book::{Cause, Entry};
 use home_types::{DeviceNo, List, RunNo};
+use window_order::{KeptOrder, seal};
 
 /// A device has failed.
 #[derive(Clone, Copy, Debug, PartialEq, Eq)]

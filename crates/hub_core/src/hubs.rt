@@ -18,7 +18,6 @@ ghost use Rattle.lock_leasing.specs.Tables.{Represents};
 use crate::blocked_runs::BlockedRuns;
 use crate::homes::Home;
 use crate::open_windows::OpenWindow;
-use crate::purposes::Purpose;
 use crate::refusals::NotQuiet;
 use device_states::Device;
 use history_book::WindowRecord;
@@ -26,6 +25,7 @@ use home_types::{DeviceNo, Item, RunNo};
 use lineage_table::Table;
 use std::marker::Model;
 use timeline_scheduler::Scratch;
+use window_order::Purpose;
 
 /// An open window.
 ///

@@ -2,10 +2,10 @@
 ghost use Rattle.std.specs.Prelude.{◌≡◌, ◌+◌, ◌<◌, ◌^◌};
 ghost use Rattle.hub_core.specs.Away.{events_after};
 
-use crate::purposes::Purpose;
 use device_gate::{Task, Told};
 use history_book::{Cause, End};
 use home_types::Value;
+use window_order::Purpose;
 
 /// What the history says of a run.
 #[derive(Clone, Copy, Debug, PartialEq, Eq)]

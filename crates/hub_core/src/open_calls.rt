@@ -16,10 +16,8 @@ use crate::away::Away;
 use crate::blocked_runs::BlockedRuns;
 use crate::homes::Home;
 use crate::hubs::Hub;
-use crate::kept_orders::KeptOrder;
 use crate::known::{Counts, DeviceProgress, NO_EVENTS, RunProgress};
 use crate::open_windows::{ClosingLists, OpenWindow};
-use crate::purposes::Purpose;
 use crate::read_histories::ReadHistory;
 use command_rules::{IndexedRoster, Roster};
 use device_gate::Gate;
@@ -28,6 +26,7 @@ use history_book::Book;
 use home_types::{DeviceNo, Kind, List, Mode, NoMemory, World};
 use std::alloc::Global;
 use timeline_scheduler::Scratch;
+use window_order::{KeptOrder, Purpose};
 
 /// The memory of a window's history.
 #[derive(Drop)]

@@ -12,8 +12,6 @@ ghost use Rattle.lock_leasing.specs.Configurations.{read_of};
 ghost use Rattle.lock_leasing.specs.Standings.{IsStandingOf};
 
 use crate::away::Away;
-use crate::kept_orders::KeptOrder;
-use crate::purposes::Purpose;
 use crate::read_histories::ReadHistory;
 use crate::refusals::NotQuiet;
 use command_rules::IndexedRoster;
@@ -21,6 +19,7 @@ use device_states::Device;
 use home_types::{DeviceNo, Item, List, RunNo, Stand};
 use lock_leasing::Standing;
 use std::marker::Model;
+use window_order::{KeptOrder, Purpose};
 
 /// The lists that closing a window fills: empty, each with room for every device, but for the order.
 #[derive(Drop)]

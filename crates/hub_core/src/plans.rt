@@ -15,13 +15,7 @@ ghost use Rattle.timeline_scheduler.specs.Scratches.{HoldsTimes};
 use crate::read_histories::ReadHistory;
 use home_types::{Command, RunNo, Scheduler};
 use timeline_scheduler::Scratch;
-
-/// For how long a run is planned to use a device, in ms.
-#[derive(Clone, Copy, Debug, PartialEq, Eq)]
-pub(crate) struct PlannedUse {
-    pub(crate) from: u64,
-    pub(crate) to: u64,
-}
+use window_order::PlannedUse;
 
 impl ReadHistory {
     /// For how long the run, which is placed at this moment, in ms, is planned to use each of the 256 devices that a home

@@ -12,11 +12,11 @@ use crate::changes::{NONE_MADE, one_made};
 use crate::failures::{doom_lost, note_fall, note_rise};
 use crate::known::DeviceProgress;
 use crate::open_windows::OpenWindow;
-use crate::purposes::Purpose;
 use device_gate::{Done, Grip, Ready, Stranger, Task};
 use device_states::Device;
 use history_book::Made;
 use home_types::{DeviceNo, Value};
+use window_order::Purpose;
 
 impl<D: Device> OpenWindow<D> {
     /// Hands out a probe of the device: none where it is out or no device of the home, or no probe of it is left.

@@ -1,21 +1,22 @@
 //! A device comes home from a run, with what it told.
-ghost use Rattle.std.specs.Prelude.{◌≡◌, ◌<◌, false, true};
+ghost use Rattle.std.specs.Prelude.{false, true, ◌<◌, ◌≡◌};
 ghost use Rattle.device_gate.specs.Calls.{has_died};
 ghost use Rattle.device_gate.specs.Places.{IsKept};
 ghost use Rattle.history_book.specs.Readings.{is_fine, is_told};
 ghost use Rattle.lock_leasing.specs.Configurations.{is_undo};
 ghost use Rattle.lock_leasing.specs.Tables.{view_when};
 ghost use Rattle.hub_core.specs.HubCalls.{IsGiven, SameWindow};
-ghost use Rattle.hub_core.specs.OpenHubs.{device_at, purpose_of};
+ghost use Rattle.hub_core.specs.OpenHubs.{device_at};
+ghost use Rattle.window_order.specs.KeptOrders.{purpose_of};
 
 use crate::changes::{doom_for, note_answer, one_made};
 use crate::failures::{first_death, note_fall};
 use crate::open_windows::OpenWindow;
-use crate::purposes::Purpose;
 use device_gate::{Done, Grip};
 use device_states::Device;
 use history_book::Made;
 use home_types::{Answer, RunNo, View};
+use window_order::Purpose;
 
 impl<D: Device> OpenWindow<D> {
     /// The device of a run's grip comes home.

@@ -14,11 +14,11 @@ use crate::changes::one_made;
 use crate::decisions::Chosen;
 use crate::known::RunProgress;
 use crate::open_windows::OpenWindow;
-use crate::purposes::Purpose;
 use crate::waits::Why;
 use device_states::Device;
 use history_book::Made;
 use home_types::{Item, RunNo};
+use window_order::Purpose;
 
 impl<D: Device> OpenWindow<D> {
     /// What the run is to do, which is placed and has not ended: it ends at once where it is doomed, else its next command

@@ -1,4 +1,3 @@
 pub mod LineOrders
 pub mod Statuses
-pub mod Sweeps
 pub mod Exchanges

@@ -4,12 +4,11 @@ use Rattle.home_types.specs.Listed.{Listed}
 use Rattle.home_types.specs.Numbers.{LinePlace}
 use Rattle.home_types.specs.declared.items.Item.{Item}
 use Rattle.home_types.specs.declared.numbers.RunNo.{RunNo}
-use Rattle.lineage_table.specs.Accesses.{has_access, standing_value}
-use Rattle.lineage_table.specs.Lineages.{LineageState}
+use Rattle.lineage_table.specs.Accesses.{has_access}
 use Rattle.lineage_table.specs.declared.accesses.Access.{Access}
 use Rattle.lineage_table.specs.declared.accesses.Status.TheVariants.{Acquired, Released, Scheduled}
 use Rattle.std.specs.List.{AllPairs, list_any}
-use Rattle.std.specs.Prelude.{All, Bool, ℕ, List, Option, filter, find, length, map, ◌++◌, ◌==◌, ◌≡◌, ◌≢◌, ◌≤◌}
+use Rattle.std.specs.Prelude.{All, Bool, List, Option, filter, find, length, map, ◌++◌, ◌==◌, ◌≡◌, ◌≢◌, ◌≤◌}
 
 -- the accesses are released ones, then at most one that is acquired, then scheduled ones
 pub record StandByStatus (accesses : List Access) : Type 0 where
@@ -37,10 +36,6 @@ AreInOrder runs accesses = filter (λ q. has_access q.0 accesses) runs ≡ map (
 -- the first of these runs that has an access
 abbrev pub next_with_access : List RunNo → List Access → Option RunNo
 next_with_access runs accesses = find (λ q. has_access q.0 accesses) runs
-
--- the value that stands on the device
-abbrev pub stand_of : LineageState → ℕ
-stand_of s = standing_value s.committed s.accesses
 
 -- the items with those at this place and the next one exchanged
 abbrev pub with_exchange : LinePlace → Listed Item → Listed Item

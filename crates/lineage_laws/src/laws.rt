@@ -1,13 +1,13 @@
 //! Laws of a lineage table: the order of statuses and of the line, and what keeps the value that stands. And the law of
 //! the line: neighbours that are apart may be exchanged.
-ghost use Rattle.std.specs.Prelude.{◌≡◌, ◌≢◌, ◌<◌, ◌≤◌, ℕ, false, All, IsSome, IsTrue, Some, drop, insert, length};
+ghost use Rattle.std.specs.Prelude.{All, IsSome, IsTrue, Some, drop, false, insert, length, ℕ, ◌<◌, ◌≡◌, ◌≢◌, ◌≤◌};
 ghost use Rattle.command_rules.specs.Apart.{meet};
 ghost use Rattle.command_rules.specs.ClosedSets.{are_apart};
 ghost use Rattle.command_rules.specs.Rosters.{runs_of};
 ghost use Rattle.device_order.specs.Exchanges.{SameOutcome};
-ghost use Rattle.lineage_laws.specs.Laws.{AreDifferent, AreInOrder, StandByStatus, is_among, next_with_access, stand_of, with_exchange};
+ghost use Rattle.lineage_laws.specs.Laws.{AreDifferent, AreInOrder, StandByStatus, is_among, next_with_access, with_exchange};
+ghost use Rattle.lineage_table.specs.Lineages.{accesses_at, lineage_at, released, removed, settled, stand_of};
 ghost use Rattle.lineage_table.specs.Accesses.{effective_writer, put_before, status_of, without, written_by};
-ghost use Rattle.lineage_table.specs.Lineages.{accesses_at, lineage_at, released, removed, settled};
 ghost use Rattle.serial_meaning.specs.Conditions.{HasKinds, HasRosterDevices, IsItemOf};
 ghost use Rattle.serial_meaning.specs.Executions.{order_in};
 

@@ -11,3 +11,4 @@ pub mod KeptTables
 pub mod RunSets
 pub mod RunAccesses
 pub mod DeviceCounts
+pub mod Sweeps

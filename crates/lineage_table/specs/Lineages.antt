@@ -6,7 +6,7 @@ use Rattle.home_types.specs.Numbers.{DeviceId, RunId}
 use Rattle.home_types.specs.declared.commands.View.{View}
 use Rattle.home_types.specs.declared.numbers.RunNo.{RunNo}
 use Rattle.home_types.specs.declared.worlds.Stand.{Stand}
-use Rattle.lineage_table.specs.Accesses.{IsDisciplined, access_of, behind, put_before, with_change, without, written_by}
+use Rattle.lineage_table.specs.Accesses.{IsDisciplined, access_of, behind, put_before, standing_value, with_change, without, written_by}
 use Rattle.lineage_table.specs.declared.accesses.Access.{Access}
 use Rattle.lineage_table.specs.declared.accesses.Status.TheVariants.{Acquired, Released}
 use Rattle.std.specs.List.{list_any}
@@ -112,3 +112,7 @@ pub record IsNew (stand : Stand) (runs : ℕ) (s : LineageState) : Type 0 where
 pub record IsOpened (runs : List Run) (home : List Stand) (table : List LineageState) : Type 0 where
   pub devices : length table ≡ length home
   pub each : (d : DeviceId) → d < length home → IsNew (stand_at home d) (runs_on runs d) (lineage_at table d)
+
+-- the value that stands on the device
+abbrev pub stand_of : LineageState → ℕ
+stand_of s = standing_value s.committed s.accesses

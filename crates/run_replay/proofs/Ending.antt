@@ -8,7 +8,8 @@ use Rattle.history_book.proofs.Searches.{Each}
 use Rattle.history_book.specs.Readings.{is_live}
 use Rattle.hub_core.proofs.kept.Finds.{find_none, not_none}
 use Rattle.hub_core.proofs.kept.Sizes.{run_there}
-use Rattle.hub_core.specs.OpenHubs.{configuration_of, device_at, grip_in, purpose_of}
+use Rattle.hub_core.specs.OpenHubs.{configuration_of, device_at, grip_in}
+use Rattle.window_order.specs.KeptOrders.{purpose_of}
 use Rattle.hub_core.specs.Steps.{not_quiet}
 use Rattle.lock_leasing.specs.Configurations.{Commands, Configuration, Probes, Purpose, Undoes, is_out, read_of}
 use Rattle.lock_leasing.specs.Places.{GripsFit}

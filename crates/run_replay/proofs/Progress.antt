@@ -5,7 +5,8 @@ use Rattle.device_gate.specs.declared.gates.Place.{Place}
 use Rattle.history_book.proofs.Searches.{Each, none_is}
 use Rattle.history_book.specs.Readings.{is_live}
 use Rattle.hub_core.proofs.kept.Finds.{none_there}
-use Rattle.hub_core.specs.OpenHubs.{configuration_of, device_at, grip_in, purpose_of}
+use Rattle.hub_core.specs.OpenHubs.{configuration_of, device_at, grip_in}
+use Rattle.window_order.specs.KeptOrders.{purpose_of}
 use Rattle.hub_core.specs.Steps.{Absent, Choice, HandsOut, Moves, Over, Waits, choice_of}
 use Rattle.hub_core.specs.declared.waits.Why.{Why}
 use Rattle.lock_leasing.specs.Configurations.{Commands, Configuration, Probes, Purpose, Undoes, has_grip, read_of}

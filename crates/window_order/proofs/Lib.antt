@@ -47,3 +47,8 @@ pub mod Rearranged
 pub mod Joined
 pub mod SkippedCommands
 pub mod SkippedTables
+pub mod NotedAnswers
+pub mod PassedRuns
+pub mod WaitingAgain
+pub mod Scheduling
+pub mod KeptFronts

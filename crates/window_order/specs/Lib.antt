@@ -4,3 +4,4 @@ pub mod TableKept
 pub mod TableChanges
 pub mod MarksKept
 pub mod LostRuns
+pub mod KeptOrders

@@ -1,3 +1,13 @@
-// The order of a window as its history and the grips that are out make it: each step of a hub keeps it, and the promises
-// of a window follow from it. In specs/ and proofs/; it has no code.
+// The order of a window as its history and the grips that are out make it, and the line and the lineage table that are kept
+// beside it: each step of a hub keeps them, and the promises of a window follow from it.
 #![tactic(auto)]
+
+mod kept_orders;
+mod planned_uses;
+mod purposes;
+mod releases;
+mod reschedules;
+
+pub use kept_orders::{KeptOrder, Noted, note_of, seal};
+pub use planned_uses::PlannedUse;
+pub use purposes::Purpose;

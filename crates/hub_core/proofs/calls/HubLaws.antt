@@ -23,11 +23,12 @@ use Rattle.hub_core.proofs.steps.Takes.{live_run}
 use Rattle.hub_core.specs.Bounds.{IsBounded}
 use Rattle.hub_core.specs.HubCalls.{HubStands, SomeRunMoves}
 use Rattle.hub_core.specs.HubsKept.{HubIsKept}
-use Rattle.hub_core.specs.OpenHubs.{OpenHub, configuration_of, device_at, grip_in, held_in, purpose_of}
+use Rattle.hub_core.specs.OpenHubs.{OpenHub, configuration_of, device_at, grip_in, held_in}
+use Rattle.window_order.specs.KeptOrders.{purpose_of}
 use Rattle.hub_core.specs.Steps.{Waits, not_quiet, opened}
 use Rattle.hub_core.specs.declared.known.DeviceProgress.{DeviceProgress}
-use Rattle.hub_core.specs.declared.purposes.Purpose.TheVariants.{Command}
-use Rattle.hub_core.specs.declared.purposes.Purpose.{Purpose as KeptPurpose}
+use Rattle.window_order.specs.declared.purposes.Purpose.TheVariants.{Command}
+use Rattle.window_order.specs.declared.purposes.Purpose.{Purpose as KeptPurpose}
 use Rattle.hub_core.specs.declared.refusals.NotQuiet.TheVariants.{StillLive, StillOut}
 use Rattle.lock_leasing.specs.Configurations.{Commands, Configuration, is_out, read_of}
 use Rattle.std.proofs.Common.{ap, arith, refl, subst, sym, ◌∙◌}

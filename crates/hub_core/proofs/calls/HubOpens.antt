@@ -20,7 +20,7 @@ use Rattle.hub_core.specs.HubsKept.{HandsAre, FitsAtHome, HasRoomLeft, HubIsKept
 use Rattle.hub_core.specs.OpenHubs.{OpenHub, configuration_of, device_at, grip_in, held_in, no_device, no_events}
 use Rattle.hub_core.specs.Openings.{MayOpen}
 use Rattle.hub_core.specs.Steps.{opened}
-use Rattle.hub_core.specs.declared.purposes.Purpose.{Purpose}
+use Rattle.window_order.specs.declared.purposes.Purpose.{Purpose}
 use Rattle.hub_core.specs.Homes.{CountsAreLow, HomeIsKept, HomeState, setting_for}
 use Rattle.hub_core.specs.OpeningRooms.{AreKnown, IsClosingRoom, IsOrderRoom, IsScratchFor, known_first}
 use Rattle.hub_core.specs.PlannedPlaces.{IsForHome}

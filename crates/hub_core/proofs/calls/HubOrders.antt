@@ -52,16 +52,17 @@ use Rattle.hub_core.proofs.steps.Takes.{live_run}
 use Rattle.hub_core.specs.Bounds.{most_items}
 use Rattle.hub_core.specs.HubKept.{ConfigurationIsKept}
 use Rattle.hub_core.specs.HubsKept.{HandsAre, HubIsKept, IsWhole, open_of}
-use Rattle.hub_core.specs.KeptOrders.{IsSealed, MayArrange, MayNote, OrderIsBeside, arranged, is_first, noted_first, scheduled_with}
-use Rattle.hub_core.specs.OpenHubs.{OpenHub, configuration_of, device_at, grip_in, held_in, progress_of, purpose_of}
+use Rattle.hub_core.specs.KeptOrders.{OrderIsBeside}
+use Rattle.window_order.specs.KeptOrders.{IsSealed, MayArrange, MayNote, arranged, is_first, noted_first, purpose_of, scheduled_with}
+use Rattle.hub_core.specs.OpenHubs.{OpenHub, configuration_of, device_at, grip_in, held_in, progress_of}
 use Rattle.hub_core.specs.Openings.{MayOpen, names_values_of}
 use Rattle.hub_core.specs.PlannedPlaces.{AreUsesOf, HoldsPlan, IsForHome}
 use Rattle.hub_core.specs.Steps.{HandsOut, Moves, choice_of}
-use Rattle.hub_core.specs.declared.plans.PlannedUse.{PlannedUse}
+use Rattle.window_order.specs.declared.planned_uses.PlannedUse.{PlannedUse}
 use Rattle.hub_core.specs.declared.open_windows.OpenWindow.TheInside.{Inside}
-use Rattle.hub_core.specs.declared.kept_orders.KeptOrder.{KeptOrder}
+use Rattle.window_order.specs.declared.kept_orders.KeptOrder.{KeptOrder}
 use Rattle.hub_core.specs.declared.known.DeviceProgress.{DeviceProgress}
-use Rattle.hub_core.specs.declared.purposes.Purpose.{Purpose as KeptPurpose}
+use Rattle.window_order.specs.declared.purposes.Purpose.{Purpose as KeptPurpose}
 use Rattle.hub_core.specs.ReadHistories.{HistoryState, read_in, with_doom, with_entry, with_more}
 use Rattle.home_types.specs.Commands.{holds}
 use Rattle.home_types.specs.Kinds.{kind_at}

@@ -1,5 +1,5 @@
 -- A device that goes out keeps what the type of a hub keeps.
-use Rattle.command_rules.specs.Rosters.{command_at, commands_of, is_run}
+use Rattle.command_rules.specs.Rosters.{command_at, commands_of, device_no, is_run}
 use Rattle.home_types.specs.Commands.{driven, reads}
 use Rattle.device_gate.specs.Calls.{probed}
 use Rattle.device_gate.specs.Grips.{Gripped}
@@ -9,7 +9,6 @@ use Rattle.device_gate.specs.declared.gates.Place.TheVariants.{Home, Out}
 use Rattle.device_gate.specs.declared.slips.Slip.{Slip}
 use Rattle.device_gate.specs.declared.slips.Task.{Task}
 use Rattle.device_gate.specs.declared.slips.Task.TheVariants.{Drive, Sense}
-use Rattle.command_rules.specs.Rosters.{device_no}
 use Rattle.home_types.specs.declared.numbers.DeviceNo.{DeviceNo}
 use Rattle.hub_core.specs.Away.{IsSent, MaySend}
 use Rattle.history_book.specs.Readings.{is_doomed, is_live, next_command, next_of, put, sees_down}
@@ -27,11 +26,12 @@ use Rattle.hub_core.specs.KeptByModel.{IsKeptByModel}
 use Rattle.hub_core.specs.HubSteps.{Chose, HubStep, Take, carried_after, task_of}
 use Rattle.hub_core.specs.HubCalls.{GoesOut, SameWindow}
 use Rattle.hub_core.specs.HubsKept.{HubIsKept, IsWhole, open_of}
-use Rattle.hub_core.specs.OpenHubs.{OpenHub, configuration_of, device_at, held_in, purpose_of, state_of}
+use Rattle.hub_core.specs.OpenHubs.{OpenHub, configuration_of, device_at, held_in, state_of}
+use Rattle.window_order.specs.KeptOrders.{purpose_of}
 use Rattle.hub_core.specs.Steps.{HandsOut, after_choice, at_moment, choice_of, with_grip}
 use Rattle.hub_core.specs.declared.open_windows.OpenWindow.TheInside.{Inside}
 use Rattle.hub_core.specs.declared.known.DeviceProgress.{DeviceProgress}
-use Rattle.hub_core.specs.declared.purposes.Purpose.{Purpose as KeptPurpose}
+use Rattle.window_order.specs.declared.purposes.Purpose.{Purpose as KeptPurpose}
 use Rattle.lock_leasing.specs.Configurations.{Commands, Configuration, Probes, Purpose, Undoes, is_out, read_of}
 use Rattle.lock_leasing.specs.Waits.{grip_wait}
 use Rattle.lock_leasing.specs.Words.{has_effect, value_without}

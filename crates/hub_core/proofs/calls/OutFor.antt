@@ -30,11 +30,12 @@ use Rattle.hub_core.proofs.steps.Takes.{command_is, live_run}
 use Rattle.hub_core.specs.HubKept.{is_of_run}
 use Rattle.hub_core.specs.HubSteps.{command_task, task_of}
 use Rattle.hub_core.specs.HubsKept.{FitsOut, HubIsKept}
-use Rattle.hub_core.specs.OpenHubs.{OpenHub, configuration_of, device_at, grip_in, held_in, purpose_of}
+use Rattle.hub_core.specs.OpenHubs.{OpenHub, configuration_of, device_at, grip_in, held_in}
+use Rattle.window_order.specs.KeptOrders.{purpose_of}
 use Rattle.hub_core.specs.Openings.{names_values_of}
 use Rattle.hub_core.specs.Steps.{give_entries}
-use Rattle.hub_core.specs.declared.purposes.Purpose.TheVariants.{Command as ForCommand, Probe as ForProbe, Undo as ForUndo}
-use Rattle.hub_core.specs.declared.purposes.Purpose.{Purpose as KeptPurpose}
+use Rattle.window_order.specs.declared.purposes.Purpose.TheVariants.{Command as ForCommand, Probe as ForProbe, Undo as ForUndo}
+use Rattle.window_order.specs.declared.purposes.Purpose.{Purpose as KeptPurpose}
 use Rattle.lock_leasing.specs.Configurations.{Commands, Configuration, Probes, Purpose, Undoes, read_of}
 use Rattle.std.proofs.Common.{ap, arith, refl, subst, sym, ◌∙◌}
 use Rattle.std.proofs.lemmas.Bool.{eqb-true}

@@ -33,7 +33,7 @@ use Rattle.hub_core.proofs.steps.Calls.{back_entries, dead_entries}
 use Rattle.hub_core.specs.Away.{IsHomeAgain, events_after, with_hand}
 use Rattle.hub_core.specs.declared.away.Away.{Away}
 use Rattle.hub_core.specs.Steps.{probe_entries}
-use Rattle.hub_core.specs.declared.purposes.Purpose.TheVariants.{Probe as ForProbe}
+use Rattle.window_order.specs.declared.purposes.Purpose.TheVariants.{Probe as ForProbe}
 use Rattle.hub_core.proofs.kept.EventsTold.{event_told, lost_told, probe_commands, sound_is}
 use Rattle.hub_core.proofs.kept.HubReads.{run_place}
 use Rattle.hub_core.proofs.kept.Finds.{none_does}
@@ -45,7 +45,7 @@ use Rattle.hub_core.specs.KeptOrders.{HasFallen, HasRisen, IsLostTo, MayTurn, Or
 use Rattle.hub_core.specs.OpenHubs.{OpenHub, configuration_of, device_at, held_in}
 use Rattle.hub_core.specs.ReadHistories.{HistoryState, read_in, with_entry, with_lost, with_more}
 use Rattle.hub_core.specs.declared.open_windows.OpenWindow.TheInside.{Inside}
-use Rattle.hub_core.specs.declared.kept_orders.KeptOrder.{KeptOrder}
+use Rattle.window_order.specs.declared.kept_orders.KeptOrder.{KeptOrder}
 use Rattle.hub_core.specs.declared.known.Events.{Events}
 use Rattle.lineage_table.specs.Lineages.{LineageState, accesses_at, lineage_at}
 use Rattle.lock_leasing.proofs.Effects.{live_runs_live}

@@ -28,7 +28,7 @@ use Rattle.hub_core.specs.ReadHistories.{read_in}
 use Rattle.hub_core.specs.Steps.{after_take_probe, may_probe, probe_grip, restored}
 use Rattle.hub_core.specs.declared.open_windows.OpenWindow.TheInside.{Inside}
 use Rattle.hub_core.specs.declared.known.DeviceProgress.{DeviceProgress}
-use Rattle.hub_core.specs.declared.purposes.Purpose.TheVariants.{Probe as ForProbe}
+use Rattle.window_order.specs.declared.purposes.Purpose.TheVariants.{Probe as ForProbe}
 use Rattle.lineage_table.specs.Accesses.{IsDisciplined, standing_value as accesses_standing}
 use Rattle.lineage_table.specs.Lineages.{accesses_at, lineage_at}
 use Rattle.lock_leasing.proofs.Facts.{facts_of}

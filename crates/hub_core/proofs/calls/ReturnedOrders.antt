@@ -29,19 +29,20 @@ use Rattle.hub_core.proofs.calls.OutFor.{IsForCommand, for_command}
 use Rattle.hub_core.proofs.kept.OrderSteps.{done_after, last_follows, may_note, none_out, order_answered, order_answered_weakly, order_doomed_if, order_undone, read_more}
 use Rattle.hub_core.proofs.steps.Gives.{told_access}
 use Rattle.hub_core.specs.HubsKept.{IsWhole, open_of}
-use Rattle.hub_core.specs.KeptOrders.{MayNote, OrderIsBeside, is_first, noted_first}
+use Rattle.hub_core.specs.KeptOrders.{OrderIsBeside}
+use Rattle.window_order.specs.KeptOrders.{MayNote, is_first, noted_first}
 use Rattle.hub_core.specs.OpenHubs.{configuration_of, device_at, held_in}
 use Rattle.hub_core.specs.ReadHistories.{HistoryState, read_in, with_doom, with_entry}
 use Rattle.hub_core.specs.declared.open_windows.OpenWindow.TheInside.{Inside}
-use Rattle.hub_core.specs.declared.kept_orders.KeptOrder.{KeptOrder}
-use Rattle.hub_core.specs.declared.purposes.Purpose.TheVariants.{Command as ForCommand, Undo as ForUndo}
+use Rattle.window_order.specs.declared.kept_orders.KeptOrder.{KeptOrder}
+use Rattle.window_order.specs.declared.purposes.Purpose.TheVariants.{Command as ForCommand, Undo as ForUndo}
 use Rattle.lineage_table.specs.Lineages.{LineageState, lineage_at, with_lineage}
 use Rattle.lock_leasing.specs.Configurations.{Commands, Grips, grips_command}
 use Rattle.lock_leasing.specs.Tables.{view_when}
 use Rattle.serial_line.specs.Marks.{Marked}
 use Rattle.std.proofs.Common.{ap, arith, refl, subst, sym, ◌∙◌}
 use Rattle.std.proofs.lemmas.Grind.{common_steps}
-use Rattle.std.specs.Prelude.{Bool, IsSome, List, None, Option, Some, [], if◌then◌else◌, length, nat_lt, not, true, ℕ, ◌&&◌, ◌++◌, ◌<◌, ◌==◌, ◌||◌, ◌∷◌, ◌≡◌, false}
+use Rattle.std.specs.Prelude.{Bool, IsSome, List, None, Option, Some, [], false, if◌then◌else◌, length, nat_lt, not, true, ℕ, ◌&&◌, ◌++◌, ◌<◌, ◌==◌, ◌||◌, ◌∷◌, ◌≡◌}
 use Rattle.window_order.specs.TableChanges.{ChangesEach, doomed_lineage, told_write}
 use Rattle.history_book.specs.declared.entries.Cause.{Cause}
 use Rattle.history_book.specs.declared.entries.Entry.{Entry}

@@ -1,215 +1,25 @@
--- The accesses of a run that is placed, command after command.
-use Rattle.command_rules.specs.Rosters.{Run, device_no, is_on, run_no, touches}
+-- The planned uses of a run that is placed, as the scratch holds them.
+use Rattle.command_rules.specs.Rosters.{Run, is_on, touches}
 use Rattle.history_book.specs.Plans.{planned_end, planned_start}
 use Rattle.history_book.specs.Readings.{Planned}
 use Rattle.home_types.specs.declared.commands.Command.{Command}
-use Rattle.home_types.specs.declared.items.Item.TheVariants.{Back, Failed, Ran}
 use Rattle.home_types.specs.declared.items.Item.{Item}
-use Rattle.home_types.specs.declared.numbers.RunNo.{RunNo}
-use Rattle.hub_core.proofs.calls.NotedAnswers.{lineage_set}
-use Rattle.hub_core.specs.KeptOrders.{scheduled_so, scheduled_with}
 use Rattle.hub_core.specs.PlannedPlaces.{AreUsesOf, held_use, use_between}
 use Rattle.hub_core.specs.PlansInTurn.{planned_use}
-use Rattle.hub_core.specs.declared.plans.PlannedUse.{PlannedUse}
-use Rattle.lineage_table.specs.Accesses.{has_access, status_of}
-use Rattle.lineage_table.specs.Lineages.{LineageState, accesses_at, lineage_at, no_lineage, scheduled, with_lineage}
-use Rattle.lineage_table.specs.declared.accesses.Access.{Access}
-use Rattle.lineage_table.specs.declared.accesses.Status.TheVariants.{Scheduled}
-use Rattle.std.proofs.Common.{ap, arith, refl, set, subst, sym, ◌∙◌}
+use Rattle.window_order.specs.declared.planned_uses.PlannedUse.{PlannedUse}
+use Rattle.lineage_table.specs.Lineages.{LineageState, lineage_at, scheduled}
+use Rattle.std.proofs.Common.{ap, arith, refl, set, sym, ◌∙◌}
 use Rattle.std.proofs.Math.Bool.{or-false, or-true}
-use Rattle.std.proofs.lemmas.Bool.{eqb-true, or_left}
-use Rattle.std.proofs.lemmas.Grind.{common_steps}
-use Rattle.std.proofs.lemmas.List.Folds.{list_any-append}
-use Rattle.std.proofs.lemmas.List.{drop_all, drop_more, get_or-set_other, get_or-set_same, length-set, take-append-drop, take_all, take_more}
-use Rattle.std.proofs.lemmas.Option.{get_or_from_slice_get, same_Some, slice_get-get_or, slice_get_within}
+use Rattle.std.proofs.lemmas.Bool.{eqb-true}
+use Rattle.std.proofs.lemmas.List.{get_or-set_other, get_or-set_same, length-set, take_all}
+use Rattle.std.proofs.lemmas.Option.{get_or_from_slice_get, slice_get-get_or}
 use Rattle.std.specs.List.{list_any}
-use Rattle.std.specs.Option.{ForSome, option_or}
-use Rattle.std.specs.Prelude.{Bool, List, None, Option, Some, [], drop, false, get_or, if◌then◌else◌, is_some, length, nat_lt, option_map, option_to_list, slice_get, suc, take, true, zero, ℕ, ◌+◌, ◌<◌, ◌==◌, ◌||◌, ◌∷◌, ◌≡◌, ◌≢◌, ◌≤◌}
+use Rattle.std.specs.Prelude.{Bool, List, None, Option, Some, false, get_or, if◌then◌else◌, length, option_map, slice_get, true, ℕ, ◌+◌, ◌<◌, ◌==◌, ◌||◌, ◌≡◌, ◌≤◌}
 use Rattle.timeline_scheduler.specs.Scratches.{HoldsTimes, planned_in}
 use Rattle.timeline_scheduler.specs.declared.slots.Slot.{Slot}
-use Rattle.window_order.proofs.AgainAccesses.{MayStand, may_stand}
-use Rattle.window_order.proofs.TableSteps.{with_both}
-use Rattle.window_order.specs.TableChanges.{ChangesEach, IsNewOn, first_with_access, rescheduled, scheduled_on, waiting_access}
-
--- one of the first so many commands is on the device
-abbrev pub is_among : ℕ → ℕ → List Command → Bool
-is_among d k commands = list_any (is_on d) (take k commands)
-
--- after so many commands the uses of their devices are taken, and the run has its access there
-pub record IsScheduledTo (k : ℕ) (commands : List Command) (given : List (Option PlannedUse)) (r : ℕ) (back : List Item) (uses : List (Option PlannedUse)) (old new : List LineageState) : Type 0 where
-  pub devices : length new ≡ length old
-  pub left : (d : ℕ) → d < 256 → get_or uses d None ≡ (if is_among d k commands then None else get_or given d None)
-  pub each : (d : ℕ) → lineage_at new d ≡ (if is_among d k commands then scheduled_so r back (get_or given d None) (lineage_at old d) else lineage_at old d)
-
-differ : (a b : ℕ) → (a == b) ≡ false → b ≢ a
-differ a b h e = grind (arith, common_steps)
-
--- one command more
-among_more : (d k : ℕ) (commands : List Command) (e : Command) → k < length commands → is_among d (k + 1) commands ≡ (is_among d k commands || ((get_or commands k e).device.0 == d))
-among_more d k commands e within =
-    ap (list_any (is_on d)) (take_more commands k e within)
-    ∙ list_any-append (is_on d) (take k commands) (get_or commands k e ∷ [])
-    ∙ last (is_among d k commands) ((get_or commands k e).device.0 == d)
-  where
-    last : (x y : Bool) → (x || (y || false)) ≡ (x || y)
-    last x y = grind (arith, common_steps)
-
--- a command is one on its device
-pub on_command : (k : ℕ) (commands : List Command) (e : Command) → k < length commands → list_any (is_on (get_or commands k e).device.0) commands ≡ true
-on_command k commands e within =
-    sym (ap (list_any (is_on d)) (take-append-drop (k + 1) commands)) ∙ list_any-append (is_on d) (take (k + 1) commands) (drop (k + 1) commands)
-    ∙ or_left (is_among d (k + 1) commands) (list_any (is_on d) (drop (k + 1) commands)) (among_more d k commands e within ∙ self (is_among d k commands) d)
-  where
-    d : ℕ
-    d = (get_or commands k e).device.0
-
-    self : (x : Bool) (y : ℕ) → (x || (y == y)) ≡ true
-    self x y = grind (arith, common_steps)
-
--- a device that has its use has had no command
-pub record IsUnused (k d : ℕ) (commands : List Command) (given : List (Option PlannedUse)) (used : PlannedUse) : Type 0 where
-  pub among : is_among d k commands ≡ false
-  pub use_is : get_or given d None ≡ Some used
-
-pub unused : (k d : ℕ) (commands : List Command) (given : List (Option PlannedUse)) (used : PlannedUse) → (if is_among d k commands then None else get_or given d None) ≡ Some used → IsUnused k d commands given used
-unused k d commands given used has = by_command (is_among d k commands) refl has
-  where
-    by_command : (b : Bool) → is_among d k commands ≡ b → (if b then None else get_or given d None) ≡ Some used → IsUnused k d commands given used
-    by_command true e h = absurd (cc)
-    by_command false e h = record { among = e; use_is = h }
-
--- a use that is taken is gone
-taken_use : (uses : List (Option PlannedUse)) (d : ℕ) → get_or (set uses d None) d None ≡ None
-taken_use [] d = refl
-taken_use (u ∷ us) zero = refl
-taken_use (u ∷ us) (suc d) = taken_use us d
-
--- its lineage is as it was
-pub unused_same : (k d : ℕ) (commands : List Command) (given : List (Option PlannedUse)) (r : ℕ) (back : List Item) (uses : List (Option PlannedUse)) (old new : List LineageState) → IsScheduledTo k commands given r back uses old new → is_among d k commands ≡ false → lineage_at new d ≡ lineage_at old d
-unused_same k d commands given r back uses old new so none = so.each d ∙ (λ i. if none i then scheduled_so r back (get_or given d None) (lineage_at old d) else lineage_at old d)
-
--- once those behind its place wait the run may be scheduled on the device of the next command
-pub record MaySchedule (r d : ℕ) (first : Option RunNo) (table : List LineageState) : Type 0 where
-  pub none : has_access r (accesses_at table d) ≡ false
-  pub waits : ForSome first (λ q. status_of q.0 (accesses_at table d) ≡ Some Scheduled)
-
-pub may_schedule : (k : ℕ) (commands : List Command) (given : List (Option PlannedUse)) (r : ℕ) (back : List Item) (uses : List (Option PlannedUse)) (old new after : List LineageState) (e : Command) (used : PlannedUse) (first : Option RunNo)
-    → IsScheduledTo k commands given r back uses old new → k < length commands → ((x : Command) → (get_or commands k x).device.0 < length old) → length old ≤ 256 → get_or uses (get_or commands k e).device.0 None ≡ Some used
-    → IsNewOn r back (lineage_at old (get_or commands k e).device.0) → first ≡ first_with_access (accesses_at new (get_or commands k e).device.0) back → after ≡ with_lineage new (get_or commands k e).device.0 (rescheduled first) → MaySchedule r (get_or commands k e).device.0 first after
-may_schedule k commands given r back uses old new after e used first so within homed few has is_new named waiting = record {
-  none = ap (λ (s : LineageState). has_access r s.accesses) here ∙ stands.none;
-  waits = subst (λ (s : LineageState). ForSome first (λ q. status_of q.0 s.accesses ≡ Some Scheduled)) (sym here) stands.waits;
-}
-  where
-    d : ℕ
-    d = (get_or commands k e).device.0
-
-    there : d < length old
-    there = homed e
-
-    is : IsUnused k d commands given used
-    is = unused k d commands given used (sym (so.left d (omega (arith, there, few))) ∙ has)
-
-    now : lineage_at new d ≡ lineage_at old d
-    now = unused_same k d commands given r back uses old new so is.among
-
-    here : lineage_at after d ≡ rescheduled first (lineage_at new d)
-    here = ap (λ (t : List LineageState). lineage_at t d) waiting ∙ lineage_set new d (rescheduled first) (omega (arith, there, so.devices))
-
-    stands : MayStand r first (lineage_at new d)
-    stands = subst (λ o. MayStand r o (lineage_at new d)) (sym named) (may_stand r back (lineage_at new d) (subst (IsNewOn r back) (sym now) is_new))
-
--- the run has its access on the device of the next command
-pub schedules : (k : ℕ) (commands : List Command) (given : List (Option PlannedUse)) (r : ℕ) (back : List Item) (uses : List (Option PlannedUse)) (old new : List LineageState) (e : Command) (used : PlannedUse)
-    → IsScheduledTo k commands given r back uses old new → k < length commands → ((x : Command) → (get_or commands k x).device.0 < length old) → length old ≤ 256 → get_or uses (get_or commands k e).device.0 None ≡ Some used
-    → IsScheduledTo (k + 1) commands given r back (set uses (get_or commands k e).device.0 None) old
-    (with_lineage (with_lineage new (get_or commands k e).device.0 (rescheduled (first_with_access (lineage_at new (get_or commands k e).device.0).accesses back))) (get_or commands k e).device.0
-    (scheduled (first_with_access (lineage_at new (get_or commands k e).device.0).accesses back) (record { run = run_no r; status = Scheduled; view = None; wrote = None; from = used.from; to = used.to })))
-schedules k commands given r back uses old new e used so within homed few has = subst (IsScheduledTo (k + 1) commands given r back (set uses c.device.0 None) old) (sym (with_both new c.device.0 (rescheduled first) (scheduled first access) (omega (arith, there, so.devices)))) (record {
-  devices = length-set new c.device.0 (change (lineage_at new c.device.0)) ∙ so.devices;
-  left = λ d lt. left_at d lt (c.device.0 == d) refl;
-  each = λ d. each_at d (c.device.0 == d) refl;
-})
-  where
-    c : Command
-    c = get_or commands k e
-
-    there : c.device.0 < length old
-    there = homed e
-
-    is : IsUnused k c.device.0 commands given used
-    is = unused k c.device.0 commands given used (sym (so.left c.device.0 (omega (arith, there, few))) ∙ has)
-
-    access : Access
-    access = record { run = run_no r; status = Scheduled; view = None; wrote = None; from = used.from; to = used.to }
-
-    first : Option RunNo
-    first = first_with_access (lineage_at new c.device.0).accesses back
-
-    change : LineageState → LineageState
-    change s = scheduled first access (rescheduled first s)
-
-    among : (d : ℕ) (b : Bool) → (c.device.0 == d) ≡ b → is_among d (k + 1) commands ≡ (is_among d k commands || b)
-    among d b h = among_more d k commands e within ∙ ap (λ x. is_among d k commands || x) h
-
-    left_at : (d : ℕ) → d < 256 → (b : Bool) → (c.device.0 == d) ≡ b → get_or (set uses c.device.0 None) d None ≡ (if is_among d (k + 1) commands then None else get_or given d None)
-    left_at d lt true h =
-        ap (λ x. get_or (set uses c.device.0 None) x None) (sym (eqb-true c.device.0 d h))
-        ∙ taken_use uses c.device.0
-        ∙ (λ i. if sym (among d true h ∙ or-true (is_among d k commands)) i then None else get_or given d None)
-    left_at d lt false h =
-        get_or-set_other uses c.device.0 d None None (differ c.device.0 d h)
-        ∙ so.left d lt
-        ∙ (λ i. if sym (among d false h ∙ or-false (is_among d k commands)) i then None else get_or given d None)
-
-    first_is : lineage_at new c.device.0 ≡ lineage_at old c.device.0
-    first_is = unused_same k c.device.0 commands given r back uses old new so is.among
-
-    each_at : (d : ℕ) (b : Bool) → (c.device.0 == d) ≡ b → lineage_at (with_lineage new c.device.0 change) d ≡ (if is_among d (k + 1) commands then scheduled_so r back (get_or given d None) (lineage_at old d) else lineage_at old d)
-    each_at d true h =
-        ap (lineage_at (with_lineage new c.device.0 change)) (sym (eqb-true c.device.0 d h))
-        ∙ get_or-set_same new c.device.0 (change (lineage_at new c.device.0)) no_lineage (omega (arith, there, so.devices))
-        ∙ ap (scheduled_so r back (Some used)) first_is
-        ∙ ap (λ o. scheduled_so r back o (lineage_at old c.device.0)) (sym is.use_is)
-        ∙ ap (λ x. scheduled_so r back (get_or given x None) (lineage_at old x)) (eqb-true c.device.0 d h)
-        ∙ (λ i. if sym (among d true h ∙ or-true (is_among d k commands)) i then scheduled_so r back (get_or given d None) (lineage_at old d) else lineage_at old d)
-    each_at d false h =
-        get_or-set_other new c.device.0 d (change (lineage_at new c.device.0)) no_lineage (differ c.device.0 d h)
-        ∙ so.each d
-        ∙ (λ i. if sym (among d false h ∙ or-false (is_among d k commands)) i then scheduled_so r back (get_or given d None) (lineage_at old d) else lineage_at old d)
-
--- .. or has it already, or no use of it is planned
-pub schedules_no_more : (k : ℕ) (commands : List Command) (given : List (Option PlannedUse)) (r : ℕ) (back : List Item) (uses : List (Option PlannedUse)) (old new : List LineageState) (e : Command)
-    → IsScheduledTo k commands given r back uses old new → k < length commands → ((x : Command) → (get_or commands k x).device.0 < 256) → get_or uses (get_or commands k e).device.0 None ≡ None → IsScheduledTo (k + 1) commands given r back uses old new
-schedules_no_more k commands given r back uses old new e so within homed none = record {
-  devices = so.devices;
-  left = λ d lt. left_at d lt (c.device.0 == d) refl;
-  each = λ d. each_at d (c.device.0 == d) refl;
-}
-  where
-    c : Command
-    c = get_or commands k e
-
-    among : (d : ℕ) (b : Bool) → (c.device.0 == d) ≡ b → is_among d (k + 1) commands ≡ (is_among d k commands || b)
-    among d b h = among_more d k commands e within ∙ ap (λ x. is_among d k commands || x) h
-
-    none_at : (d : ℕ) → (c.device.0 == d) ≡ true → get_or uses d None ≡ None
-    none_at d h = ap (λ x. get_or uses x None) (sym (eqb-true c.device.0 d h)) ∙ none
-
-    none_given : (d : ℕ) → (c.device.0 == d) ≡ true → is_among d k commands ≡ false → get_or given d None ≡ None
-    none_given d h off = sym (so.left d (subst (λ x. x < 256) (eqb-true c.device.0 d h) (homed e)) ∙ (λ i. if off i then None else get_or given d None)) ∙ none_at d h
-
-    left_at : (d : ℕ) → d < 256 → (b : Bool) → (c.device.0 == d) ≡ b → get_or uses d None ≡ (if is_among d (k + 1) commands then None else get_or given d None)
-    left_at d lt true h = none_at d h ∙ (λ i. if sym (among d true h ∙ or-true (is_among d k commands)) i then None else get_or given d None)
-    left_at d lt false h = so.left d lt ∙ (λ i. if sym (among d false h ∙ or-false (is_among d k commands)) i then None else get_or given d None)
-
-    as_given : (d : ℕ) → (c.device.0 == d) ≡ true → (b : Bool) → is_among d k commands ≡ b → (if b then scheduled_so r back (get_or given d None) (lineage_at old d) else lineage_at old d) ≡ scheduled_so r back (get_or given d None) (lineage_at old d)
-    as_given d h true e = refl
-    as_given d h false e = ap (λ o. scheduled_so r back o (lineage_at old d)) (sym (none_given d h e))
-
-    each_at : (d : ℕ) (b : Bool) → (c.device.0 == d) ≡ b → lineage_at new d ≡ (if is_among d (k + 1) commands then scheduled_so r back (get_or given d None) (lineage_at old d) else lineage_at old d)
-    each_at d true h = so.each d ∙ as_given d h (is_among d k commands) refl ∙ (λ i. if sym (among d true h ∙ or-true (is_among d k commands)) i then scheduled_so r back (get_or given d None) (lineage_at old d) else lineage_at old d)
-    each_at d false h = so.each d ∙ (λ i. if sym (among d false h ∙ or-false (is_among d k commands)) i then scheduled_so r back (get_or given d None) (lineage_at old d) else lineage_at old d)
+use Rattle.window_order.proofs.Scheduling.{among_more, differ, is_among}
+use Rattle.window_order.specs.KeptOrders.{scheduled_so, scheduled_with}
+use Rattle.window_order.specs.TableChanges.{ChangesEach, first_with_access, rescheduled, scheduled_on, waiting_access}
 
 -- Uses that a scratch holds
 
@@ -276,49 +86,3 @@ scheduled_as_planned runs r uses planned back old new few are there changes = re
     by_touch d lt false on = refl
 
 -- The first run behind a place
-
--- past the end there is no item
-beyond : (items : List Item) (k : ℕ) → slice_get items k ≡ None → length items ≤ k
-beyond items k h = by_order (nat_lt k (length items)) refl
-  where
-    inside : k < length items → length items ≤ k
-    inside lt = absurd (let clash : ◌≡◌ {A = Option Item} None (Some (get_or items k (Failed (device_no 0) 0))) = sym h ∙ slice_get-get_or items k (Failed (device_no 0) 0) lt in cc)
-
-    by_order : (b : Bool) → nat_lt k (length items) ≡ b → length items ≤ k
-    by_order true e = inside (grind (arith, common_steps))
-    by_order false e = grind (arith, common_steps)
-
--- the item of the place, and those behind it
-first_next : (accesses : List Access) (items : List Item) (k : ℕ) → first_with_access accesses (drop k items) ≡ option_or (first_with_access accesses (option_to_list (slice_get items k))) (first_with_access accesses (drop (k + 1) items))
-first_next accesses items k = by_item (slice_get items k) refl
-  where
-    one : (x : Item) (is : List Item) → first_with_access accesses (x ∷ is) ≡ option_or (first_with_access accesses (x ∷ [])) (first_with_access accesses is)
-    one (Ran r) is = by_access (has_access r.0 accesses)
-      where
-        by_access : (b : Bool) → (if b then Some r else first_with_access accesses is) ≡ option_or (if b then Some r else None) (first_with_access accesses is)
-        by_access true = refl
-        by_access false = refl
-    one (Failed d n) is = refl
-    one (Back d n) is = refl
-
-    by_item : (o : Option Item) → slice_get items k ≡ o → first_with_access accesses (drop k items) ≡ option_or (first_with_access accesses (option_to_list o)) (first_with_access accesses (drop (k + 1) items))
-    by_item None h = ap (first_with_access accesses) (drop_all k items (beyond items k h) ∙ sym (drop_all (k + 1) items (let over = beyond items k h in omega (arith, over))))
-    by_item (Some x) h =
-        let within : k < length items = slice_get_within items k x h in
-        let here : get_or items k x ≡ x = same_Some (get_or items k x) x (sym (slice_get-get_or items k x within) ∙ h) in
-        ap (first_with_access accesses) (drop_more items k x within ∙ ap (λ y. y ∷ drop (k + 1) items) here) ∙ one x (drop (k + 1) items)
-
--- the run that was found there is the first, and where none was the search goes on
-pub found_first : (accesses : List Access) (items : List Item) (k : ℕ) (found : Option RunNo) → found ≡ first_with_access accesses (option_to_list (slice_get items k)) → is_some found ≡ true → found ≡ first_with_access accesses (drop k items)
-found_first accesses items k found is some = by_found found is some ∙ sym (first_next accesses items k)
-  where
-    by_found : (o : Option RunNo) → o ≡ first_with_access accesses (option_to_list (slice_get items k)) → is_some o ≡ true → o ≡ option_or (first_with_access accesses (option_to_list (slice_get items k))) (first_with_access accesses (drop (k + 1) items))
-    by_found None h e = absurd (cc)
-    by_found (Some x) h e = ap (λ o. option_or o (first_with_access accesses (drop (k + 1) items))) h
-
-pub found_none : (accesses : List Access) (items : List Item) (k : ℕ) (found : Option RunNo) → found ≡ first_with_access accesses (option_to_list (slice_get items k)) → is_some found ≡ false → first_with_access accesses (drop (k + 1) items) ≡ first_with_access accesses (drop k items)
-found_none accesses items k found is none = by_found found is none ∙ sym (first_next accesses items k)
-  where
-    by_found : (o : Option RunNo) → o ≡ first_with_access accesses (option_to_list (slice_get items k)) → is_some o ≡ false → first_with_access accesses (drop (k + 1) items) ≡ option_or (first_with_access accesses (option_to_list (slice_get items k))) (first_with_access accesses (drop (k + 1) items))
-    by_found None h e = ap (λ o. option_or o (first_with_access accesses (drop (k + 1) items))) h
-    by_found (Some x) h e = absurd (cc)

@@ -6,7 +6,7 @@ use Rattle.device_gate.specs.declared.grips.Done.{Done}
 use Rattle.device_gate.specs.declared.slips.Slip.{Slip}
 use Rattle.history_book.proofs.Snoc.{each_at, entries_on}
 use Rattle.history_book.specs.Histories.{entries_of, entry, kept_by}
-use Rattle.history_book.specs.Readings.{Reading, nothing_read}
+use Rattle.history_book.specs.Readings.{Reading, nothing_read, put}
 use Rattle.history_book.specs.Settings.{Setting}
 use Rattle.history_book.specs.WellFormed.{IsWellFormed, may_follow}
 use Rattle.history_book.specs.declared.entries.Entry.TheVariants.{Fell, Rose}
@@ -26,12 +26,12 @@ use Rattle.hub_core.specs.Bounds.{most_items}
 use Rattle.hub_core.specs.HubsKept.{IsWhole, open_of}
 use Rattle.hub_core.proofs.kept.SealedOrders.{table_unsealed}
 use Rattle.hub_core.specs.KeptOrders.{MayTurn}
-use Rattle.hub_core.specs.OpenHubs.{configuration_of, device_at, events_in, held_in, purpose_of}
+use Rattle.hub_core.specs.OpenHubs.{configuration_of, device_at, events_in, held_in}
+use Rattle.window_order.specs.KeptOrders.{purpose_of}
 use Rattle.hub_core.specs.ReadHistories.{read_in}
 use Rattle.hub_core.specs.declared.open_windows.OpenWindow.TheInside.{Inside}
 use Rattle.hub_core.specs.declared.known.Events.{Events}
-use Rattle.hub_core.specs.declared.purposes.Purpose.{Purpose as KeptPurpose}
-use Rattle.history_book.specs.Readings.{put}
+use Rattle.window_order.specs.declared.purposes.Purpose.{Purpose as KeptPurpose}
 use Rattle.lock_leasing.specs.Configurations.{Grips, read_of}
 use Rattle.serial_line.specs.Marks.{Mark, stands as stands_item}
 use Rattle.std.proofs.Common.{ap, arith, subst, sym, ◌∙◌}

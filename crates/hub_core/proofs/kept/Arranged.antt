@@ -21,21 +21,22 @@ use Rattle.home_types.specs.declared.modes.Scheduler.{Scheduler}
 use Rattle.home_types.specs.declared.modes.Visibility.TheVariants.{Eventual, Global, Partitioned, Weak}
 use Rattle.home_types.specs.declared.modes.Visibility.{Visibility}
 use Rattle.hub_core.proofs.kept.SealedOrders.{sealed_is}
-use Rattle.hub_core.specs.KeptOrders.{IsOrderOf, MayArrange, arranged}
+use Rattle.hub_core.specs.KeptOrders.{IsOrderOf}
 use Rattle.lineage_table.specs.Lineages.{LineageState}
 use Rattle.lock_leasing.specs.Configurations.{Grips}
 use Rattle.lock_leasing.specs.Places.{GripsFit, in_order}
 use Rattle.serial_line.proofs.KeptRuns.{kept_meet}
 use Rattle.serial_line.proofs.Ties.{line_rearranged}
-use Rattle.serial_line.specs.Marks.{Mark, Marked, front_of, is_open, items_of, with_item}
+use Rattle.serial_line.specs.Marks.{Mark, Marked, items_of, with_item}
 use Rattle.std.proofs.Common.{ap, arith, refl, subst, sym, ◌∙◌}
 use Rattle.std.proofs.lemmas.List.{length-map}
-use Rattle.std.specs.Prelude.{Bool, List, Some, [], false, if◌then◌else◌, length, map, slice_get, suc, true, zero, ℕ, ◌++◌, ◌+◌, ◌<◌, ◌∷◌, ◌≡◌, ◌≤◌}
+use Rattle.std.specs.Prelude.{Bool, List, Some, [], false, if◌then◌else◌, length, map, slice_get, suc, true, zero, ℕ, ◌++◌, ◌+◌, ◌<◌, ◌∷◌, ◌≡◌}
 use Rattle.window_order.proofs.Grips.{fits_same}
 use Rattle.window_order.proofs.Joined.{same_parts}
 use Rattle.window_order.proofs.ReadFacts.{IsRead}
 use Rattle.window_order.proofs.Rearranged.{read_kept}
 use Rattle.window_order.proofs.TouchedLines.{marks_placed}
+use Rattle.window_order.specs.KeptOrders.{MayArrange, arranged}
 use Rattle.window_order.specs.MarksKept.{MarksAreKept}
 
 -- The set of the timeline may be brought to the front
@@ -78,19 +79,6 @@ may_arrange w n g r m set line table read is kept = record {
 }
 
 -- Marks in the new order
-
--- no fewer items stand before the first live run
-pub front_rearranged : (set : List Bool) (ms : List Mark) (k : ℕ) → HoldsFirst k set → k ≤ front_of ms → k ≤ front_of (rearranged set ms)
-unfolding chosen others
-front_rearranged set ms zero first upto = omega arith
-front_rearranged [] ms (suc k) first upto = absurd (let none = first 0 (omega arith) in cc)
-front_rearranged (b ∷ bs) [] (suc k) first upto = absurd (omega (arith, upto))
-front_rearranged (false ∷ bs) (m ∷ ms) (suc k) first upto = absurd (let none = first 0 (omega arith) in cc)
-front_rearranged (true ∷ bs) (m ∷ ms) (suc k) first upto = by_open (is_open m) upto (front_rearranged bs ms k (λ at low. first (suc at) (omega (arith, low))))
-  where
-    by_open : (b : Bool) → suc k ≤ (if b then 0 else front_of ms + 1) → (k ≤ front_of ms → k ≤ front_of (rearranged bs ms)) → suc k ≤ (if b then 0 else front_of (rearranged bs ms) + 1)
-    by_open true none more = absurd (omega (arith, none))
-    by_open false some more = let rest = more (omega (arith, some)) in omega (arith, rest)
 
 long_joined : {A : Type 0} (xs ys : List A) (x : A) → length (xs ++ x ∷ ys) ≡ suc (length (xs ++ ys))
 long_joined [] ys x = refl

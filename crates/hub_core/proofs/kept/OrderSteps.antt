@@ -8,7 +8,7 @@ use Rattle.history_book.proofs.Snoc.{along_on, each_at, entries_on, put_same, re
 use Rattle.history_book.specs.Histories.{entries_of, entry, kept_by, reading}
 use Rattle.history_book.specs.Gaps.{front_for, gap_set, line_for}
 use Rattle.history_book.specs.Plans.{planned_times}
-use Rattle.history_book.specs.Readings.{OfRun, Reading, did, is_access, is_doomed, next_of, nothing_read, pends, put}
+use Rattle.history_book.specs.Readings.{OfRun, Reading, did, is_access, is_doomed, is_told, next_of, nothing_read, pends, put}
 use Rattle.history_book.specs.Sealed.{sealed_in}
 use Rattle.history_book.specs.Settings.{Setting, is_weak, scheduler_of}
 use Rattle.history_book.specs.WellFormed.{IsWellFormed, along, cause_fits, is_well_formed, may_act, may_follow}
@@ -24,7 +24,8 @@ use Rattle.home_types.specs.declared.commands.View.{View}
 use Rattle.home_types.specs.declared.items.Item.TheVariants.{Ran}
 use Rattle.home_types.specs.declared.items.Item.{Item}
 use Rattle.hub_core.specs.Bounds.{most_items}
-use Rattle.hub_core.specs.KeptOrders.{IsOrderOf, IsSealed, IsUnreleased, MayNote, OrderIsBeside, TableFits, is_first, noted_first}
+use Rattle.hub_core.specs.KeptOrders.{IsOrderOf, OrderIsBeside, TableFits}
+use Rattle.window_order.specs.KeptOrders.{IsSealed, IsUnreleased, MayNote, is_first, noted_first}
 use Rattle.hub_core.specs.ReadHistories.{HistoryState, read_in, with_doom, with_entry}
 use Rattle.legal_days.proofs.Lists.{count_cons}
 use Rattle.lineage_table.specs.Accesses.{is_scheduled, status_of}
@@ -57,7 +58,6 @@ use Rattle.window_order.specs.OrderKept.{OrderIsKept}
 use Rattle.window_order.specs.TableChanges.{ChangesEach, answered_change, answered_lineage, doomed_lineage, is_done_there, placed_change, scheduled_on, told_write, undone_change}
 use Rattle.window_order.specs.TableKept.{LineageIsKept, TableIsKept}
 use Rattle.lock_leasing.specs.Tables.{view_when}
-use Rattle.history_book.specs.Readings.{is_told}
 use Rattle.history_book.specs.declared.entries.Cause.{Cause}
 use Rattle.lock_leasing.specs.Places.{GripsFit, IsClear, in_order}
 use Rattle.std.proofs.lemmas.Bool.{and_parts, eqb-true, not-true}

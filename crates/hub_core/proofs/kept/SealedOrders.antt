@@ -4,20 +4,20 @@ use Rattle.command_rules.specs.Rosters.{run_no, touches}
 use Rattle.failure_serialization.proofs.Unsealed.{event_unsealed, event_within}
 use Rattle.failure_serialization.specs.Events.{event_place}
 use Rattle.history_book.proofs.Standing.{stands_in}
-use Rattle.history_book.specs.Readings.{OfRun, Reading, is_live}
+use Rattle.history_book.specs.Readings.{OfRun, Reading, is_live, passed_by}
 use Rattle.history_book.specs.Sealed.{sealed_in}
 use Rattle.history_book.specs.Settings.{Setting, is_weak}
 use Rattle.history_book.specs.declared.entries.Kept.{Kept}
 use Rattle.home_types.specs.declared.items.Item.TheVariants.{Back, Failed, Ran}
 use Rattle.home_types.specs.declared.items.Item.{Item}
 use Rattle.home_types.specs.declared.numbers.RunNo.{RunNo}
-use Rattle.hub_core.specs.KeptOrders.{IsSealed, TableFits}
+use Rattle.hub_core.specs.KeptOrders.{TableFits}
+use Rattle.window_order.specs.KeptOrders.{IsSealed}
 use Rattle.lineage_table.specs.Lineages.{LineageState, accesses_at}
 use Rattle.lineage_table.specs.declared.accesses.Access.{Access}
 use Rattle.lock_leasing.proofs.Bindings.{front_is}
 use Rattle.lock_leasing.specs.Configurations.{Grips}
 use Rattle.lock_leasing.specs.Standings.{has_ended}
-use Rattle.history_book.specs.Readings.{passed_by}
 use Rattle.lock_leasing.specs.Tables.{uses}
 use Rattle.serial_line.proofs.Fronts.{front_inserted, front_within}
 use Rattle.serial_line.proofs.Sealed.{front_placed, front_touching, live_unsealed}

@@ -1,8 +1,7 @@
 use Rattle.commit_compaction.proofs.Keeping.{commit_stands}
 use Rattle.commit_compaction.proofs.commits.commit.Goals as goal
-use Rattle.lineage_laws.proofs.Sweeps.{changed_all, changed_more, changed_none, commits_nothing}
-use Rattle.lineage_laws.specs.Laws.{stand_of}
-use Rattle.lineage_table.specs.Lineages.{committed_lineage, lineage_at}
+use Rattle.lineage_table.proofs.Sweeps.{changed_all, changed_more, changed_none, commits_nothing}
+use Rattle.lineage_table.specs.Lineages.{committed_lineage, lineage_at, stand_of}
 use Rattle.std.proofs.Common.{ap, ◌-◌, ◌∙◌}
 
 pub devices-init : goal.devices-init

@@ -12,7 +12,7 @@ use Rattle.hub_core.proofs.steps.Gives.{told_access}
 use Rattle.hub_core.proofs.steps.LastAnswers.{just_answered}
 use Rattle.hub_core.specs.ReadHistories.{HistoryState, read_in, with_doom, with_entry}
 use Rattle.hub_core.specs.declared.open_windows.OpenWindow.TheInside.{Inside}
-use Rattle.hub_core.specs.declared.purposes.Purpose.TheVariants.{Command as ForCommand}
+use Rattle.window_order.specs.declared.purposes.Purpose.TheVariants.{Command as ForCommand}
 use Rattle.std.proofs.Common.{ap, arith, refl, sym, ◌∙◌}
 use Rattle.std.specs.Prelude.{None, Some, ◌≡◌}
 

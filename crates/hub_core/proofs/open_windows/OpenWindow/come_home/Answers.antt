@@ -1,6 +1,7 @@
 use Rattle.hub_core.proofs.calls.HubReturns.{no_probe}
 use Rattle.hub_core.proofs.open_windows.OpenWindow.come_home.Goals as goal
-use Rattle.hub_core.specs.OpenHubs.{device_at, purpose_of}
+use Rattle.hub_core.specs.OpenHubs.{device_at}
+use Rattle.window_order.specs.KeptOrders.{purpose_of}
 use Rattle.hub_core.specs.declared.known.DeviceProgress.{DeviceProgress}
 use Rattle.lock_leasing.specs.Configurations.{is_undo}
 use Rattle.std.proofs.Common.{ap, sym, ◌∙◌}

@@ -3,7 +3,8 @@ use Rattle.hub_core.proofs.calls.HubOrders.{handed_whole, may_mark}
 use Rattle.hub_core.proofs.calls.HubOuts.{IsHanded, command_given, may_send, went_out_at}
 use Rattle.hub_core.proofs.open_windows.OpenWindow.hand_out.Goals as goal
 use Rattle.hub_core.specs.HubSteps.{task_of}
-use Rattle.hub_core.specs.OpenHubs.{configuration_of, purpose_of}
+use Rattle.hub_core.specs.OpenHubs.{configuration_of}
+use Rattle.window_order.specs.KeptOrders.{purpose_of}
 use Rattle.hub_core.specs.declared.decisions.Chosen.TheVariants.{HandsOut}
 use Rattle.hub_core.specs.declared.open_windows.OpenWindow.TheInside.{Inside}
 use Rattle.std.proofs.Common.{ap, refl, sym, ◌∙◌}

@@ -1,5 +1,5 @@
 use Rattle.hub_core.proofs.open_windows.OpenWindow.task.Goals as goal
-use Rattle.hub_core.specs.OpenHubs.{purpose_of}
+use Rattle.window_order.specs.KeptOrders.{purpose_of}
 use Rattle.std.proofs.Common.{ap}
 
 pub command_task-requires-clause-run : goal.command_task-requires-clause-run

@@ -7,7 +7,7 @@ use Rattle.hub_core.proofs.open_windows.OpenWindow.undo_died.Goals as goal
 use Rattle.hub_core.specs.OpenHubs.{device_at}
 use Rattle.hub_core.specs.ReadHistories.{with_entry}
 use Rattle.hub_core.specs.declared.open_windows.OpenWindow.TheInside.{Inside}
-use Rattle.hub_core.specs.declared.purposes.Purpose.TheVariants.{Undo as ForUndo}
+use Rattle.window_order.specs.declared.purposes.Purpose.TheVariants.{Undo as ForUndo}
 use Rattle.std.proofs.Common.{ap, arith, refl, ◌∙◌}
 use Rattle.std.specs.Prelude.{None, Some, [], ◌∷◌}
 

@@ -1,8 +1,0 @@
-use Rattle.hub_core.proofs.calls.Scheduling.{IsScheduledTo}
-use Rattle.hub_core.proofs.kept_orders.schedule.Given as goal
-use Rattle.serial_line.specs.Marks.{items_of}
-use Rattle.std.proofs.Common.{drop}
-
--- the run has its access on the devices of the commands up to here
-abbrev pub invariant-commands : goal.invariant-commands
-invariant-commands l = IsScheduledTo l.command-index l.commands l.fn.uses l.r.0 (drop l.at (items_of l.line.marks)) l.left l.initial.table l.table

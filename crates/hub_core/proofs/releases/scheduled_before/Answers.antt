@@ -1,4 +1,0 @@
-use Rattle.hub_core.proofs.releases.scheduled_before.Goals as goal
-
-pub returns-clause-disciplined : goal.returns-clause-disciplined
-returns-clause-disciplined c = c.kept.ensures c.args.d.0

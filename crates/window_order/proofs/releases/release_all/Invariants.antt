@@ -1,0 +1,11 @@
+use Rattle.window_order.proofs.releases.release_all.Given as goal
+use Rattle.lineage_table.proofs.Sweeps.{ChangedUpTo}
+use Rattle.std.proofs.Common.{length, ◌-◌}
+use Rattle.window_order.specs.TableChanges.{doomed_unless}
+
+-- the run is done with the devices up to here, and with no other
+abbrev pub invariant-devices : goal.invariant-devices
+invariant-devices l = ChangedUpTo (doomed_unless l.out l.r.0) l.initial.table l.table l.from.0
+
+abbrev pub decreases-devices : goal.decreases-devices
+decreases-devices l = length l.table - l.from.0
