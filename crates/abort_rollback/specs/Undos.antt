@@ -3,7 +3,7 @@ use Rattle.abort_rollback.specs.declared.undos.Undo.TheVariants.{Drive, Drop, Fi
 use Rattle.abort_rollback.specs.declared.undos.Undo.{Undo}
 use Rattle.command_rules.specs.Rosters.{device_no}
 use Rattle.home_types.specs.Numbers.{DeviceId, RunId}
-use Rattle.lineage_table.specs.Accesses.{effective_writer, standing_value, without}
+use Rattle.lineage_table.specs.Accesses.{accesses_without, effective_writer, value_standing}
 use Rattle.lineage_table.specs.Lineages.{LineageState, accesses_at, lineage_at}
 use Rattle.std.specs.List.{range_with_len}
 use Rattle.std.specs.Prelude.{Bool, List, Option, false, find, if◌then◌else◌, length, option_map, unwrap_or, ℕ, ◌==◌}
@@ -18,7 +18,7 @@ first_effective table r = find (has_effective_write table r) (range_with_len 0 (
 
 -- the value that would stand on the device without the run's access
 abbrev pub stand_without : List LineageState → RunId → DeviceId → ℕ
-stand_without table r d = standing_value (lineage_at table d).committed (without r (accesses_at table d))
+stand_without table r d = value_standing (lineage_at table d).committed (accesses_without r (accesses_at table d))
 
 -- the run's write on the device is undone: where the device is counted down it is dropped, else the value that stands without it is driven
 abbrev pub undo_on : List LineageState → RunId → DeviceId → Undo

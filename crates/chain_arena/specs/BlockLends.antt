@@ -5,8 +5,8 @@ use Rattle.std.specs.Borrow.{Fml, Lends, MutBor, RattleType}
 use Rattle.std.specs.Prelude.{ℕ, slice_set}
 
 -- the block with x in the place i
-abbrev pub with_item : {X : Type 0} → Placed X → ℕ → X → Placed X
-with_item b i x = record b { items = slice_set b.items i x }
+abbrev pub with_block_item : {X : Type 0} → Placed X → ℕ → X → Placed X
+with_block_item b i x = record b { items = slice_set b.items i x }
 
 abbrev pub lends_place : (R : RattleType) → MutBor (Placed R.Denot) → ℕ → MutBor R.Denot → Fml
-lends_place R b i r = Lends (the_row R) R b r (with_item b.now i)
+lends_place R b i r = Lends (the_row R) R b r (with_block_item b.now i)

@@ -1,5 +1,5 @@
 use Rattle.command_rules.proofs.ClosedParts.{closure_closed}
-use Rattle.command_rules.specs.ClosedSets.{IsClosed, IsFitting, IsLeast, IsPart, Rises, chosen, closure, either_of, grown, others, rearranged, widened, wider}
+use Rattle.command_rules.specs.ClosedSets.{BarsRise, IsClosed, IsFitting, IsLeast, IsPart, chosen, closure, either_of, grown, others, rearranged, widened, wider}
 use Rattle.std.proofs.Common.{ap, arith, cond, inl, inr, refl, subst, sym, ◌∙◌}
 use Rattle.std.proofs.lemmas.Grind.{common_steps}
 use Rattle.std.proofs.lemmas.List.{length-map}
@@ -201,14 +201,14 @@ same_count (false ∷ bs) (false ∷ cs) p less = ap (λ l. false ∷ l) (same_c
 told_size : {A : Type 0} (base : List Bool) (bars : List Bool → A → Bool) (line : List A) (bs : List Bool) → length base ≡ length line → length (either_of base (map (bars bs) line)) ≡ length line
 told_size base bars line bs size = either_size base (map (bars bs) line) (size ∙ sym (length-map line (bars bs))) ∙ size
 
-wider_more : {A : Type 0} (meets : A → A → Bool) (base : List Bool) (bars : List Bool → A → Bool) (line : List A) (bs cs : List Bool) → length base ≡ length line → Rises bars → IsPart bs cs → IsPart (wider meets base bars line bs) (wider meets base bars line cs)
+wider_more : {A : Type 0} (meets : A → A → Bool) (base : List Bool) (bars : List Bool → A → Bool) (line : List A) (bs cs : List Bool) → length base ≡ length line → BarsRise bars → IsPart bs cs → IsPart (wider meets base bars line bs) (wider meets base bars line cs)
 wider_more meets base bars line bs cs size rises p =
     closure_more meets (either_of base (map (bars bs) line)) (either_of base (map (bars cs) line)) line (told_size base bars line bs size) (told_size base bars line cs size)
     (either_in base (map (bars bs) line) (either_of base (map (bars cs) line)) (either_first base (map (bars cs) line) (size ∙ sym (length-map line (bars cs))))
     (part_of_part (map (bars bs) line) (map (bars cs) line) (either_of base (map (bars cs) line)) (map_part (bars bs) (bars cs) line (λ i. rises bs cs i p)) (either_second base (map (bars cs) line) (size ∙ sym (length-map line (bars cs))))))
 
 -- as many turns as these items: each turn's set is part of the next one
-turned : {A : Type 0} (meets : A → A → Bool) (base : List Bool) (bars : List Bool → A → Bool) (line turns : List A) (bs : List Bool) → length base ≡ length line → Rises bars → IsPart bs (wider meets base bars line bs)
+turned : {A : Type 0} (meets : A → A → Bool) (base : List Bool) (bars : List Bool → A → Bool) (line turns : List A) (bs : List Bool) → length base ≡ length line → BarsRise bars → IsPart bs (wider meets base bars line bs)
     → IsPart (widened meets base bars line bs turns) (wider meets base bars line (widened meets base bars line bs turns))
 turned meets base bars line [] bs size rises p = p
 turned meets base bars line (t ∷ ts) bs size rises p = turned meets base bars line ts (wider meets base bars line bs) size rises (wider_more meets base bars line bs (wider meets base bars line bs) size rises p)
@@ -220,7 +220,7 @@ steady meets base bars line [] bs same = same
 steady meets base bars line (t ∷ ts) bs same = steady meets base bars line ts (wider meets base bars line bs) (ap (wider meets base bars line) same)
 
 -- .. and stays as it is, or has as many items as there were turns more
-steady_or_more : {A : Type 0} (meets : A → A → Bool) (base : List Bool) (bars : List Bool → A → Bool) (line turns : List A) (bs : List Bool) (k : ℕ) → length base ≡ length line → Rises bars → IsPart bs (wider meets base bars line bs) → k ≤ count bs
+steady_or_more : {A : Type 0} (meets : A → A → Bool) (base : List Bool) (bars : List Bool → A → Bool) (line turns : List A) (bs : List Bool) (k : ℕ) → length base ≡ length line → BarsRise bars → IsPart bs (wider meets base bars line bs) → k ≤ count bs
     → (wider meets base bars line (widened meets base bars line bs turns) ≡ widened meets base bars line bs turns) ⊎ (k + length turns ≤ count (widened meets base bars line bs turns))
 steady_or_more meets base bars line [] bs k size rises p low = inr (omega (arith, low))
 steady_or_more {A = A} meets base bars line (t ∷ ts) bs k size rises p low = by_size (nat_le (count (next bs)) (count bs)) refl (λ low'. steady_or_more meets base bars line ts (next bs) (k + 1) size rises (wider_more meets base bars line bs (next bs) size rises p) low')
@@ -254,7 +254,7 @@ begins meets base bars line size =
     (either_first base (map (bars (closure meets base line)) line) (size ∙ sym (length-map line (bars (closure meets base line)))))
 
 -- after as many turns as the line has items one more changes nothing
-pub grown_steady : {A : Type 0} (meets : A → A → Bool) (base : List Bool) (bars : List Bool → A → Bool) (line : List A) → length base ≡ length line → Rises bars → wider meets base bars line (grown meets base bars line) ≡ grown meets base bars line
+pub grown_steady : {A : Type 0} (meets : A → A → Bool) (base : List Bool) (bars : List Bool → A → Bool) (line : List A) → length base ≡ length line → BarsRise bars → wider meets base bars line (grown meets base bars line) ≡ grown meets base bars line
 grown_steady {A = A} meets base bars line sized rises = elim (steady_or_more meets base bars line line start 0 sized rises (begins meets base bars line sized) (omega arith)) [
   | inl same ↦ same
   | inr high ↦ all_count last (wider meets base bars line last) (size ∙ sym length_last) (turned meets base bars line line start sized rises (begins meets base bars line sized)) (let long = length_last in omega (arith, high, long))
@@ -277,7 +277,7 @@ grown_steady {A = A} meets base bars line sized rises = elim (steady_or_more mee
     length_last = length_turns line start (closure_size meets base line)
 
 -- each turn's set is part of each closed one that holds the base and fits
-within : {A : Type 0} (meets : A → A → Bool) (base : List Bool) (bars : List Bool → A → Bool) (line turns : List A) (bs cs : List Bool) → length base ≡ length line → Rises bars → IsFitting meets base bars line cs → IsPart bs cs → IsPart (widened meets base bars line bs turns) cs
+within : {A : Type 0} (meets : A → A → Bool) (base : List Bool) (bars : List Bool → A → Bool) (line turns : List A) (bs cs : List Bool) → length base ≡ length line → BarsRise bars → IsFitting meets base bars line cs → IsPart bs cs → IsPart (widened meets base bars line bs turns) cs
 within meets base bars line [] bs cs size rises fit p = p
 within meets base bars line (t ∷ ts) bs cs size rises fit p =
     within meets base bars line ts (wider meets base bars line bs) cs size rises fit
@@ -285,7 +285,7 @@ within meets base bars line (t ∷ ts) bs cs size rises fit p =
     (closure_least meets (either_of base (map (bars cs) line)) line cs (told_size base bars line cs size) fit.closed (either_in base (map (bars cs) line) cs fit.holds fit.fits)))
 
 -- the set that grows is the least one that fits
-pub grown_least : {A : Type 0} (meets : A → A → Bool) (base : List Bool) (bars : List Bool → A → Bool) (line : List A) → length base ≡ length line → Rises bars → IsLeast meets base bars line (grown meets base bars line)
+pub grown_least : {A : Type 0} (meets : A → A → Bool) (base : List Bool) (bars : List Bool → A → Bool) (line : List A) → length base ≡ length line → BarsRise bars → IsLeast meets base bars line (grown meets base bars line)
 grown_least meets base bars line size rises =
     record {
       fitting = record {

@@ -77,8 +77,8 @@ pub record IsLeast {A : Type 0} (meets : A → A → Bool) (base : List Bool) (b
   pub least : (cs : List Bool) → IsFitting meets base bars line cs → IsPart bs cs
 
 -- more is barred by a larger set
-abbrev pub Rises : {A : Type 0} → (List Bool → A → Bool) → Type 0
-Rises {A} bars = (bs cs : List Bool) (i : A) → IsPart bs cs → bars bs i ≡ true → bars cs i ≡ true
+abbrev pub BarsRise : {A : Type 0} → (List Bool → A → Bool) → Type 0
+BarsRise {A} bars = (bs cs : List Bool) (i : A) → IsPart bs cs → bars bs i ≡ true → bars cs i ≡ true
 
 -- the items at this place and the next one exchanged, where both are there
 unfoldable pub exchanged : {A : Type 0} → LinePlace → List A → List A

@@ -30,15 +30,15 @@ plain_run run = record { commands = run.routine.commands.items; follows = run.fo
 abbrev pub runs_of : Roster → List Run
 runs_of roster = map plain_run roster.runs.items
 
-abbrev pub run_at : List Run → RunId → Option Run
-run_at runs zero = None
-run_at runs (suc i) = slice_get runs i
+abbrev pub run_in_roster : List Run → RunId → Option Run
+run_in_roster runs zero = None
+run_in_roster runs (suc i) = slice_get runs i
 
 abbrev pub is_run : List Run → RunId → Bool
-is_run runs r = is_some (run_at runs r)
+is_run runs r = is_some (run_in_roster runs r)
 
 abbrev pub commands_of : List Run → RunId → List Command
-commands_of runs r = unwrap_or (option_map (λ run. run.commands) (run_at runs r)) []
+commands_of runs r = unwrap_or (option_map (λ run. run.commands) (run_in_roster runs r)) []
 
 abbrev pub no_command : Command
 no_command = record { device = device_no 0; job = Load; when = Always; must = false; ms = 0; takes = 0 }
@@ -47,7 +47,7 @@ abbrev pub command_at : List Run → RunId → CommandIndex → Command
 command_at runs r c = slice_index_or (commands_of runs r) c no_command
 
 abbrev pub followed_by : List Run → RunId → Option RunNo
-followed_by runs r = option_and_then (λ run. run.follows) (run_at runs r)
+followed_by runs r = option_and_then (λ run. run.follows) (run_in_roster runs r)
 
 abbrev pub follows : List Run → RunId → RunId → Bool
 follows runs r f = unwrap_or (option_map (λ q. q.0 == f) (followed_by runs r)) false

@@ -9,7 +9,7 @@ use Rattle.command_words.proofs.OptionRows.{Holds, fine_use, id_of, model_used, 
 use Rattle.command_words.proofs.OptionSteps.{Steps, broken_ends, fault_ends, nothing_more}
 use Rattle.command_words.proofs.WalkedOptions.{Rules, Top, at, flags_there, held, is_fault, long_turn, no_long, no_mark, pending_fails, plain_turn, short_fault_is, short_plain}
 use Rattle.command_words.proofs.WordShapes.{Looks, long, other, short}
-use Rattle.command_words.specs.OptionGrammar.{Given, Valued, model, name_in, options_after, scheduler, value_in, with_word}
+use Rattle.command_words.specs.OptionGrammar.{GivenOptions, Valued, model, option_name, option_value, options_after, scheduler, with_word}
 use Rattle.command_words.specs.OptionWords.{named_model, named_scheduler}
 use Rattle.std.proofs.Common.{Bool, List, None, Option, Some, [], ap, ap₂, codes, false, if◌then◌else◌, inl, inr, is_some, refl, slice_get, sym, true, ℕ, ◌==◌, ◌∙◌, ◌∷◌, ◌≡◌}
 use Rattle.std.specs.Prelude.{option_and_then}
@@ -44,7 +44,7 @@ pub value_met : (which : Valued) (word : Text) (rows : List Row)
 value_met model word rows = refl
 value_met scheduler word rows = refl
 
-module _ (rows : List Row) (which : Valued) (given : Given) (due : given.due ≡ Some which) (holds : Holds rows given) where
+module _ (rows : List Row) (which : Valued) (given : GivenOptions) (due : given.due ≡ Some which) (holds : Holds rows given) where
   abbrev waiting_walk : Walk
   waiting_walk = at rows (Some (id_of which, [])) (option (id_of which))
 
@@ -138,7 +138,7 @@ module _ (rows : List Row) (which : Valued) (given : Given) (due : given.due ≡
   due_step (long z zs) mark =
       refused_value (45 ∷ 45 ∷ z ∷ zs)
       (long_turn rows (Some (id_of which, [])) (option (id_of which)) z zs
-      (pending_fails (arg_by_long Rules (name_in (z ∷ zs))) (value_in (z ∷ zs)) (held rows (Some (id_of which, []))) settle_fails))
+      (pending_fails (arg_by_long Rules (option_name (z ∷ zs))) (option_value (z ∷ zs)) (held rows (Some (id_of which, []))) settle_fails))
       refl refl
   due_step (short x xs differs names) mark = short_step x xs differs
   due_step (other word is_long is_short names) mark =

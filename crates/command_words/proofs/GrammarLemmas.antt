@@ -1,6 +1,6 @@
 -- The plain grammar of the options.
-use Rattle.command_words.specs.OptionGrammar.{Given, Valued, model, name_in, options_after, options_given, scheduler, value_in, with_trace, with_value, with_valued, with_word}
-use Rattle.command_words.specs.OptionWords.{has_end_mark, mode_of, model_of, named_model, named_scheduler, paired, scheduler_of}
+use Rattle.command_words.specs.OptionGrammar.{GivenOptions, Valued, model, option_name, option_value, options_after, options_given, scheduler, with_trace, with_value, with_valued, with_word}
+use Rattle.command_words.specs.OptionWords.{has_end_mark, mode_asked_for, mode_from_pair, model_asked_for, named_model, named_scheduler, scheduler_asked_for}
 use Rattle.home_types.specs.declared.modes.Visibility.{Visibility}
 use Rattle.std.proofs.Common.{Bool, List, None, Option, Some, [], ap, codes, false, if◌then◌else◌, option_map, refl, subst, sym, true, true≢false, ℕ, ◌||◌, ◌≡◌, ◌∙◌, ◌∷◌}
 use Rattle.std.proofs.lemmas.Slice.Eq.{bytes_eq-Decides}
@@ -12,20 +12,20 @@ none_after : {X Y : Type 0} (f : X → Option Y) → ((x : X) → f x ≡ None) 
 none_after f none None = refl
 none_after f none (Some x) = none x
 
-no_options : (due : Option Valued) (trace : Bool) (m s : Option (List ℕ)) → mode_of m s ≡ None
+no_options : (due : Option Valued) (trace : Bool) (m s : Option (List ℕ)) → mode_asked_for m s ≡ None
     → options_given (record { model = m; scheduler = s; trace = trace; due = due }) ≡ None
 no_options (Some option) trace m s none = refl
 no_options None trace m s none =
     ap (λ mode. option_map (λ x. record { mode = x; trace = trace }) mode) none
 
-no_model : (v : List ℕ) (s : Option (List ℕ)) → named_model v ≡ None → mode_of (Some v) s ≡ None
-no_model v s none = ap (λ m. option_and_then (λ x. option_and_then (paired x) (scheduler_of s)) m) none
+no_model : (v : List ℕ) (s : Option (List ℕ)) → named_model v ≡ None → mode_asked_for (Some v) s ≡ None
+no_model v s none = ap (λ m. option_and_then (λ x. option_and_then (mode_from_pair x) (scheduler_asked_for s)) m) none
 
-no_scheduler : (m : Option (List ℕ)) (v : List ℕ) → named_scheduler v ≡ None → mode_of m (Some v) ≡ None
+no_scheduler : (m : Option (List ℕ)) (v : List ℕ) → named_scheduler v ≡ None → mode_asked_for m (Some v) ≡ None
 no_scheduler m v none =
-    ap (λ s. option_and_then (λ x. option_and_then (paired x) s) (model_of m)) none ∙ by_model (model_of m)
+    ap (λ s. option_and_then (λ x. option_and_then (mode_from_pair x) s) (model_asked_for m)) none ∙ by_model (model_asked_for m)
   where
-    by_model : (o : Option Visibility) → option_and_then (λ x. option_and_then (paired x) None) o ≡ None
+    by_model : (o : Option Visibility) → option_and_then (λ x. option_and_then (mode_from_pair x) None) o ≡ None
     by_model None = refl
     by_model (Some x) = refl
 
@@ -37,8 +37,8 @@ bad_model (word ∷ words) v s trace (Some model) none = refl
 bad_model (word ∷ words) v (Some t) trace (Some scheduler) none = refl
 bad_model (word ∷ words) v None trace (Some scheduler) none = bad_model words v (Some word) trace None none
 bad_model (word ∷ words) v s trace None none =
-    by_name (λ t b due. bad_model words v t b due none) (bytes_eq (name_in word) (codes "--model")) (bytes_eq (name_in word) (codes "--scheduler"))
-    (bytes_eq (name_in word) (codes "--trace")) (value_in word) s trace
+    by_name (λ t b due. bad_model words v t b due none) (bytes_eq (option_name word) (codes "--model")) (bytes_eq (option_name word) (codes "--scheduler"))
+    (bytes_eq (option_name word) (codes "--trace")) (option_value word) s trace
   where
     by_name : ((t : Option (List ℕ)) (b : Bool) (due : Option Valued)
         → options_after (record { model = Some v; scheduler = t; trace = b; due = due }) words ≡ None)
@@ -64,8 +64,8 @@ bad_scheduler (word ∷ words) v m trace (Some scheduler) none = refl
 bad_scheduler (word ∷ words) v (Some t) trace (Some model) none = refl
 bad_scheduler (word ∷ words) v None trace (Some model) none = bad_scheduler words v (Some word) trace None none
 bad_scheduler (word ∷ words) v m trace None none =
-    by_name (λ t b due. bad_scheduler words v t b due none) (bytes_eq (name_in word) (codes "--model")) (bytes_eq (name_in word) (codes "--scheduler"))
-    (bytes_eq (name_in word) (codes "--trace")) (value_in word) m trace
+    by_name (λ t b due. bad_scheduler words v t b due none) (bytes_eq (option_name word) (codes "--model")) (bytes_eq (option_name word) (codes "--scheduler"))
+    (bytes_eq (option_name word) (codes "--trace")) (option_value word) m trace
   where
     by_name : ((t : Option (List ℕ)) (b : Bool) (due : Option Valued)
         → options_after (record { model = t; scheduler = Some v; trace = b; due = due }) words ≡ None)
@@ -84,7 +84,7 @@ bad_scheduler (word ∷ words) v m trace None none =
     by_name ends false false false value t flag = refl
 
 -- a value that has no name gives no options
-pub bad_value : (option : Valued) (value : List ℕ) (given : Given) (words : List (List ℕ)) → named_model value ≡ None → named_scheduler value ≡ None
+pub bad_value : (option : Valued) (value : List ℕ) (given : GivenOptions) (words : List (List ℕ)) → named_model value ≡ None → named_scheduler value ≡ None
     → option_and_then (λ g. options_after g words) (with_value option value given) ≡ None
 bad_value model value given words no_model no_scheduler = by_model given.model given.scheduler given.trace given.due
   where
@@ -103,7 +103,7 @@ same_word : (word other : List ℕ) → bytes_eq word other ≡ true → word �
 same_word word other is = (bytes_eq-Decides word other).0 is
 
 -- the word `--` gives no options
-end_mark_gives_none : (given : Given) (words : List (List ℕ)) → option_and_then (λ g. options_after g words) (with_word given.due (codes "--") given) ≡ None
+end_mark_gives_none : (given : GivenOptions) (words : List (List ℕ)) → option_and_then (λ g. options_after g words) (with_word given.due (codes "--") given) ≡ None
 end_mark_gives_none given words = by_due given.due
   where
     by_due : (due : Option Valued) → option_and_then (λ g. options_after g words) (with_word due (codes "--") given) ≡ None
@@ -111,11 +111,11 @@ end_mark_gives_none given words = by_due given.due
     by_due (Some option) = bad_value option (codes "--") given words refl refl
 
 -- nor do words with it
-pub marked_gives_none : (words : List (List ℕ)) (given : Given) → has_end_mark words ≡ true → options_after given words ≡ None
+pub marked_gives_none : (words : List (List ℕ)) (given : GivenOptions) → has_end_mark words ≡ true → options_after given words ≡ None
 marked_gives_none [] given is = absurd (true≢false (sym is))
 marked_gives_none (word ∷ words) given is = by_mark (bytes_eq word (codes "--")) refl (λ g rest. marked_gives_none words g rest) is
   where
-    by_mark : (b : Bool) → bytes_eq word (codes "--") ≡ b → ((g : Given) → has_end_mark words ≡ true → options_after g words ≡ None)
+    by_mark : (b : Bool) → bytes_eq word (codes "--") ≡ b → ((g : GivenOptions) → has_end_mark words ≡ true → options_after g words ≡ None)
         → (b || has_end_mark words) ≡ true → options_after given (word ∷ words) ≡ None
     by_mark true mark none some =
         subst (λ w. option_and_then (λ g. options_after g words) (with_word given.due w given) ≡ None) (sym (same_word word (codes "--") mark))

@@ -8,21 +8,21 @@ use Rattle.command_words.proofs.OptionRows.{Holds, end_options, fine_defaults, f
 use Rattle.command_words.proofs.OptionSteps.{Stands, Steps, free_step}
 use Rattle.command_words.proofs.WalkedOptions.{Rules, answer, fault_first, held, none_first, none_next, read_by_word, refused}
 use Rattle.command_words.proofs.WordShapes.{looks}
-use Rattle.command_words.specs.OptionGrammar.{Given, nothing_given, options_after, options_by_words, options_given}
-use Rattle.command_words.specs.OptionWords.{has_end_mark, mode_of, options_from, options_of, options_read, unless_refused}
+use Rattle.command_words.specs.OptionGrammar.{GivenOptions, nothing_given, options_after, options_by_words, options_given}
+use Rattle.command_words.specs.OptionWords.{has_end_mark, mode_asked_for, options_from, options_of, options_read, unless_refused}
 use Rattle.std.proofs.Common.{Bool, List, None, Some, [], ap, ap₂, codes, false, if◌then◌else◌, inl, inr, is_some, option_map, refl, subst, sym, true, ◌∙◌, ◌∷◌, ◌≡◌}
 use Rattle.std.specs.Prelude.{option_and_then}
 use Rattle.std.specs.Str.{bytes_eq}
 
 -- ---- the law
 
-pub step : (w : Walk) (given : Given) → Stands w given → (word : Text) → bytes_eq word (codes "--") ≡ false → Steps w given word
+pub step : (w : Walk) (given : GivenOptions) → Stands w given → (word : Text) → bytes_eq word (codes "--") ≡ false → Steps w given word
 step w given (inl s) word mark =
     subst (λ v. Steps v given word) (sym s.at_free) (free_step s.rows s.pending given s.free s.fine s.holds (looks word) mark)
 step w given (inr s) word mark =
     subst (λ v. Steps v given word) (sym s.at_due) (due_step s.rows s.which given s.due s.holds (looks word) mark)
 
-pub at_end : (w : Walk) (given : Given) → Stands w given → answer w [] ≡ options_given given
+pub at_end : (w : Walk) (given : GivenOptions) → Stands w given → answer w [] ≡ options_given given
 at_end w given (inl s) =
     ap (λ v. answer v []) s.at_free
     ∙ ap₂ (λ a b. unless_refused (or_else a b) (options_from (finished Rules (held s.rows s.pending)))) s.fine (fine_defaults (settled_rows Rules s.pending s.rows))
@@ -31,15 +31,15 @@ at_end w given (inl s) =
 at_end w given (inr s) =
     ap (λ v. answer v []) s.at_due
     ∙ refused _ _ (fault_first (settle_fault Rules false (held s.rows (Some (id_of s.which, [])))) _ (settle_fails s.rows s.which given s.due s.holds))
-    ∙ sym (ap (λ due. if is_some due then None else option_map (λ mode. record { mode = mode; trace = given.trace }) (mode_of given.model given.scheduler)) s.due)
+    ∙ sym (ap (λ due. if is_some due then None else option_map (λ mode. record { mode = mode; trace = given.trace }) (mode_asked_for given.model given.scheduler)) s.due)
 
-pub same_after : (words : List Text) (w : Walk) (given : Given) → Stands w given → has_end_mark words ≡ false → answer w words ≡ options_after given words
+pub same_after : (words : List Text) (w : Walk) (given : GivenOptions) → Stands w given → has_end_mark words ≡ false → answer w words ≡ options_after given words
 same_after [] w given stands mark = at_end w given stands
 same_after (word ∷ words) w given stands mark =
     by_step (none_next (bytes_eq word (codes "--")) (has_end_mark words) mark) (λ v g s m. same_after words v g s m)
     (step w given stands word (none_first (bytes_eq word (codes "--")) (has_end_mark words) mark))
   where
-    by_step : has_end_mark words ≡ false → ((v : Walk) (g : Given) → Stands v g → has_end_mark words ≡ false → answer v words ≡ options_after g words)
+    by_step : has_end_mark words ≡ false → ((v : Walk) (g : GivenOptions) → Stands v g → has_end_mark words ≡ false → answer v words ≡ options_after g words)
         → Steps w given word → answer w (word ∷ words) ≡ options_after given (word ∷ words)
     by_step rest same (inl ends) = ends.walk_ends words rest ∙ sym (ends.grammar_ends words)
     by_step rest same (inr goes) =

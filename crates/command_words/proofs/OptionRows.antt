@@ -7,7 +7,7 @@ use Rattle.clap.specs.declared.builder.value_parser.Reading.{Reading}
 use Rattle.clap.specs.declared.parser.matches.ValueSource.{ValueSource}
 use Rattle.clap.specs.declared.parser.matches.ValueSource.TheVariants.{CommandLine, DefaultValue}
 use Rattle.command_words.proofs.WalkedOptions.{Rules, is_fault, none_first, none_next}
-use Rattle.command_words.specs.OptionGrammar.{Given, Valued, model, options_given, scheduler}
+use Rattle.command_words.specs.OptionGrammar.{GivenOptions, Valued, model, options_given, scheduler}
 use Rattle.command_words.specs.OptionWords.{model_rule, options_from, options_with, scheduler_rule, trace_of, trace_rule}
 use Rattle.std.proofs.Common.{Bool, List, None, Option, Some, [], ap, append-nil, ap₂, codes, cond, false, fold, if◌then◌else◌, is_some, refl, slice_get, subst, sym, true, ◌++◌, ◌||◌, ◌∙◌, ◌∷◌, ◌≡◌}
 use Rattle.std.specs.List.{find, fold, list_any}
@@ -53,7 +53,7 @@ none_removed id rows none = row_added id (λ _. []) [] rows none ∙ append-nil 
 
 -- ---- what the rows have
 
-pub record Holds (rows : List Row) (given : Given) : Type 0 where
+pub record Holds (rows : List Row) (given : GivenOptions) : Type 0 where
   pub model : first_of (codes "model") rows ≡ given.model
   pub scheduler : first_of (codes "scheduler") rows ≡ given.scheduler
   pub trace : trace_of (first_of (codes "trace") rows) ≡ given.trace
@@ -76,7 +76,7 @@ has_other id rows row is = any_other (λ r. bytes_eq r.id id) rows row is
 pub has_new : (id : Text) (rows : List Row) (row : Row) → bytes_eq row.id id ≡ true → has_row id (rows ++ row ∷ []) ≡ true
 has_new id rows row is = any_new (λ r. bytes_eq r.id id) rows row is
 
-module _ (rows : List Row) (given : Given) (holds : Holds rows given) (source : ValueSource) (how : Reading) where
+module _ (rows : List Row) (given : GivenOptions) (holds : Holds rows given) (source : ValueSource) (how : Reading) where
   pub model_added : (v : Text) (due : Option Valued) → has_row (codes "model") rows ≡ false
       → Holds (rows ++ row_with (codes "model") source v how ∷ []) (record given { model = Some v; due = due })
   model_added v due none =
@@ -169,19 +169,19 @@ pub valued_rows : (id : Text) (how : Reading) (v : Text) (rows : List Row) → h
 valued_rows id how v rows none =
     ap (with_values id how CommandLine (v ∷ [])) (none_removed id rows none) ∙ values_added id how CommandLine (v ∷ []) rows none
 
-pub model_used : (v : Text) (due : Option Valued) (rows : List Row) (given : Given) → Holds rows given → has_row (codes "model") rows ≡ false
+pub model_used : (v : Text) (due : Option Valued) (rows : List Row) (given : GivenOptions) → Holds rows given → has_row (codes "model") rows ≡ false
     → Holds (used (rule_of model) (v ∷ []) rows) (record given { model = Some v; due = due })
 model_used v due rows given holds none =
     subst (λ rs. Holds rs (record given { model = Some v; due = due })) (sym (valued_rows (codes "model") (reading_by (rule_of model)) v rows none))
     (model_added rows given holds CommandLine (reading_by (rule_of model)) v due none)
 
-pub scheduler_used : (v : Text) (due : Option Valued) (rows : List Row) (given : Given) → Holds rows given → has_row (codes "scheduler") rows ≡ false
+pub scheduler_used : (v : Text) (due : Option Valued) (rows : List Row) (given : GivenOptions) → Holds rows given → has_row (codes "scheduler") rows ≡ false
     → Holds (used (rule_of scheduler) (v ∷ []) rows) (record given { scheduler = Some v; due = due })
 scheduler_used v due rows given holds none =
     subst (λ rs. Holds rs (record given { scheduler = Some v; due = due })) (sym (valued_rows (codes "scheduler") (reading_by (rule_of scheduler)) v rows none))
     (scheduler_added rows given holds CommandLine (reading_by (rule_of scheduler)) v due none)
 
-pub trace_used : (rows : List Row) (given : Given) → Holds rows given → has_row (codes "trace") rows ≡ false
+pub trace_used : (rows : List Row) (given : GivenOptions) → Holds rows given → has_row (codes "trace") rows ≡ false
     → Holds (used trace_arg [] rows) (record given { trace = true })
 trace_used rows given holds none =
     subst (λ rs. Holds rs (record given { trace = true })) (sym (valued_rows (codes "trace") (reading_by trace_arg) (codes "true") rows none))
@@ -229,12 +229,12 @@ fine_defaults rows =
 pub finished_rows : (rows : List Row) → fold with_default rows Rules ≡ with_default rows trace_arg
 finished_rows rows = ap (λ rs. with_default rs trace_arg) (ap (λ rs. with_default rs (rule_of scheduler)) (no_default model rows) ∙ no_default scheduler rows)
 
-pub options_same : (m s t : Option Text) (given : Given) → given.due ≡ None → m ≡ given.model → s ≡ given.scheduler → trace_of t ≡ given.trace
+pub options_same : (m s t : Option Text) (given : GivenOptions) → given.due ≡ None → m ≡ given.model → s ≡ given.scheduler → trace_of t ≡ given.trace
     → options_with m s t ≡ options_given given
 options_same m s t given free model_is scheduler_is trace_is = rw free (rw (model_is, scheduler_is, trace_is) refl)
 
 -- the options in the rows at the end are those that were given
-pub end_options : (rows : List Row) (given : Given) → given.due ≡ None → Holds rows given → options_from (with_default rows trace_arg) ≡ options_given given
+pub end_options : (rows : List Row) (given : GivenOptions) → given.due ≡ None → Holds rows given → options_from (with_default rows trace_arg) ≡ options_given given
 end_options rows given free holds = by_row (has_row (codes "trace") rows) refl
   where
     by_row : (b : Bool) → has_row (codes "trace") rows ≡ b → options_from (with_default rows trace_arg) ≡ options_given given

@@ -5,7 +5,7 @@ use Rattle.clap.specs.Walk.{Held, Row, Rule, Step, Text, Walk, after_flag, after
 use Rattle.command_words.proofs.OptionRows.{Holds, argument_of, by_name, fine_trace, fine_use, id_of, model_used, rule_of, scheduler_used, second_trace, second_use, trace_arg, trace_used}
 use Rattle.command_words.proofs.WalkedOptions.{Rules, Top, answer, at, broken, fault_first, held, is_fault, refused, stray_other, stray_short}
 use Rattle.command_words.proofs.WordShapes.{IsNoOption, Looks, long, long_name, long_value, other, short}
-use Rattle.command_words.specs.OptionGrammar.{Given, Valued, model, name_in, options_after, scheduler, value_in, with_option, with_trace, with_value, with_valued, with_word}
+use Rattle.command_words.specs.OptionGrammar.{GivenOptions, Valued, model, option_name, option_value, options_after, scheduler, with_option, with_trace, with_value, with_valued, with_word}
 use Rattle.command_words.specs.OptionWords.{has_end_mark}
 use Rattle.std.proofs.Common.{Bool, List, None, Option, Some, [], ap, ap₂, codes, false, if◌then◌else◌, inl, inr, refl, sym, true, ℕ, ◌∙◌, ◌∷◌, ◌≡◌, ◌⊎◌}
 use Rattle.std.proofs.lemmas.Slice.Eq.{bytes_eq-Decides}
@@ -14,7 +14,7 @@ use Rattle.std.specs.Str.{bytes_eq}
 
 -- ---- where the walk and the grammar stand
 
-pub record IsFree (w : Walk) (given : Given) : Type 0 where
+pub record IsFree (w : Walk) (given : GivenOptions) : Type 0 where
   pub rows : List Row
   pub pending : Option (Text × List Text)
   pub at_free : w ≡ at rows pending idle
@@ -22,30 +22,30 @@ pub record IsFree (w : Walk) (given : Given) : Type 0 where
   pub fine : settle_fault Rules false (held rows pending) ≡ []
   pub holds : Holds (settled_rows Rules pending rows) given
 
-pub record IsDue (w : Walk) (given : Given) : Type 0 where
+pub record IsDue (w : Walk) (given : GivenOptions) : Type 0 where
   pub rows : List Row
   pub which : Valued
   pub at_due : w ≡ at rows (Some (id_of which, [])) (option (id_of which))
   pub due : given.due ≡ Some which
   pub holds : Holds rows given
 
-abbrev pub Stands : Walk → Given → Type 0
+abbrev pub Stands : Walk → GivenOptions → Type 0
 Stands w given = IsFree w given ⊎ IsDue w given
 
 -- one word more: both refuse it and all that follows, or both go on
-pub record Ends (w : Walk) (given : Given) (word : Text) : Type 0 where
+pub record Ends (w : Walk) (given : GivenOptions) (word : Text) : Type 0 where
   pub walk_ends : (words : List Text) → has_end_mark words ≡ false → answer w (word ∷ words) ≡ None
   pub grammar_ends : (words : List Text) → options_after given (word ∷ words) ≡ None
 
-pub record Goes (w : Walk) (given : Given) (word : Text) : Type 0 where
+pub record Goes (w : Walk) (given : GivenOptions) (word : Text) : Type 0 where
   pub after : Walk
-  pub next : Given
+  pub next : GivenOptions
   pub fine : turn_fault Top [] w word ≡ []
   pub walk_goes : walked Rules [] w word ≡ after
   pub grammar_goes : with_word given.due word given ≡ Some next
   pub stands : Stands after next
 
-abbrev pub Steps : Walk → Given → Text → Type 0
+abbrev pub Steps : Walk → GivenOptions → Text → Type 0
 Steps w given word = Ends w given word ⊎ Goes w given word
 
 -- a fault in the word ends the walk
@@ -57,10 +57,10 @@ pub broken_ends : (w : Walk) (word : Text) (rows : List Row) (pending : Option (
     → is_fault (settle_fault Rules false (held rows pending)) ≡ true → (words : List Text) → has_end_mark words ≡ false → answer w (word ∷ words) ≡ None
 broken_ends w word rows pending fine goes is = λ words mark. rw fine (rw goes (broken words rows pending mark is))
 
-pub nothing_more : (given : Given) (word : Text) → with_word given.due word given ≡ None → (words : List Text) → options_after given (word ∷ words) ≡ None
+pub nothing_more : (given : GivenOptions) (word : Text) → with_word given.due word given ≡ None → (words : List Text) → options_after given (word ∷ words) ≡ None
 nothing_more given word none = λ words. ap (option_and_then (λ g. options_after g words)) none
 
-pub more_due : (rows : List Row) (given : Given) (due : Option Valued) → Holds rows given → Holds rows (record given { due = due })
+pub more_due : (rows : List Row) (given : GivenOptions) (due : Option Valued) → Holds rows given → Holds rows (record given { due = due })
 more_due rows given due holds = record {
   model = holds.model;
   scheduler = holds.scheduler;
@@ -91,12 +91,12 @@ turn_of word found value h =
 abbrev pub walk_of : Text → Option Rule → Option Text → Walk → Walk
 walk_of word found value w = after_step Rules word w (met_of word found value w.held).0 (met_of word found value w.held).1
 
-abbrev pub with_named : (model scheduler trace : Bool) → Option Text → Given → Option Given
+abbrev pub with_named : (model scheduler trace : Bool) → Option Text → GivenOptions → Option GivenOptions
 with_named m s t value given =
     if m then with_valued model value given
     else (if s then with_valued scheduler value given else (if t then with_trace value given else None))
 
-module _ (rows : List Row) (pending : Option (Text × List Text)) (given : Given) (free : given.due ≡ None)
+module _ (rows : List Row) (pending : Option (Text × List Text)) (given : GivenOptions) (free : given.due ≡ None)
     (fine : settle_fault Rules false (held rows pending) ≡ []) (holds : Holds (settled_rows Rules pending rows) given) where
   abbrev before : Walk
   before = at rows pending idle
@@ -111,8 +111,8 @@ module _ (rows : List Row) (pending : Option (Text × List Text)) (given : Given
   fault_after ks some = rw fine (fault_first ks [] some)
 
   -- what is known of the word and of what it names
-  module _ (z : ℕ) (zs : Text) (found : Option Rule) (value : Option Text) (next : Option Given)
-      (found_is : arg_by_long Rules (name_in (z ∷ zs)) ≡ found) (value_is : value_in (z ∷ zs) ≡ value)
+  module _ (z : ℕ) (zs : Text) (found : Option Rule) (value : Option Text) (next : Option GivenOptions)
+      (found_is : arg_by_long Rules (option_name (z ∷ zs)) ≡ found) (value_is : option_value (z ∷ zs) ≡ value)
       (next_is : with_word given.due (45 ∷ 45 ∷ z ∷ zs) given ≡ next) where
     abbrev word : Text
     word = 45 ∷ 45 ∷ z ∷ zs
@@ -130,7 +130,7 @@ module _ (rows : List Row) (pending : Option (Text × List Text)) (given : Given
       grammar_ends = nothing_more given word (next_is ∙ none);
     })
 
-    long_goes : (after : Walk) (g : Given) → turn_of word found value (held rows pending) ≡ [] → walk_of word found value before ≡ after → next ≡ Some g → Stands after g
+    long_goes : (after : Walk) (g : GivenOptions) → turn_of word found value (held rows pending) ≡ [] → walk_of word found value before ≡ after → next ≡ Some g → Stands after g
         → Steps before given word
     long_goes after g none goes some stands = inr (record {
       after = after;
@@ -143,7 +143,7 @@ module _ (rows : List Row) (pending : Option (Text × List Text)) (given : Given
 
   -- by the name of the option and its value
   module _ (z : ℕ) (zs : Text) where
-    model_step : (value : Option Text) → arg_by_long Rules (name_in (z ∷ zs)) ≡ Some (rule_of model) → value_in (z ∷ zs) ≡ value
+    model_step : (value : Option Text) → arg_by_long Rules (option_name (z ∷ zs)) ≡ Some (rule_of model) → option_value (z ∷ zs) ≡ value
         → with_word given.due (45 ∷ 45 ∷ z ∷ zs) given ≡ with_valued model value given → Steps before given (45 ∷ 45 ∷ z ∷ zs)
     model_step None found_is value_is next_is =
         long_goes z zs (Some (rule_of model)) None (Some (record given { due = Some model })) found_is value_is next_is
@@ -168,7 +168,7 @@ module _ (rows : List Row) (pending : Option (Text × List Text)) (given : Given
               holds = model_used v None settled_now given holds is;
             }))
 
-    scheduler_step : (value : Option Text) → arg_by_long Rules (name_in (z ∷ zs)) ≡ Some (rule_of scheduler) → value_in (z ∷ zs) ≡ value
+    scheduler_step : (value : Option Text) → arg_by_long Rules (option_name (z ∷ zs)) ≡ Some (rule_of scheduler) → option_value (z ∷ zs) ≡ value
         → with_word given.due (45 ∷ 45 ∷ z ∷ zs) given ≡ with_valued scheduler value given → Steps before given (45 ∷ 45 ∷ z ∷ zs)
     scheduler_step None found_is value_is next_is =
         long_goes z zs (Some (rule_of scheduler)) None (Some (record given { due = Some scheduler })) found_is value_is next_is
@@ -193,7 +193,7 @@ module _ (rows : List Row) (pending : Option (Text × List Text)) (given : Given
               holds = scheduler_used v None settled_now given holds is;
             }))
 
-    trace_step : (value : Option Text) → arg_by_long Rules (name_in (z ∷ zs)) ≡ Some trace_arg → value_in (z ∷ zs) ≡ value
+    trace_step : (value : Option Text) → arg_by_long Rules (option_name (z ∷ zs)) ≡ Some trace_arg → option_value (z ∷ zs) ≡ value
         → with_word given.due (45 ∷ 45 ∷ z ∷ zs) given ≡ with_trace value given → Steps before given (45 ∷ 45 ∷ z ∷ zs)
     trace_step (Some v) found_is value_is next_is = long_ends z zs (Some trace_arg) (Some v) None found_is value_is next_is refl refl
     trace_step None found_is value_is next_is = by_row (has_row (codes "trace") settled_now) refl
@@ -215,11 +215,11 @@ module _ (rows : List Row) (pending : Option (Text × List Text)) (given : Given
               holds = trace_used settled_now given holds is;
             }))
 
-    no_step : (value : Option Text) → arg_by_long Rules (name_in (z ∷ zs)) ≡ None → value_in (z ∷ zs) ≡ value
+    no_step : (value : Option Text) → arg_by_long Rules (option_name (z ∷ zs)) ≡ None → option_value (z ∷ zs) ≡ value
         → with_word given.due (45 ∷ 45 ∷ z ∷ zs) given ≡ None → Steps before given (45 ∷ 45 ∷ z ∷ zs)
     no_step value found_is value_is next_is = long_ends z zs None value None found_is value_is next_is refl refl
 
-    named_step : (m s t : Bool) (value : Option Text) → arg_by_long Rules (name_in (z ∷ zs)) ≡ argument_of m s t → value_in (z ∷ zs) ≡ value
+    named_step : (m s t : Bool) (value : Option Text) → arg_by_long Rules (option_name (z ∷ zs)) ≡ argument_of m s t → option_value (z ∷ zs) ≡ value
         → with_word given.due (45 ∷ 45 ∷ z ∷ zs) given ≡ with_named m s t value given → Steps before given (45 ∷ 45 ∷ z ∷ zs)
     named_step true s t value found_is value_is next_is = model_step value found_is value_is next_is
     named_step false true t value found_is value_is next_is = scheduler_step value found_is value_is next_is
@@ -228,11 +228,11 @@ module _ (rows : List Row) (pending : Option (Text × List Text)) (given : Given
 
     -- what the grammar makes of the word, by the same tests
     same_tests : with_word given.due (45 ∷ 45 ∷ z ∷ zs) given
-        ≡ with_named (bytes_eq (codes "model") (name_in (z ∷ zs))) (bytes_eq (codes "scheduler") (name_in (z ∷ zs)))
-        (bytes_eq (codes "trace") (name_in (z ∷ zs))) (value_in (z ∷ zs)) given
+        ≡ with_named (bytes_eq (codes "model") (option_name (z ∷ zs))) (bytes_eq (codes "scheduler") (option_name (z ∷ zs)))
+        (bytes_eq (codes "trace") (option_name (z ∷ zs))) (option_value (z ∷ zs)) given
     same_tests =
-        let name = name_in (z ∷ zs) in
-        let value = value_in (z ∷ zs) in
+        let name = option_name (z ∷ zs) in
+        let value = option_value (z ∷ zs) in
         ap (λ due. with_word due (45 ∷ 45 ∷ z ∷ zs) given) free
         ∙ ap₂ (λ n v. with_option n v given) (long_name z zs) (long_value z zs)
         ∙ ap (λ m. with_named m (bytes_eq name (codes "scheduler")) (bytes_eq name (codes "trace")) value given) (same_either_way name (codes "model"))
@@ -240,16 +240,16 @@ module _ (rows : List Row) (pending : Option (Text × List Text)) (given : Given
         ∙ ap (λ t. with_named (bytes_eq (codes "model") name) (bytes_eq (codes "scheduler") name) t value given) (same_either_way name (codes "trace"))
 
     long_step : Steps before given (45 ∷ 45 ∷ z ∷ zs)
-    long_step = named_step _ _ _ (value_in (z ∷ zs)) (by_name (name_in (z ∷ zs))) refl same_tests
+    long_step = named_step _ _ _ (option_value (z ∷ zs)) (by_name (option_name (z ∷ zs))) refl same_tests
 
   -- no other word is an option
   no_option : (name : Text) (value : Option Text) → IsNoOption name → with_option name value given ≡ None
   no_option name value is = rw (is.model, is.scheduler, is.trace) refl
 
-  strays : (word : Text) → is_fault (turn_fault Top [] before word) ≡ true → IsNoOption (name_in word) → Steps before given word
+  strays : (word : Text) → is_fault (turn_fault Top [] before word) ≡ true → IsNoOption (option_name word) → Steps before given word
   strays word fault names = inl (record {
     walk_ends = fault_ends before word fault;
-    grammar_ends = nothing_more given word (ap (λ due. with_word due word given) free ∙ no_option (name_in word) (value_in word) names);
+    grammar_ends = nothing_more given word (ap (λ due. with_word due word given) free ∙ no_option (option_name word) (option_value word) names);
   })
 
   pub free_step : {word : Text} → Looks word → bytes_eq word (codes "--") ≡ false → Steps before given word

@@ -1,8 +1,8 @@
 -- A command line has no mode but one whose scheduler goes with its model.
 use Rattle.command_words.specs.CommandLines.{check_of, command_line_of, trial_of}
-use Rattle.command_words.specs.OptionGrammar.{Given, Valued, nothing_given, options_after, options_by_words, options_given, with_word}
-use Rattle.command_words.specs.OptionWords.{goes_with, mode_of, model_of, paired, scheduler_of}
-use Rattle.command_words.specs.TrialNumbers.{number_of}
+use Rattle.command_words.specs.OptionGrammar.{GivenOptions, Valued, nothing_given, options_after, options_by_words, options_given, with_word}
+use Rattle.command_words.specs.OptionWords.{goes_with, mode_asked_for, mode_from_pair, model_asked_for, scheduler_asked_for}
+use Rattle.command_words.specs.TrialNumbers.{trial_number}
 use Rattle.command_words.specs.declared.command_lines.CommandLine.TheVariants.{Check, Keep, Replay, Run, Trial, Watch}
 use Rattle.command_words.specs.declared.command_lines.CommandLine.{CommandLine}
 use Rattle.command_words.specs.declared.command_lines.Options.{Options}
@@ -22,7 +22,7 @@ IsPaired (Keep options) = goes_with options.mode.scheduler options.mode.model �
 IsPaired Check = ⊤
 IsPaired (Trial n) = ⊤
 
-pair_goes : (model : Visibility) (scheduler : Scheduler) (mode : Mode) → paired model scheduler ≡ Some mode → goes_with mode.scheduler mode.model ≡ true
+pair_goes : (model : Visibility) (scheduler : Scheduler) (mode : Mode) → mode_from_pair model scheduler ≡ Some mode → goes_with mode.scheduler mode.model ≡ true
 pair_goes model scheduler mode is = by_goes (goes_with scheduler model) refl is
   where
     by_goes : (b : Bool) → goes_with scheduler model ≡ b → (if b then Some (record { model = model; scheduler = scheduler }) else None) ≡ Some mode → goes_with mode.scheduler mode.model ≡ true
@@ -30,30 +30,30 @@ pair_goes model scheduler mode is = by_goes (goes_with scheduler model) refl is
     by_goes false goes found = absurd (cc)
 
 mode_goes : (o : Option Visibility) (p : Option Scheduler) (trace : Bool) (options : Options)
-    → option_map (λ mode. record { mode = mode; trace = trace }) (option_and_then (λ m. option_and_then (paired m) p) o) ≡ Some options → goes_with options.mode.scheduler options.mode.model ≡ true
+    → option_map (λ mode. record { mode = mode; trace = trace }) (option_and_then (λ m. option_and_then (mode_from_pair m) p) o) ≡ Some options → goes_with options.mode.scheduler options.mode.model ≡ true
 mode_goes None p trace options is = absurd (cc)
 mode_goes (Some model) None trace options is = absurd (cc)
-mode_goes (Some model) (Some scheduler) trace options is = by_mode (paired model scheduler) refl is
+mode_goes (Some model) (Some scheduler) trace options is = by_mode (mode_from_pair model scheduler) refl is
   where
-    by_mode : (o : Option Mode) → paired model scheduler ≡ o → option_map (λ mode. record { mode = mode; trace = trace }) o ≡ Some options → goes_with options.mode.scheduler options.mode.model ≡ true
+    by_mode : (o : Option Mode) → mode_from_pair model scheduler ≡ o → option_map (λ mode. record { mode = mode; trace = trace }) o ≡ Some options → goes_with options.mode.scheduler options.mode.model ≡ true
     by_mode None none found = absurd (cc)
     by_mode (Some mode) some found = let same : record { mode = mode; trace = trace } ≡ options = cc in subst (λ (x : Options). goes_with x.mode.scheduler x.mode.model ≡ true) same (pair_goes model scheduler mode some)
 
-given_go : (given : Given) (options : Options) → options_given given ≡ Some options → goes_with options.mode.scheduler options.mode.model ≡ true
+given_go : (given : GivenOptions) (options : Options) → options_given given ≡ Some options → goes_with options.mode.scheduler options.mode.model ≡ true
 given_go given options is = by_due given.due is
   where
     by_due : (due : Option Valued)
-        → (if is_some due then None else option_map (λ mode. record { mode = mode; trace = given.trace }) (mode_of given.model given.scheduler)) ≡ Some options
+        → (if is_some due then None else option_map (λ mode. record { mode = mode; trace = given.trace }) (mode_asked_for given.model given.scheduler)) ≡ Some options
         → goes_with options.mode.scheduler options.mode.model ≡ true
-    by_due None found = mode_goes (model_of given.model) (scheduler_of given.scheduler) given.trace options found
+    by_due None found = mode_goes (model_asked_for given.model) (scheduler_asked_for given.scheduler) given.trace options found
     by_due (Some option) found = absurd (cc)
 
-options_go : (words : List (List ℕ)) (given : Given) (options : Options) → options_after given words ≡ Some options → goes_with options.mode.scheduler options.mode.model ≡ true
+options_go : (words : List (List ℕ)) (given : GivenOptions) (options : Options) → options_after given words ≡ Some options → goes_with options.mode.scheduler options.mode.model ≡ true
 options_go [] given options is = given_go given options is
 options_go (word ∷ words) given options is = by_word (λ g more. options_go words g options more) (with_word given.due word given) is
   where
-    by_word : ((g : Given) → options_after g words ≡ Some options → goes_with options.mode.scheduler options.mode.model ≡ true)
-        → (o : Option Given) → option_and_then (λ g. options_after g words) o ≡ Some options → goes_with options.mode.scheduler options.mode.model ≡ true
+    by_word : ((g : GivenOptions) → options_after g words ≡ Some options → goes_with options.mode.scheduler options.mode.model ≡ true)
+        → (o : Option GivenOptions) → option_and_then (λ g. options_after g words) o ≡ Some options → goes_with options.mode.scheduler options.mode.model ≡ true
     by_word goes None found = absurd (cc)
     by_word goes (Some g) found = goes g found
 
@@ -71,7 +71,7 @@ check_goes (word ∷ words) line is = absurd (cc)
 
 trial_goes : (words : List (List ℕ)) (line : CommandLine) → trial_of words ≡ Some line → IsPaired line
 trial_goes [] line is = absurd (cc)
-trial_goes (word ∷ []) line is = by_number (number_of word) is
+trial_goes (word ∷ []) line is = by_number (trial_number word) is
   where
     by_number : (o : Option ℕ) → option_map Trial o ≡ Some line → IsPaired line
     by_number None found = absurd (cc)

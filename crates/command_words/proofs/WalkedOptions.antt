@@ -6,7 +6,7 @@ use Rattle.clap.specs.Simple.{Shape, built, entered}
 use Rattle.clap.specs.Walk.{Held, Row, Rule, Text, Waiting, Walk, arg_by_long, bundle_met, finished, idle, nothing_held, option, plain_word, positional, settled, short_word, takes_values, walk, walk_from, walked}
 use Rattle.clap.specs.declared.error.kind.ErrorKind.TheVariants.{TooManyValues, UnknownArgument}
 use Rattle.command_words.proofs.WordShapes.{Looks, long, looks, other, short}
-use Rattle.command_words.specs.OptionGrammar.{name_in, value_in}
+use Rattle.command_words.specs.OptionGrammar.{option_name, option_value}
 use Rattle.command_words.specs.OptionWords.{has_end_mark, options_app, options_from, options_read, unless_refused}
 use Rattle.command_words.specs.declared.command_lines.Options.{Options}
 use Rattle.std.proofs.Common.{Bool, List, None, Option, Some, [], ap, codes, false, fold, if◌then◌else◌, is_some, refl, slice_get, sym, true, true≢false, ℕ, ◌==◌, ◌||◌, ◌∙◌, ◌∷◌, ◌≡◌}
@@ -96,7 +96,7 @@ at rows pending waiting =
 
 -- a word that begins with two hyphens, of the argument that its name has
 pub long_turn : (rows : List Row) (pending : Option (Text × List Text)) (waiting : Waiting) (z : ℕ) (zs : List ℕ)
-    → is_fault (long_fault Rules false (arg_by_long Rules (name_in (z ∷ zs))) (value_in (z ∷ zs)) (held rows pending)) ≡ true
+    → is_fault (long_fault Rules false (arg_by_long Rules (option_name (z ∷ zs))) (option_value (z ∷ zs)) (held rows pending)) ≡ true
     → is_fault (turn_fault Top [] (at rows pending waiting) (45 ∷ 45 ∷ z ∷ zs)) ≡ true
 long_turn rows pending idle z zs is = fault_first _ _ is
 long_turn rows pending (option id) z zs is = fault_first _ _ is
@@ -173,7 +173,7 @@ stray_other word rows pending mark is_long is_short = rw (mark, is_long, is_shor
 pub broken_turn : {word : List ℕ} → Looks word → (rows : List Row) (pending : Option (Text × List Text)) → bytes_eq word (codes "--") ≡ false → is_fault (settle_fault Rules false (held rows pending)) ≡ true
     → is_fault (turn_fault Top [] (at rows pending idle) word) ≡ true
 broken_turn (long z zs) rows pending mark is =
-    long_turn rows pending idle z zs (pending_fails (arg_by_long Rules (name_in (z ∷ zs))) (value_in (z ∷ zs)) (held rows pending) is)
+    long_turn rows pending idle z zs (pending_fails (arg_by_long Rules (option_name (z ∷ zs))) (option_value (z ∷ zs)) (held rows pending) is)
 broken_turn (short x xs differs names) rows pending mark is = stray_short x xs differs rows pending
 broken_turn (other word is_long is_short names) rows pending mark is = stray_other word rows pending mark is_long is_short
 

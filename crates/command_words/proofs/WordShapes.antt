@@ -1,6 +1,6 @@
 -- What a word looks like to `clap`, and what its name is then.
 use Rattle.clap.specs.Lexer.{long_of, short_of}
-use Rattle.command_words.specs.OptionGrammar.{is_equals, name_in, value_in}
+use Rattle.command_words.specs.OptionGrammar.{is_equals, option_name, option_value}
 use Rattle.std.proofs.Common.{Bool, List, None, Some, [], ap, arith, codes, false, if◌then◌else◌, one-add, refl, suc, subst, sym, take, drop, true, ℕ, ◌+◌, ◌==◌, ◌≡◌, ◌∙◌, ◌∷◌}
 use Rattle.std.proofs.lemmas.Bool.Decides.{Decides-eqb}
 use Rattle.std.specs.List.{after_first, list_any, position_or_len}
@@ -15,15 +15,15 @@ pub record IsNoOption (name : List ℕ) : Type 0 where
 -- the word begins with two hyphens and goes on, begins with one and goes on, or does neither
 pub data Looks : List ℕ → Type 0 where
   long : (z : ℕ) (zs : List ℕ) → Looks (45 ∷ 45 ∷ z ∷ zs)
-  short : (x : ℕ) (xs : List ℕ) → (x == 45) ≡ false → IsNoOption (name_in (45 ∷ x ∷ xs)) → Looks (45 ∷ x ∷ xs)
-  other : (word : List ℕ) → long_of word ≡ None → short_of word ≡ None → IsNoOption (name_in word) → Looks word
+  short : (x : ℕ) (xs : List ℕ) → (x == 45) ≡ false → IsNoOption (option_name (45 ∷ x ∷ xs)) → Looks (45 ∷ x ∷ xs)
+  other : (word : List ℕ) → long_of word ≡ None → short_of word ≡ None → IsNoOption (option_name word) → Looks word
 
 -- ---- names
 
-pub name_more : (x : ℕ) (xs : List ℕ) → name_in (x ∷ xs) ≡ (if is_equals x then [] else x ∷ name_in xs)
+pub name_more : (x : ℕ) (xs : List ℕ) → option_name (x ∷ xs) ≡ (if is_equals x then [] else x ∷ option_name xs)
 name_more x xs = by_equals (is_equals x) refl
   where
-    by_equals : (b : Bool) → is_equals x ≡ b → name_in (x ∷ xs) ≡ (if b then [] else x ∷ name_in xs)
+    by_equals : (b : Bool) → is_equals x ≡ b → option_name (x ∷ xs) ≡ (if b then [] else x ∷ option_name xs)
     by_equals true is = rw is refl
     by_equals false is = rw is (ap (λ n. take n (x ∷ xs)) (one-add (position_or_len is_equals xs)))
 
@@ -31,10 +31,10 @@ after_more : (x : ℕ) (xs : List ℕ) → is_equals x ≡ false → after_first
 after_more x xs is = rw is (ap (λ n. drop n (x ∷ xs)) (let same : 1 + position_or_len is_equals xs + 1 ≡ suc (position_or_len is_equals xs + 1) = omega arith in same))
 
 -- what stands in a word that begins with two hyphens
-pub long_name : (z : ℕ) (zs : List ℕ) → name_in (45 ∷ 45 ∷ z ∷ zs) ≡ 45 ∷ 45 ∷ name_in (z ∷ zs)
+pub long_name : (z : ℕ) (zs : List ℕ) → option_name (45 ∷ 45 ∷ z ∷ zs) ≡ 45 ∷ 45 ∷ option_name (z ∷ zs)
 long_name z zs = name_more 45 (45 ∷ z ∷ zs) ∙ ap (λ n. 45 ∷ n) (name_more 45 (z ∷ zs))
 
-pub long_value : (z : ℕ) (zs : List ℕ) → value_in (45 ∷ 45 ∷ z ∷ zs) ≡ value_in (z ∷ zs)
+pub long_value : (z : ℕ) (zs : List ℕ) → option_value (45 ∷ 45 ∷ z ∷ zs) ≡ option_value (z ∷ zs)
 long_value z zs =
     ap (λ v. if list_any is_equals (z ∷ zs) then Some v else None) (after_more 45 (45 ∷ z ∷ zs) refl ∙ after_more 45 (z ∷ zs) refl)
 
@@ -53,20 +53,20 @@ other_second x name is = record { model = rw is refl; scheduler = rw is refl; tr
 one_hyphen : IsNoOption (45 ∷ [])
 one_hyphen = record { model = refl; scheduler = refl; trace = refl }
 
-begins_otherwise : (x : ℕ) (xs : List ℕ) → (x == 45) ≡ false → IsNoOption (name_in (x ∷ xs))
+begins_otherwise : (x : ℕ) (xs : List ℕ) → (x == 45) ≡ false → IsNoOption (option_name (x ∷ xs))
 begins_otherwise x xs is = subst IsNoOption (sym (name_more x xs)) (by_equals (is_equals x))
   where
-    by_equals : (b : Bool) → IsNoOption (if b then [] else x ∷ name_in xs)
+    by_equals : (b : Bool) → IsNoOption (if b then [] else x ∷ option_name xs)
     by_equals true = no_name
-    by_equals false = other_first x (name_in xs) is
+    by_equals false = other_first x (option_name xs) is
 
-goes_on_otherwise : (x : ℕ) (xs : List ℕ) → (x == 45) ≡ false → IsNoOption (name_in (45 ∷ x ∷ xs))
+goes_on_otherwise : (x : ℕ) (xs : List ℕ) → (x == 45) ≡ false → IsNoOption (option_name (45 ∷ x ∷ xs))
 goes_on_otherwise x xs is =
     subst IsNoOption (sym (name_more 45 (x ∷ xs) ∙ ap (λ n. 45 ∷ n) (name_more x xs))) (by_equals (is_equals x))
   where
-    by_equals : (b : Bool) → IsNoOption (45 ∷ (if b then [] else x ∷ name_in xs))
+    by_equals : (b : Bool) → IsNoOption (45 ∷ (if b then [] else x ∷ option_name xs))
     by_equals true = one_hyphen
-    by_equals false = other_second x (name_in xs) is
+    by_equals false = other_second x (option_name xs) is
 
 -- ---- every word looks in one of these ways
 

@@ -1,6 +1,6 @@
 -- The command line that words are.
 use Rattle.command_words.specs.OptionGrammar.{options_by_words}
-use Rattle.command_words.specs.TrialNumbers.{number_of}
+use Rattle.command_words.specs.TrialNumbers.{trial_number}
 use Rattle.command_words.specs.declared.command_lines.CommandLine.TheVariants.{Check, Keep, Replay, Run, Trial, Watch}
 use Rattle.command_words.specs.declared.command_lines.CommandLine.{CommandLine}
 use Rattle.std.specs.Prelude.{Bool, List, None, Option, Some, [], codes, false, if◌then◌else◌, option_map, ℕ, ◌||◌, ◌∷◌}
@@ -14,7 +14,7 @@ check_of (word ∷ words) = None
 -- one number stands after `trial`
 abbrev pub trial_of : List (List ℕ) → Option CommandLine
 trial_of [] = None
-trial_of (word ∷ []) = option_map Trial (number_of word)
+trial_of (word ∷ []) = option_map Trial (trial_number word)
 trial_of (word ∷ next ∷ words) = None
 
 -- what a command means with the words after it

@@ -50,9 +50,9 @@ named_model word =
     else (if bytes_eq word (codes "ev") then Some Eventual else None)))
 
 -- the model that was asked for, eventual by default
-abbrev pub model_of : Option Text → Option Visibility
-model_of None = Some Eventual
-model_of (Some word) = named_model word
+abbrev pub model_asked_for : Option Text → Option Visibility
+model_asked_for None = Some Eventual
+model_asked_for (Some word) = named_model word
 
 -- the scheduler of this name
 abbrev pub named_scheduler : Text → Option Scheduler
@@ -62,9 +62,9 @@ named_scheduler word =
     else (if bytes_eq word (codes "timeline") then Some Timeline else None))
 
 -- the scheduler that was asked for, first come first served by default
-abbrev pub scheduler_of : Option Text → Option Scheduler
-scheduler_of None = Some Fcfs
-scheduler_of (Some word) = named_scheduler word
+abbrev pub scheduler_asked_for : Option Text → Option Scheduler
+scheduler_asked_for None = Some Fcfs
+scheduler_asked_for (Some word) = named_scheduler word
 
 -- every model has first come first served, and the eventual one has every scheduler
 abbrev pub goes_with : Scheduler → Visibility → Bool
@@ -73,12 +73,12 @@ goes_with scheduler Eventual = true
 goes_with scheduler model = false
 
 -- the mode of a model and a scheduler that goes with it
-abbrev pub paired : Visibility → Scheduler → Option Mode
-paired model scheduler = if goes_with scheduler model then Some (record { model = model; scheduler = scheduler }) else None
+abbrev pub mode_from_pair : Visibility → Scheduler → Option Mode
+mode_from_pair model scheduler = if goes_with scheduler model then Some (record { model = model; scheduler = scheduler }) else None
 
 -- the mode that was asked for
-abbrev pub mode_of : Option Text → Option Text → Option Mode
-mode_of model scheduler = option_and_then (λ m. option_and_then (paired m) (scheduler_of scheduler)) (model_of model)
+abbrev pub mode_asked_for : Option Text → Option Text → Option Mode
+mode_asked_for model scheduler = option_and_then (λ m. option_and_then (mode_from_pair m) (scheduler_asked_for scheduler)) (model_asked_for model)
 
 -- whether the trace was asked for: the value of a flag is `true` where it was given
 abbrev pub trace_of : Option Text → Bool
@@ -88,7 +88,7 @@ trace_of (Some word) = bytes_eq word (codes "true")
 -- the options with these values
 abbrev pub options_with : Option Text → Option Text → Option Text → Option Options
 options_with model scheduler trace =
-    option_map (λ mode. record { mode = mode; trace = trace_of trace }) (mode_of model scheduler)
+    option_map (λ mode. record { mode = mode; trace = trace_of trace }) (mode_asked_for model scheduler)
 
 -- the options in these matches
 abbrev pub options_from : List Row → Option Options

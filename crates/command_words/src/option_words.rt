@@ -1,7 +1,7 @@
 //! The options of a day, read by `clap`: the model, the scheduler and the trace.
 ghost use Rattle.clap.specs.Words.{app_of, found_of};
 ghost use Rattle.command_words.specs.OptionGrammar.{options_by_words};
-ghost use Rattle.command_words.specs.OptionWords.{goes_with, mode_of, model_of, options_app, options_found, options_read, options_with, scheduler_of, trace_of};
+ghost use Rattle.command_words.specs.OptionWords.{goes_with, mode_asked_for, model_asked_for, options_app, options_found, options_read, options_with, scheduler_asked_for, trace_of};
 ghost use Rattle.std.specs.List.{list_any};
 ghost use Rattle.std.specs.Str.{bytes_eq};
 ghost use Rattle.std.specs.Prelude.{◌≡◌, codes, Err, IfOk, None, Some, map, option_map, string_bytes};
@@ -96,7 +96,7 @@ fn choose(model: Option<&str>, scheduler: Option<&str>, trace: Option<&str>) -> 
 }
 
 fn read_mode(model: Option<&str>, scheduler: Option<&str>) -> Option<Mode>
-    ensures { result ≡ mode_of (option_map (λ w. w.now) model.entry) (option_map (λ w. w.now) scheduler.entry) }
+    ensures { result ≡ mode_asked_for (option_map (λ w. w.now) model.entry) (option_map (λ w. w.now) scheduler.entry) }
 {
     let model = read_model(model)?;
     let scheduler = read_scheduler(scheduler)?;
@@ -117,7 +117,7 @@ fn goes_with(scheduler: Scheduler, model: Visibility) -> bool
 }
 
 fn read_model(word: Option<&str>) -> Option<Visibility>
-    ensures { result ≡ model_of (option_map (λ w. w.now) word.entry) }
+    ensures { result ≡ model_asked_for (option_map (λ w. w.now) word.entry) }
 {
     match word {
         None => Some(Visibility::Eventual),
@@ -130,7 +130,7 @@ fn read_model(word: Option<&str>) -> Option<Visibility>
 }
 
 fn read_scheduler(word: Option<&str>) -> Option<Scheduler>
-    ensures { result ≡ scheduler_of (option_map (λ w. w.now) word.entry) }
+    ensures { result ≡ scheduler_asked_for (option_map (λ w. w.now) word.entry) }
 {
     match word {
         None => Some(Scheduler::Fcfs),

@@ -1,6 +1,6 @@
 //! The commit of a run: what is left of the lineage of each device that it has used.
 ghost use Rattle.std.specs.Prelude.{length, ℕ, ◌<◌, ◌≡◌};
-ghost use Rattle.lineage_table.specs.Lineages.{committed_lineage, lineage_at, stand_of, with_lineage};
+ghost use Rattle.lineage_table.specs.Lineages.{committed_lineage, lineage_at, stand_of_lineage, with_lineage};
 
 use home_types::{DeviceNo, RunNo};
 use lineage_table::Table;
@@ -12,7 +12,7 @@ use lineage_table::Table;
 pub fn commit(table: &mut Table, r: RunNo)
     ensures devices { length table.new ≡ length table.old }
     ensures exact { (d : ℕ) → d < length table.old → lineage_at table.new d ≡ committed_lineage r.0 (lineage_at table.old d) }
-    ensures stands { (d : ℕ) → d < length table.old → stand_of (lineage_at table.new d) ≡ stand_of (lineage_at table.old d) }
+    ensures stands { (d : ℕ) → d < length table.old → stand_of_lineage (lineage_at table.new d) ≡ stand_of_lineage (lineage_at table.old d) }
 {
     table.kept();
     let mut from = DeviceNo(0);

@@ -1,6 +1,6 @@
 -- The line of a run is told by its own entries alone.
-use Rattle.day_report.specs.Lines.{answer_word, answer_words, end_text, run_line}
-use Rattle.day_report.specs.RunEntries.{AreApart, entries_of, told_of}
+use Rattle.day_report.specs.Lines.{answer_word, answer_words, end_text, line_of_run}
+use Rattle.day_report.specs.RunEntries.{AreApart, entries_of_run, run_told_of}
 use Rattle.day_report.specs.Words.{routine_name}
 use Rattle.history_book.specs.Books.{end_in, end_of, first_told}
 use Rattle.history_book.specs.declared.entries.End.TheVariants.{Aborted, Committed}
@@ -35,7 +35,7 @@ first_told-filter told test silent (kept ∷ history) =
       | false ↦ (λ e. first_told-filter told test silent history ∙ ap (λ o. option_or o (first_told told history)) (sym (silent kept e)))
     ] refl
 
-no_answer : (script : Script) (window : WindowText) (r : ℕ) (entry : Entry) → (told_of entry == r) ≡ false → answer_word script window r entry ≡ []
+no_answer : (script : Script) (window : WindowText) (r : ℕ) (entry : Entry) → (run_told_of entry == r) ≡ false → answer_word script window r entry ≡ []
 unfolding answer_word
 no_answer script window r (Arrived q moment) e = refl
 no_answer script window r (Placed q at moment) e = refl
@@ -46,7 +46,7 @@ no_answer script window r (Rose d) e = refl
 no_answer script window r (Doomed q cause) e = refl
 no_answer script window r (Ended q end) e = refl
 
-no_end : (r : ℕ) (entry : Entry) → (told_of entry == r) ≡ false → end_in r entry ≡ None
+no_end : (r : ℕ) (entry : Entry) → (run_told_of entry == r) ≡ false → end_in r entry ≡ None
 no_end r (Arrived q moment) e = refl
 no_end r (Placed q at moment) e = refl
 no_end r (Did q c answer) e = refl
@@ -57,29 +57,29 @@ no_end r (Doomed q cause) e = refl
 no_end r (Ended q end) e = rw e refl
 
 -- the answers of a run stand among its own entries
-pub answer_words-own : (script : Script) (window : WindowText) (r : ℕ) (history : List Kept) → answer_words script window r (entries_of r history) ≡ answer_words script window r history
+pub answer_words-own : (script : Script) (window : WindowText) (r : ℕ) (history : List Kept) → answer_words script window r (entries_of_run r history) ≡ answer_words script window r history
 unfolding answer_words
-answer_words-own script window r history = flat_map-filter (λ kept. answer_word script window r kept.entry) (λ kept. told_of kept.entry == r) (λ kept e. no_answer script window r kept.entry e) history
+answer_words-own script window r history = flat_map-filter (λ kept. answer_word script window r kept.entry) (λ kept. run_told_of kept.entry == r) (λ kept e. no_answer script window r kept.entry e) history
 
 -- so does its end
-pub end_of-own : (r : ℕ) (history : List Kept) → end_of (entries_of r history) r ≡ end_of history r
-end_of-own r history = first_told-filter (end_in r) (λ kept. told_of kept.entry == r) (λ kept e. no_end r kept.entry e) history
+pub end_of-own : (r : ℕ) (history : List Kept) → end_of (entries_of_run r history) r ≡ end_of history r
+end_of-own r history = first_told-filter (end_in r) (λ kept. run_told_of kept.entry == r) (λ kept e. no_end r kept.entry e) history
 
-end_text-own : (script : Script) (window : WindowText) (r : ℕ) (history : List Kept) (end : Option End) → end_text script window (entries_of r history) r end ≡ end_text script window history r end
+end_text-own : (script : Script) (window : WindowText) (r : ℕ) (history : List Kept) (end : Option End) → end_text script window (entries_of_run r history) r end ≡ end_text script window history r end
 unfolding end_text
 end_text-own script window r history None = refl
 end_text-own script window r history (Some Committed) = ap (λ words. codes " committed" ++ words) (answer_words-own script window r history)
 end_text-own script window r history (Some (Aborted cause)) = refl
 
 -- the line of a run is told by its own entries
-pub run_line-own : (script : Script) (window : WindowText) (history : List Kept) (r routine : ℕ) → run_line script window (entries_of r history) r routine ≡ run_line script window history r routine
-unfolding run_line
+pub run_line-own : (script : Script) (window : WindowText) (history : List Kept) (r routine : ℕ) → line_of_run script window (entries_of_run r history) r routine ≡ line_of_run script window history r routine
+unfolding line_of_run
 run_line-own script window history r routine =
     ap (λ end. codes "run " ++ decimal r ++ codes " " ++ routine_name script routine ++ end ++ codes "\n")
-    (ap (λ end. end_text script window (entries_of r history) r end) (end_of-own r history) ∙ end_text-own script window r history (end_of history r))
+    (ap (λ end. end_text script window (entries_of_run r history) r end) (end_of-own r history) ∙ end_text-own script window r history (end_of history r))
 
 -- the line of a run is told by its part
-pub run_line-of_part : (script : Script) (window : WindowText) (history : List Kept) (parts : List (List Kept)) (i routine : ℕ) (part own : List Kept) → i < length parts → AreApart parts history → part ≡ get_or parts i part → own ≡ part → run_line script window own (i + 1) routine ≡ run_line script window history (i + 1) routine
+pub run_line-of_part : (script : Script) (window : WindowText) (history : List Kept) (parts : List (List Kept)) (i routine : ℕ) (part own : List Kept) → i < length parts → AreApart parts history → part ≡ get_or parts i part → own ≡ part → line_of_run script window own (i + 1) routine ≡ line_of_run script window history (i + 1) routine
 run_line-of_part script window history parts i routine part own within apart is same =
-    ap (λ entries. run_line script window entries (i + 1) routine) (same ∙ is ∙ get_or_default parts i part [] within ∙ apart i within)
+    ap (λ entries. line_of_run script window entries (i + 1) routine) (same ∙ is ∙ get_or_default parts i part [] within ∙ apart i within)
     ∙ run_line-own script window history (i + 1) routine

@@ -2,7 +2,7 @@
 -- They have each kind of entry, answer, cause and item, also those that no program writes yet.
 use Rattle.command_rules.specs.Rosters.{device_no, run_no}
 use Rattle.day_report.specs.Days.{abort_count, commit_count, day_text, day_text_from, head_text, total_text, window_lines, window_text, window_texts_from}
-use Rattle.day_report.specs.Lines.{window_line, time_text, four_digits, two_digits, trace_lines, trace_line, entry_text, run_lines, run_line, end_text, answer_words, answer_word, order_line, item_words, item_word, home_line, home_words, home_word}
+use Rattle.day_report.specs.Lines.{window_line, time_text, four_digits, two_digits, trace_lines, trace_line, entry_text, run_lines, line_of_run, end_text, answer_words, answer_word, order_line, item_words, item_word, home_line, home_words, home_word}
 use Rattle.day_report.specs.Words.{device_name, device_of, states_of, routine_name, value_text, answer_text, cause_text}
 use Rattle.history_book.specs.Histories.{kept_by}
 use Rattle.history_book.specs.declared.entries.Cause.TheVariants.{DownAtEnd, Lost, MustDown, Refuted, Revoked}
@@ -100,7 +100,7 @@ released_lamp_overwritten : day_text (script home (named (codes "a") (on 0 (Set 
     ++ codes "order 1 2\n"
     ++ codes "home lamp=off fan=on oven=off heat=18\n"
     ++ codes "total windows 1 runs 2 committed 2 aborted 0\n"
-unfolding day_text_from head_text total_text window_text window_texts_from window_lines commit_count abort_count window_line time_text four_digits two_digits trace_lines trace_line entry_text run_lines run_line end_text answer_words answer_word order_line item_words item_word home_line home_words home_word device_name device_of states_of routine_name value_text answer_text cause_text digits
+unfolding day_text_from head_text total_text window_text window_texts_from window_lines commit_count abort_count window_line time_text four_digits two_digits trace_lines trace_line entry_text run_lines line_of_run end_text answer_words answer_word order_line item_words item_word home_line home_words home_word device_name device_of states_of routine_name value_text answer_text cause_text digits
 released_lamp_overwritten = refl
 
 -- a device falls and rises, a run skips it, and a check that finds another value aborts
@@ -126,7 +126,7 @@ skipped_under_live_undo : day_text (script home (named (codes "a") (on 3 (Set 20
     ++ codes "order fail(heat) 2 back(heat)\n"
     ++ codes "home lamp=off fan=off oven=off heat=18\n"
     ++ codes "total windows 1 runs 2 committed 1 aborted 1\n"
-unfolding day_text_from head_text total_text window_text window_texts_from window_lines commit_count abort_count window_line time_text four_digits two_digits trace_lines trace_line entry_text run_lines run_line end_text answer_words answer_word order_line item_words item_word home_line home_words home_word device_name device_of states_of routine_name value_text answer_text cause_text digits
+unfolding day_text_from head_text total_text window_text window_texts_from window_lines commit_count abort_count window_line time_text four_digits two_digits trace_lines trace_line entry_text run_lines line_of_run end_text answer_words answer_word order_line item_words item_word home_line home_words home_word device_name device_of states_of routine_name value_text answer_text cause_text digits
 skipped_under_live_undo = refl
 
 -- a strict run ends with a device down, and one of its undos is dropped
@@ -147,7 +147,7 @@ down_at_end : day_text (script home (named (codes "a") (on 0 (Set 1) âˆ· on 1 (S
     ++ codes "order fail(lamp)\n"
     ++ codes "home lamp=off! fan=off oven=off heat=18\n"
     ++ codes "total windows 1 runs 1 committed 0 aborted 1\n"
-unfolding day_text_from head_text total_text window_text window_texts_from window_lines commit_count abort_count window_line time_text four_digits two_digits trace_lines trace_line entry_text run_lines run_line end_text answer_words answer_word order_line item_words item_word home_line home_words home_word device_name device_of states_of routine_name value_text answer_text cause_text digits
+unfolding day_text_from head_text total_text window_text window_texts_from window_lines commit_count abort_count window_line time_text four_digits two_digits trace_lines trace_line entry_text run_lines line_of_run end_text answer_words answer_word order_line item_words item_word home_line home_words home_word device_name device_of states_of routine_name value_text answer_text cause_text digits
 down_at_end = refl
 
 -- a device that is down is skipped by one run, and aborts the other, which must set it
@@ -160,7 +160,7 @@ skipped_and_must_down : day_text (script home (named (codes "a") (on 0 (Set 1) â
     ++ codes "order fail(lamp) 1\n"
     ++ codes "home lamp=off! fan=on oven=off heat=18\n"
     ++ codes "total windows 1 runs 2 committed 1 aborted 1\n"
-unfolding day_text_from head_text total_text window_text window_texts_from window_lines commit_count abort_count window_line time_text four_digits two_digits trace_lines trace_line entry_text run_lines run_line end_text answer_words answer_word order_line item_words item_word home_line home_words home_word device_name device_of states_of routine_name value_text answer_text cause_text digits
+unfolding day_text_from head_text total_text window_text window_texts_from window_lines commit_count abort_count window_line time_text four_digits two_digits trace_lines trace_line entry_text run_lines line_of_run end_text answer_words answer_word order_line item_words item_word home_line home_words home_word device_name device_of states_of routine_name value_text answer_text cause_text digits
 skipped_and_must_down = refl
 
 -- a lease is overdue
@@ -173,7 +173,7 @@ lease_overdue : day_text (script home (named (codes "a") (on 0 (Set 1) âˆ· on 2 
     ++ codes "order 1\n"
     ++ codes "home lamp=on fan=off oven=on heat=18\n"
     ++ codes "total windows 1 runs 2 committed 1 aborted 1\n"
-unfolding day_text_from head_text total_text window_text window_texts_from window_lines commit_count abort_count window_line time_text four_digits two_digits trace_lines trace_line entry_text run_lines run_line end_text answer_words answer_word order_line item_words item_word home_line home_words home_word device_name device_of states_of routine_name value_text answer_text cause_text digits
+unfolding day_text_from head_text total_text window_text window_texts_from window_lines commit_count abort_count window_line time_text four_digits two_digits trace_lines trace_line entry_text run_lines line_of_run end_text answer_words answer_word order_line item_words item_word home_line home_words home_word device_name device_of states_of routine_name value_text answer_text cause_text digits
 lease_overdue = refl
 
 -- a device is lost between two accesses of a run
@@ -185,7 +185,7 @@ lost_between_accesses : day_text (script home (named (codes "a") (on 0 (Set 1) â
     ++ codes "order fail(lamp)\n"
     ++ codes "home lamp=off! fan=off oven=off heat=18\n"
     ++ codes "total windows 1 runs 1 committed 0 aborted 1\n"
-unfolding day_text_from head_text total_text window_text window_texts_from window_lines commit_count abort_count window_line time_text four_digits two_digits trace_lines trace_line entry_text run_lines run_line end_text answer_words answer_word order_line item_words item_word home_line home_words home_word device_name device_of states_of routine_name value_text answer_text cause_text digits
+unfolding day_text_from head_text total_text window_text window_texts_from window_lines commit_count abort_count window_line time_text four_digits two_digits trace_lines trace_line entry_text run_lines line_of_run end_text answer_words answer_word order_line item_words item_word home_line home_words home_word device_name device_of states_of routine_name value_text answer_text cause_text digits
 lost_between_accesses = refl
 
 -- a value is stored and loaded
@@ -197,7 +197,7 @@ store_and_load : day_text (script home (named (codes "a") (on 3 Store âˆ· on 3 L
     ++ codes "order 1\n"
     ++ codes "home lamp=off fan=off oven=on heat=10\n"
     ++ codes "total windows 1 runs 1 committed 1 aborted 0\n"
-unfolding day_text_from head_text total_text window_text window_texts_from window_lines commit_count abort_count window_line time_text four_digits two_digits trace_lines trace_line entry_text run_lines run_line end_text answer_words answer_word order_line item_words item_word home_line home_words home_word device_name device_of states_of routine_name value_text answer_text cause_text digits
+unfolding day_text_from head_text total_text window_text window_texts_from window_lines commit_count abort_count window_line time_text four_digits two_digits trace_lines trace_line entry_text run_lines line_of_run end_text answer_words answer_word order_line item_words item_word home_line home_words home_word device_name device_of states_of routine_name value_text answer_text cause_text digits
 store_and_load = refl
 
 -- the weak model claims no order
@@ -211,7 +211,7 @@ no_order_under_the_weak_model : day_text (script home (named (codes "a") (on 0 (
     ++ codes "order unclaimed\n"
     ++ codes "home lamp=off fan=on oven=off heat=25\n"
     ++ codes "total windows 1 runs 3 committed 3 aborted 0\n"
-unfolding day_text_from head_text total_text window_text window_texts_from window_lines commit_count abort_count window_line time_text four_digits two_digits trace_lines trace_line entry_text run_lines run_line end_text answer_words answer_word order_line item_words item_word home_line home_words home_word device_name device_of states_of routine_name value_text answer_text cause_text digits
+unfolding day_text_from head_text total_text window_text window_texts_from window_lines commit_count abort_count window_line time_text four_digits two_digits trace_lines trace_line entry_text run_lines line_of_run end_text answer_words answer_word order_line item_words item_word home_line home_words home_word device_name device_of states_of routine_name value_text answer_text cause_text digits
 no_order_under_the_weak_model = refl
 
 -- nobody runs in a home without devices

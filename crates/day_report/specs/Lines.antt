@@ -80,13 +80,13 @@ end_text script window history r (Some Committed) = codes " committed" ++ answer
 end_text script window history r (Some (Aborted cause)) = codes " aborted " ++ cause_text script window r cause
 
 -- the line of a run: its number, its routine, its end
-unfoldable pub run_line : Script → WindowText → List Kept → ℕ → ℕ → List ℕ
-run_line script window history r routine =
+unfoldable pub line_of_run : Script → WindowText → List Kept → ℕ → ℕ → List ℕ
+line_of_run script window history r routine =
     codes "run " ++ decimal r ++ codes " " ++ routine_name script routine ++ end_text script window history r (end_of history r) ++ codes "\n"
 
 -- a line for each run of the window
 unfoldable pub run_lines : Script → WindowText → List Kept → List ℕ
-run_lines script window history = flat_map (λ (r, run). run_line script window history r run.routine) (enumerate_from 1 window.runs.items)
+run_lines script window history = flat_map (λ (r, run). line_of_run script window history r run.routine) (enumerate_from 1 window.runs.items)
 
 -- the word for a list with nothing in it
 abbrev pub none_word : {A : Type 0} → List A → List ℕ

@@ -182,7 +182,7 @@ fn push_end(
 }
 
 /// Appends the line of a run: its number, its routine and its end.
-#[tactic(auto, unfolding(crate::specs::Lines::run_line))]
+#[tactic(auto, unfolding(crate::specs::Lines::line_of_run))]
 fn push_run(
     text: &mut String,
     script: &Script,
@@ -191,7 +191,7 @@ fn push_run(
     run: u64,
     routine: u32,
 ) -> Result<(), AllocError>
-    ensures { OnOk result (string_bytes text.new ≡ string_bytes text.old ++ said.run_line script.now window.now history.now run routine) }
+    ensures { OnOk result (string_bytes text.new ≡ string_bytes text.old ++ said.line_of_run script.now window.now history.now run routine) }
 {
     write!(text, "run {run} {}", routine_name(script, routine))?;
     push_end(text, script, window, history, run)?;

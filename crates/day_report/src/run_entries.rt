@@ -1,6 +1,6 @@
 //! A window's history, apart by the runs of which its entries tell.
 ghost use Rattle.std.specs.Prelude.{◌≡◌, ◌++◌, ◌∷◌, [], IfOk, OnOk, length};
-ghost use Rattle.day_report.specs.RunEntries.{AreApart, told_of};
+ghost use Rattle.day_report.specs.RunEntries.{AreApart, run_told_of};
 
 use history_book::{Entry, Kept};
 use std::alloc::{AllocError, Global};
@@ -48,7 +48,7 @@ impl RunEntries {
 
 /// The run of whose answers or of whose end the entry tells; 0 where it tells of no such thing.
 fn told_of(entry: Entry) -> u32
-    ensures { result ≡ told_of entry }
+    ensures { result ≡ run_told_of entry }
 {
     match entry {
         Entry::Did(run, _, _) => run.0,

@@ -1,5 +1,5 @@
 //! A day of rooms whose hubs work at once.
-use crate::runs::{Part, PlayingBench, Scene, has_line, owned, run};
+use crate::runs::{FirstCall, PlayingBench, Scene, has_line, owned, run};
 use day_clock::{BytesSink, BytesSource, Clock, StdClock};
 use device_states::Bench;
 use home_types::{Bytes, List, NoMemory};
@@ -24,8 +24,8 @@ fn two_rooms_meet(rt: HostRuntime) {
     let scene = Scene::new(&rt);
     let mut bench = PlayingBench {
         parts: [
-            Some(Part::meeting(0, 1)),
-            Some(Part::meeting(1, 0)),
+            Some(FirstCall::meeting(0, 1)),
+            Some(FirstCall::meeting(1, 0)),
             None,
             None,
         ],
@@ -43,9 +43,9 @@ fn two_runs_of_one_hub_do_not(rt: HostRuntime) {
     let scene = Scene::new(&rt);
     let mut bench = PlayingBench {
         parts: [
-            Some(Part::meeting(0, 1)),
+            Some(FirstCall::meeting(0, 1)),
             None,
-            Some(Part::meeting(1, 0)),
+            Some(FirstCall::meeting(1, 0)),
             None,
         ],
         scene: &scene,

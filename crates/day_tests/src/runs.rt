@@ -76,8 +76,8 @@ fn two_meet(rt: HostRuntime) {
     let mut bench = PlayingBench {
         parts: [
             None,
-            Some(Part::meeting(0, 1)),
-            Some(Part::meeting(1, 0)),
+            Some(FirstCall::meeting(0, 1)),
+            Some(FirstCall::meeting(1, 0)),
             None,
         ],
         scene: &scene,
@@ -97,9 +97,9 @@ fn a_lease_is_revoked_while_nobody_else_steps(rt: HostRuntime) {
         let scene = Scene::new(&rt);
         let mut bench = PlayingBench {
             parts: [
-                Some(Part::waiting(0)),
-                Some(Part::meeting(0, 1)),
-                Some(Part::working(1, DRUM_MS)),
+                Some(FirstCall::waiting(0)),
+                Some(FirstCall::meeting(0, 1)),
+                Some(FirstCall::working(1, DRUM_MS)),
                 None,
             ],
             scene: &scene,
@@ -227,7 +227,7 @@ impl<T: std::time::Clock> Scene<StdClock<T>> {
 
 impl<C: Clock> Scene<C> {
     /// Whether the flag that the part waits for was raised in time.
-    fn play(&self, part: Part) -> bool {
+    fn play(&self, part: FirstCall) -> bool {
         if let Some(own) = part.raises {
             self.raise(own);
         }
@@ -251,31 +251,31 @@ impl<C: Clock> Scene<C> {
 /// What a device does in its first call, before it answers: it raises its own flag, works for so many ms, and waits for
 /// another's flag. Flags count from 0.
 #[derive(Clone, Copy)]
-pub struct Part {
+pub struct FirstCall {
     raises: Option<usize>,
     awaits: Option<usize>,
     ms: u64,
 }
 
-impl Part {
-    pub fn meeting(own: usize, other: usize) -> Part {
-        Part {
+impl FirstCall {
+    pub fn meeting(own: usize, other: usize) -> FirstCall {
+        FirstCall {
             raises: Some(own),
             awaits: Some(other),
             ms: 0,
         }
     }
 
-    fn waiting(other: usize) -> Part {
-        Part {
+    fn waiting(other: usize) -> FirstCall {
+        FirstCall {
             raises: None,
             awaits: Some(other),
             ms: 0,
         }
     }
 
-    fn working(own: usize, ms: u64) -> Part {
-        Part {
+    fn working(own: usize, ms: u64) -> FirstCall {
+        FirstCall {
             raises: Some(own),
             awaits: None,
             ms,
@@ -289,7 +289,7 @@ impl Part {
 pub struct Playing<'a, C> {
     number: DeviceNo,
     value: Value,
-    part: Option<Part>,
+    part: Option<FirstCall>,
     scene: &'a Scene<C>,
     answered: u64,
     probed: u64,
@@ -375,7 +375,7 @@ fn work_for<C: Clock>(clock: &C, ms: u64) {
 /// The bench of a home of four devices with these parts.
 #[derive(Drop)]
 pub struct PlayingBench<'a, C> {
-    pub parts: [Option<Part>; 4],
+    pub parts: [Option<FirstCall>; 4],
     pub scene: &'a Scene<C>,
 }
 

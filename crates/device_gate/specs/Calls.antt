@@ -61,8 +61,8 @@ turns_of (Probe None) = 0
 turns_of (Probe (Some v)) = 1
 
 -- how many drives and senses the device answered
-abbrev pub answered : Task → Told → ℕ
-answered task told = if has_died told then 0 else turns_of task
+abbrev pub answered_turns : Task → Told → ℕ
+answered_turns task told = if has_died told then 0 else turns_of task
 
 -- how many probes were made
 abbrev pub probed : Task → ℕ

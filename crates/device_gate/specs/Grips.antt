@@ -1,5 +1,5 @@
 -- Grips: devices that are out, and how they are.
-use Rattle.device_gate.specs.Calls.{answered, failed, is_counted_up, may_tell, probed, stands_after}
+use Rattle.device_gate.specs.Calls.{answered_turns, failed, is_counted_up, may_tell, probed, stands_after}
 use Rattle.device_gate.specs.declared.slips.Slip.{Slip}
 use Rattle.device_gate.specs.declared.slips.Task.{Task}
 use Rattle.device_gate.specs.declared.slips.Told.{Told}
@@ -27,6 +27,6 @@ pub record WasCalled (told : Told) (task : Task) (slip : Slip) (tag stands turns
   pub is_device : tag ≡ slip.device.0
   pub fits : IsTrue (may_tell task slip.stood told)
   pub stands_there : IfSome (stands_after task slip.stood told) (λ v. stands ≡ v)
-  pub turns_rose : turns ≡ slip.turns + answered task told
+  pub turns_rose : turns ≡ slip.turns + answered_turns task told
   pub probes_rose : probes ≡ slip.probes + probed task
   pub faults_rose : faults ≡ slip.faults + failed told

@@ -1,7 +1,7 @@
 //! The grip of a device: made ready for one task, done by one call, spent by giving it back.
 ghost use Rattle.std.specs.Prelude.{◌≡◌, ◌+◌, ℕ, IfSome, IsTrue};
 ghost use Rattle.device_states.specs.Devices.{HasRoom};
-ghost use Rattle.device_gate.specs.Calls.{answered, failed, may_tell, probed, stands_after};
+ghost use Rattle.device_gate.specs.Calls.{answered_turns, failed, may_tell, probed, stands_after};
 ghost use Rattle.device_gate.specs.Grips.{Gripped, IsAsLeft, WasCalled};
 ghost use Rattle.device_gate.specs.declared.slips.Slip.{Slip};
 ghost use Rattle.device_gate.specs.declared.slips.Task.{Task};
@@ -179,7 +179,7 @@ fn call<D: Device>(device: &mut D, task: Task) -> Told
     requires room { HasRoom (D.turns device.old) (D.probes device.old + 1) (D.faults device.old) }
     ensures told { IsTrue (may_tell task (D.stands device.old) result) }
     ensures stands { IfSome (stands_after task (D.stands device.old) result) (λ v. D.stands device.new ≡ v) }
-    ensures turns { D.turns device.new ≡ D.turns device.old + answered task result }
+    ensures turns { D.turns device.new ≡ D.turns device.old + answered_turns task result }
     ensures probes { D.probes device.new ≡ D.probes device.old + probed task }
     ensures faults { D.faults device.new ≡ D.faults device.old + failed result }
     ensures tag { D.tag device.new ≡ D.tag device.old }
@@ -201,7 +201,7 @@ fn drive<D: Device>(device: &mut D, value: Value) -> Told
     requires room { HasRoom (D.turns device.old) (D.probes device.old) (D.faults device.old) }
     ensures told { IsTrue (may_tell (Task.Drive value) (D.stands device.old) result) }
     ensures stands { IfSome (stands_after (Task.Drive value) (D.stands device.old) result) (λ v. D.stands device.new ≡ v) }
-    ensures turns { D.turns device.new ≡ D.turns device.old + answered (Task.Drive value) result }
+    ensures turns { D.turns device.new ≡ D.turns device.old + answered_turns (Task.Drive value) result }
     ensures probes { D.probes device.new ≡ D.probes device.old }
     ensures faults { D.faults device.new ≡ D.faults device.old + failed result }
     ensures tag { D.tag device.new ≡ D.tag device.old }
@@ -218,7 +218,7 @@ fn probe<D: Device>(device: &mut D, restored: Option<Value>) -> Told
     requires room { HasRoom (D.turns device.old) (D.probes device.old + 1) (D.faults device.old) }
     ensures told { IsTrue (may_tell (Task.Probe restored) (D.stands device.old) result) }
     ensures stands { IfSome (stands_after (Task.Probe restored) (D.stands device.old) result) (λ v. D.stands device.new ≡ v) }
-    ensures turns { D.turns device.new ≡ D.turns device.old + answered (Task.Probe restored) result }
+    ensures turns { D.turns device.new ≡ D.turns device.old + answered_turns (Task.Probe restored) result }
     ensures probes { D.probes device.new ≡ D.probes device.old + 1 }
     ensures faults { D.faults device.new ≡ D.faults device.old + failed result }
     ensures tag { D.tag device.new ≡ D.tag device.old }

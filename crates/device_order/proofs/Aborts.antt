@@ -6,7 +6,7 @@ use Rattle.device_order.proofs.Monotone.{ends_below}
 use Rattle.device_order.proofs.Parts.{Cut, cut}
 use Rattle.device_order.specs.Invariant.{DeviceFits, DeviceInvariant}
 use Rattle.device_order.specs.Records.{DeviceRecord, walk_start}
-use Rattle.device_order.specs.Usages.{has_effect, has_grip, is_doomed}
+use Rattle.device_order.specs.Usages.{holds_grip, is_in_effect, stage_is_doomed}
 use Rattle.device_order.specs.Walks.{WalkHolds, WalkState, after_usage, has, walk_end}
 use Rattle.device_order.specs.declared.records.OrderEntry.TheVariants.{Used}
 use Rattle.device_order.specs.declared.records.OrderEntry.{OrderEntry}
@@ -17,13 +17,13 @@ use Rattle.std.specs.Prelude.{◌&&◌, not}
 
 -- an aborted run is gone
 
-gone_below : (s : WalkState) (c : Usage) → is_doomed c.stage ≡ true → has_grip c ≡ false → Below (after_usage s c) s
+gone_below : (s : WalkState) (c : Usage) → stage_is_doomed c.stage ≡ true → holds_grip c ≡ false → Below (after_usage s c) s
 gone_below s c n h = grind (arith, common_steps)
 
-gone_alike : (s : WalkState) (c : Usage) → has_grip c ≡ false → has_effect c ≡ false → Alike (after_usage s c) s
+gone_alike : (s : WalkState) (c : Usage) → holds_grip c ≡ false → is_in_effect c ≡ false → Alike (after_usage s c) s
 gone_alike s c h n = grind (arith, common_steps)
 
-pub abort : (d : DeviceRecord) (a b : List OrderEntry) (c : Usage) → d.order ≡ a ++ Used c ∷ b → is_doomed c.stage ≡ true → has_grip c ≡ false → (has_effect c && not (has has_effect b)) ≡ false → DeviceInvariant d
+pub abort : (d : DeviceRecord) (a b : List OrderEntry) (c : Usage) → d.order ≡ a ++ Used c ∷ b → stage_is_doomed c.stage ≡ true → holds_grip c ≡ false → (is_in_effect c && not (has is_in_effect b)) ≡ false → DeviceInvariant d
     → DeviceInvariant (record d { order = a ++ b })
 abort d a b c at n h q i =
     let z : WalkState = walk_start d.first_up d.first in
@@ -33,13 +33,13 @@ abort d a b c at n h q i =
     record {
       walk = walk_join z a b k.front u.walk;
       ends = subst (λ x. DeviceFits x d.up d.held d.probe) (sym (end_join z a b))
-          (ends_below (walk_end (after_usage s c) b) (walk_end s b) d.up d.held d.probe u.ends (like s (has has_effect b) refl)
+          (ends_below (walk_end (after_usage s c) b) (walk_end s b) d.up d.held d.probe u.ends (like s (has is_in_effect b) refl)
           (subst (λ x. DeviceFits x d.up d.held d.probe) k.ends (subst (λ x. DeviceFits (walk_end z x) d.up d.held d.probe) at i.ends)));
     }
   where
     left : (x y : Bool) → (x && not y) ≡ false → y ≡ false → x ≡ false
     left x y q e = grind (arith, common_steps)
 
-    like : (s : WalkState) (x : Bool) → has has_effect b ≡ x → Alike (walk_end (after_usage s c) b) (walk_end s b)
+    like : (s : WalkState) (x : Bool) → has is_in_effect b ≡ x → Alike (walk_end (after_usage s c) b) (walk_end s b)
     like s true e = overwritten (after_usage s c) s b e
-    like s false e = alike (after_usage s c) s b (gone_alike s c h (left (has_effect c) (has has_effect b) q e))
+    like s false e = alike (after_usage s c) s b (gone_alike s c h (left (is_in_effect c) (has is_in_effect b) q e))

@@ -1,6 +1,6 @@
 -- A walk of which less is seen than of another one.
-use Rattle.device_order.specs.Usages.{awaits_first, has_committed_write, has_live_write, is_open, is_restart, spans_up}
-use Rattle.device_order.specs.Walks.{UsageFits, WalkHolds, WalkState, after_usage, is_command_out, is_home, out_after, walk_end}
+use Rattle.device_order.specs.Usages.{awaits_first, has_committed_write, has_uncommitted_write, is_restart, spans_up, stage_is_open}
+use Rattle.device_order.specs.Walks.{UsageFits, WalkHolds, WalkState, after_usage, grip_out_after, is_command_out, is_home, walk_end}
 use Rattle.device_order.specs.declared.records.OrderEntry.TheVariants.{Occurred, Used}
 use Rattle.device_order.specs.declared.records.OrderEntry.{OrderEntry}
 use Rattle.device_order.specs.declared.records.Usage.{Usage}
@@ -46,11 +46,11 @@ below_next : (s t : WalkState) (c : Usage) → Below s t → Below (after_usage 
 below_next s t c r = record {
   up = r.up;
   value = below_value s t c r;
-  opened = λ h. lower_or s.opened t.opened (is_open c.stage) r.opened h;
+  opened = λ h. lower_or s.opened t.opened (stage_is_open c.stage) r.opened h;
   waiting = λ h. lower_or s.waiting t.waiting (awaits_first c) r.waiting h;
   spanned = λ h. lower_or s.spanned t.spanned (spans_up c) r.spanned h;
-  exposed = λ h. lower_and (has_committed_write c) s.exposed t.exposed (has_live_write c) r.exposed h;
-  out = ap (out_after c.grip (not (is_some c.wrote))) r.out;
+  exposed = λ h. lower_and (has_committed_write c) s.exposed t.exposed (has_uncommitted_write c) r.exposed h;
+  out = ap (grip_out_after c.grip (not (is_some c.wrote))) r.out;
 }
   where
     lower_or : (a b x : Bool) → (b ≡ true → a ≡ true) → (b || x) ≡ true → (a || x) ≡ true

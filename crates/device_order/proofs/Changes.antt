@@ -11,14 +11,14 @@ use Rattle.device_order.proofs.Undos.{undo_go, drop_undo, undo_ok, undo_dead}
 use Rattle.device_order.specs.Changes.{CommandOut, DeviceChange, DeviceRestarted, DownAgain, DownFirst, FirstAccessDied, GuardSkipped, LaterAccessDied, ProbeDied, ProbeDiedUnderRun, ProbeFoundDown, ProbeFoundUp, ProbeOut, ReadAnswered, RunAborted, RunCommitted, RunDoomed, RunPlaced, UndoAnswered, UndoDied, UndoDropped, UndoOut, WriteAnswered}
 use Rattle.device_order.specs.Invariant.{DeviceInvariant}
 use Rattle.device_order.specs.Records.{DeviceRecord}
-use Rattle.device_order.specs.Usages.{is_command}
+use Rattle.device_order.specs.Usages.{holds_command}
 use Rattle.std.proofs.Common.{◌∙◌, ap}
 
 -- each kind of change keeps the invariant
 pub keeps : (d e : DeviceRecord) → DeviceChange d e → DeviceInvariant d → DeviceInvariant e
 keeps d _ (RunPlaced a b at n) i = place d a b at n i
 keeps d _ (CommandOut a b c g at p h u v o w q) i = go d a b c g at p h u v o w (λ n. settled_front d a ∙ q n) i
-keeps d _ (WriteAnswered a b c v st at g l) i = write_ok d a b c v st at (ap is_command g) l i
+keeps d _ (WriteAnswered a b c v st at g l) i = write_ok d a b c v st at (ap holds_command g) l i
 keeps d _ (ReadAnswered a b c st at g l) i = read_ok d a b c st at g l i
 keeps d _ (FirstAccessDied a b c st h at g v l) i = dead_first d a b c st h at g v l i
 keeps d _ (LaterAccessDied a b c st h at g v l) i = dead_later d a b c st h at g l i

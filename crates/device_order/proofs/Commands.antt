@@ -4,23 +4,23 @@ use Rattle.device_order.proofs.Lists.{has_front, has_back, has_head, opened_end}
 use Rattle.device_order.proofs.Parts.{Cut, cut, Put, put}
 use Rattle.device_order.proofs.Suffix.{Idle, blocks}
 use Rattle.device_order.specs.Invariant.{DeviceFits, DeviceInvariant}
-use Rattle.device_order.specs.Records.{DeviceRecord, IsHome, state_after, walk_start}
-use Rattle.device_order.specs.declared.records.Grip.{Grip}
-use Rattle.device_order.specs.Usages.{is_command, is_read, has_grip, has_pending, is_down}
+use Rattle.device_order.specs.Records.{DeviceRecord, NothingIsOut, walk_after, walk_start}
+use Rattle.device_order.specs.declared.records.HeldGrip.{HeldGrip}
+use Rattle.device_order.specs.Usages.{holds_command, is_read, holds_grip, has_pending, is_seen_down}
 use Rattle.device_order.specs.Walks.{Home, UsageFits, WalkHolds, WalkState, after_usage, has, walk_end}
 use Rattle.device_order.specs.declared.records.OrderEntry.TheVariants.{Used}
 use Rattle.device_order.specs.declared.records.OrderEntry.{OrderEntry}
 use Rattle.device_order.specs.declared.records.Probe.TheVariants.{Unprobed}
-use Rattle.device_order.specs.declared.records.Stage.TheVariants.{Pending}
+use Rattle.device_order.specs.declared.records.RunStage.TheVariants.{Pending}
 use Rattle.device_order.specs.declared.records.Usage.{Usage}
 use Rattle.std.proofs.Common.{◌≡◌, ℕ, true, false, List, ◌∷◌, ◌++◌, arith, sym, subst}
 use Rattle.std.proofs.lemmas.Grind.{common_steps}
 use Rattle.std.specs.Prelude.{◌&&◌, not, is_some}
 
-go_fits : (s : WalkState) (c : Usage) (g : Grip) → is_command g ≡ true → c.stage ≡ Pending → is_down c.view ≡ false → s.opened ≡ false → s.out ≡ Home → UsageFits s c → UsageFits s (record c { grip = g })
+go_fits : (s : WalkState) (c : Usage) (g : HeldGrip) → holds_command g ≡ true → c.stage ≡ Pending → is_seen_down c.view ≡ false → s.opened ≡ false → s.out ≡ Home → UsageFits s c → UsageFits s (record c { grip = g })
 go_fits s c g w p v o h f = grind (arith, common_steps)
 
-go_ends : (s e e' : WalkState) (c : Usage) (g : Grip) (held : ℕ) → is_command g ≡ true → c.stage ≡ Pending → has_grip c ≡ false → s.out ≡ Home
+go_ends : (s e e' : WalkState) (c : Usage) (g : HeldGrip) (held : ℕ) → holds_command g ≡ true → c.stage ≡ Pending → holds_grip c ≡ false → s.out ≡ Home
     → ((is_read g && not (is_some c.wrote)) ≡ true → s.settled ≡ true)
     → Idle (after_usage s c) e → Idle (after_usage s (record c { grip = g })) e' → e'.up ≡ e.up → DeviceFits e true held Unprobed → DeviceFits e' true held Unprobed
 go_ends s e e' c g held w p n h q i j u x = grind (arith, common_steps)
@@ -29,14 +29,14 @@ pub open_blocks : (s : WalkState) (c : Usage) → c.stage ≡ Pending → blocks
 open_blocks s c h = grind (arith, common_steps)
 
 -- no grip is out in the front of an order where none is out at all
-pub home_front : (d : DeviceRecord) (a x : List OrderEntry) → d.order ≡ a ++ x → IsHome d → (state_after d a).out ≡ Home
-home_front d a x at h = out_free (walk_start d.first_up d.first) a (has_front has_grip a x (subst (λ y. has has_grip y ≡ false) at h.free))
+pub home_front : (d : DeviceRecord) (a x : List OrderEntry) → d.order ≡ a ++ x → NothingIsOut d → (walk_after d a).out ≡ Home
+home_front d a x at h = out_free (walk_start d.first_up d.first) a (has_front holds_grip a x (subst (λ y. has holds_grip y ≡ false) at h.free))
 
-pub shut_front : (d : DeviceRecord) (a : List OrderEntry) → has has_pending a ≡ false → (state_after d a).opened ≡ false
+pub shut_front : (d : DeviceRecord) (a : List OrderEntry) → has has_pending a ≡ false → (walk_after d a).opened ≡ false
 shut_front d a h = opened_end (walk_start d.first_up d.first) a h
 
-pub go : (d : DeviceRecord) (a b : List OrderEntry) (c : Usage) (g : Grip) → d.order ≡ a ++ Used c ∷ b → c.stage ≡ Pending → IsHome d → d.up ≡ true
-    → is_down c.view ≡ false → has has_pending a ≡ false → is_command g ≡ true → ((is_read g && not (is_some c.wrote)) ≡ true → (state_after d a).settled ≡ true)
+pub go : (d : DeviceRecord) (a b : List OrderEntry) (c : Usage) (g : HeldGrip) → d.order ≡ a ++ Used c ∷ b → c.stage ≡ Pending → NothingIsOut d → d.up ≡ true
+    → is_seen_down c.view ≡ false → has has_pending a ≡ false → holds_command g ≡ true → ((is_read g && not (is_some c.wrote)) ≡ true → (walk_after d a).settled ≡ true)
     → DeviceInvariant d → DeviceInvariant (record d { order = a ++ Used (record c { grip = g }) ∷ b })
 go d a b c g at p home up v o w q i =
     let z : WalkState = walk_start d.first_up d.first in
@@ -44,7 +44,7 @@ go d a b c g at p home up v o w q i =
     let k : Cut z a c b = cut z a c b (subst (λ x. WalkHolds z x) at i.walk) in
     let out : (walk_end z a).out ≡ Home = home_front d a (Used c ∷ b) at home in
     let m : Put z a c c' b = put z a c c' b k (open_blocks (walk_end z a) c p) (go_fits (walk_end z a) c g w p v (shut_front d a o) out k.fits) (λ h. h) in
-    let free : has_grip c ≡ false = has_head has_grip c b (has_back has_grip a (Used c ∷ b) (subst (λ y. has has_grip y ≡ false) at home.free)) in
+    let free : holds_grip c ≡ false = has_head holds_grip c b (has_back holds_grip a (Used c ∷ b) (subst (λ y. has holds_grip y ≡ false) at home.free)) in
     let e : DeviceFits (walk_end z (a ++ Used c ∷ b)) true d.held Unprobed = subst (λ x. DeviceFits (walk_end z (a ++ Used c ∷ b)) x d.held Unprobed) up (subst (λ x. DeviceFits (walk_end z (a ++ Used c ∷ b)) d.up d.held x) home.unprobed (subst (λ x. DeviceFits (walk_end z x) d.up d.held d.probe) at i.ends)) in
     record {
       walk = m.walk;

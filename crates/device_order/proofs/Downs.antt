@@ -9,15 +9,15 @@ use Rattle.device_order.proofs.Parts.{Cut, cut, Put, put}
 use Rattle.device_order.proofs.Suffix.{Idle}
 use Rattle.device_order.specs.Changes.{IsAnswered}
 use Rattle.device_order.specs.Invariant.{DeviceFits, DeviceInvariant}
-use Rattle.device_order.specs.Records.{DeviceRecord, IsHome, walk_start}
-use Rattle.device_order.specs.Usages.{awaits_first, has_grip, has_pending, is_open, is_up}
+use Rattle.device_order.specs.Records.{DeviceRecord, NothingIsOut, walk_start}
+use Rattle.device_order.specs.Usages.{awaits_first, has_pending, holds_grip, is_up, stage_is_open}
 use Rattle.device_order.specs.Walks.{Home, UsageFits, WalkHolds, WalkState, after_usage, has, walk_end}
 use Rattle.device_order.specs.declared.records.OrderEntry.TheVariants.{Used}
 use Rattle.device_order.specs.declared.records.OrderEntry.{OrderEntry}
 use Rattle.device_order.specs.declared.records.Probe.TheVariants.{Unprobed}
 use Rattle.device_order.specs.declared.records.Probe.{Probe}
-use Rattle.device_order.specs.declared.records.Stage.TheVariants.{Pending}
-use Rattle.device_order.specs.declared.records.Stage.{Stage}
+use Rattle.device_order.specs.declared.records.RunStage.TheVariants.{Pending}
+use Rattle.device_order.specs.declared.records.RunStage.{RunStage}
 use Rattle.device_order.specs.declared.records.Usage.{Usage}
 use Rattle.home_types.specs.declared.commands.View.TheVariants.{Down}
 use Rattle.std.proofs.Common.{◌≡◌, ℕ, Bool, true, false, List, ◌∷◌, ◌++◌, arith, refl, ◌∙◌, sym, subst, Some}
@@ -26,31 +26,31 @@ use Rattle.std.specs.Prelude.{◌&&◌}
 
 -- a command is answered Down with no call
 
-again_fits : (s : WalkState) (c : Usage) (st : Stage) → c.stage ≡ Pending → c.view ≡ Some Down → IsAnswered c.stage st → UsageFits s c → UsageFits s (record c { stage = st })
+again_fits : (s : WalkState) (c : Usage) (st : RunStage) → c.stage ≡ Pending → c.view ≡ Some Down → IsAnswered c.stage st → UsageFits s c → UsageFits s (record c { stage = st })
 again_fits s c st p v l f = grind (arith, common_steps)
 
-again_below : (s : WalkState) (c : Usage) (st : Stage) → c.stage ≡ Pending → c.view ≡ Some Down → IsAnswered c.stage st → UsageFits s c → Below (after_usage s c) (after_usage s (record c { stage = st }))
+again_below : (s : WalkState) (c : Usage) (st : RunStage) → c.stage ≡ Pending → c.view ≡ Some Down → IsAnswered c.stage st → UsageFits s c → Below (after_usage s c) (after_usage s (record c { stage = st }))
 again_below s c st p v l f = grind (arith, common_steps)
 
-again_alike : (s : WalkState) (c : Usage) (st : Stage) → c.stage ≡ Pending → c.view ≡ Some Down → IsAnswered c.stage st → UsageFits s c → Alike (after_usage s c) (after_usage s (record c { stage = st }))
+again_alike : (s : WalkState) (c : Usage) (st : RunStage) → c.stage ≡ Pending → c.view ≡ Some Down → IsAnswered c.stage st → UsageFits s c → Alike (after_usage s c) (after_usage s (record c { stage = st }))
 again_alike s c st p v l f = grind (arith, common_steps)
 
-pub down_again : (d : DeviceRecord) (a b : List OrderEntry) (c : Usage) (st : Stage) → d.order ≡ a ++ Used c ∷ b → c.stage ≡ Pending → c.view ≡ Some Down → IsAnswered c.stage st → DeviceInvariant d
+pub down_again : (d : DeviceRecord) (a b : List OrderEntry) (c : Usage) (st : RunStage) → d.order ≡ a ++ Used c ∷ b → c.stage ≡ Pending → c.view ≡ Some Down → IsAnswered c.stage st → DeviceInvariant d
     → DeviceInvariant (record d { order = a ++ Used (record c { stage = st }) ∷ b })
 down_again d a b c st at p v l i = lowered d a b c (record c { stage = st }) at i (λ s. again_fits s c st p v l) (λ s. again_below s c st p v l) (λ s. again_alike s c st p v l)
 
 not_up : (s e : WalkState) (c : Usage) (held : ℕ) (p : Probe) → c.stage ≡ Pending → Idle (after_usage s c) e → DeviceFits e false held p → is_up c.view ≡ false
 not_up s e c held p n i x = grind (arith, common_steps)
 
-first_fits : (s : WalkState) (c : Usage) (st : Stage) → c.stage ≡ Pending → has_grip c ≡ false → is_up c.view ≡ false → s.up ≡ false → s.opened ≡ false → s.out ≡ Home → IsAnswered c.stage st → UsageFits s c
+first_fits : (s : WalkState) (c : Usage) (st : RunStage) → c.stage ≡ Pending → holds_grip c ≡ false → is_up c.view ≡ false → s.up ≡ false → s.opened ≡ false → s.out ≡ Home → IsAnswered c.stage st → UsageFits s c
     → UsageFits s (record c { stage = st; view = Some Down })
 first_fits s c st p n v u o h l f = grind (arith, common_steps)
 
-first_ends : (s e e' : WalkState) (c : Usage) (st : Stage) (held : ℕ) → has_grip c ≡ false → s.out ≡ Home → s.opened ≡ false → Tidy s
+first_ends : (s e e' : WalkState) (c : Usage) (st : RunStage) (held : ℕ) → holds_grip c ≡ false → s.out ≡ Home → s.opened ≡ false → Tidy s
     → Idle (after_usage s (record c { stage = st; view = Some Down })) e' → e'.up ≡ e.up → DeviceFits e false held Unprobed → DeviceFits e' false held Unprobed
 first_ends s e e' c st held n h o t j u x = grind (arith, common_steps)
 
-pub down_first : (d : DeviceRecord) (a b : List OrderEntry) (c : Usage) (st : Stage) → d.order ≡ a ++ Used c ∷ b → c.stage ≡ Pending → IsHome d → d.up ≡ false → has has_pending a ≡ false → IsAnswered c.stage st → DeviceInvariant d
+pub down_first : (d : DeviceRecord) (a b : List OrderEntry) (c : Usage) (st : RunStage) → d.order ≡ a ++ Used c ∷ b → c.stage ≡ Pending → NothingIsOut d → d.up ≡ false → has has_pending a ≡ false → IsAnswered c.stage st → DeviceInvariant d
     → DeviceInvariant (record d { order = a ++ Used (record c { stage = st; view = Some Down }) ∷ b })
 down_first d a b c st at p home down o l i =
     let z : WalkState = walk_start d.first_up d.first in
@@ -59,7 +59,7 @@ down_first d a b c st at p home down o l i =
     let e : DeviceFits (walk_end z (a ++ Used c ∷ b)) false d.held Unprobed = subst (λ x. DeviceFits (walk_end z (a ++ Used c ∷ b)) x d.held Unprobed) down (subst (λ x. DeviceFits (walk_end z (a ++ Used c ∷ b)) d.up d.held x) home.unprobed (subst (λ x. DeviceFits (walk_end z x) d.up d.held d.probe) at i.ends)) in
     let old : Put z a c c b = put z a c c b k (open_blocks (walk_end z a) c p) k.fits (λ h. h) in
     let nu : is_up c.view ≡ false = not_up (walk_end z a) (walk_end z (a ++ Used c ∷ b)) c d.held Unprobed p old.idle e in
-    let free : has_grip c ≡ false = has_head has_grip c b (has_back has_grip a (Used c ∷ b) (subst (λ y. has has_grip y ≡ false) at home.free)) in
+    let free : holds_grip c ≡ false = has_head holds_grip c b (has_back holds_grip a (Used c ∷ b) (subst (λ y. has holds_grip y ≡ false) at home.free)) in
     let out : (walk_end z a).out ≡ Home = home_front d a (Used c ∷ b) at home in
     let m : Put z a c c' b = put z a c c' b k (open_blocks (walk_end z a) c p) (first_fits (walk_end z a) c st p free nu (stood k nu e.same (awaits_first c) refl) (shut_front d a o) out l k.fits) (λ h. absurd (none st h)) in
     record {
@@ -68,7 +68,7 @@ down_first d a b c st at p home down o l i =
           (first_ends (walk_end z a) (walk_end z (a ++ Used c ∷ b)) (walk_end z (a ++ Used c' ∷ b)) c st d.held free out (shut_front d a o) (tidy_front d.first_up d.first a k.front) m.idle' m.up e));
     }
   where
-    none : (st : Stage) → (is_open st && false) ≡ true → ⊥
+    none : (st : RunStage) → (stage_is_open st && false) ≡ true → ⊥
     none st h = grind (arith, common_steps)
 
     down_at : (s : WalkState) (c : Usage) → c.stage ≡ Pending → UsageFits s c → is_up c.view ≡ false → awaits_first c ≡ false → s.up ≡ false

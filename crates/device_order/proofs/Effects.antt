@@ -1,5 +1,5 @@
 -- The writes of an order: which one is in effect, and what undos and grips leave of it.
-use Rattle.device_order.specs.Usages.{has_effect, has_grip, has_write, is_restart, spans_up}
+use Rattle.device_order.specs.Usages.{has_write, holds_grip, is_in_effect, is_restart, spans_up}
 use Rattle.device_order.specs.Walks.{Commands, GripOut, Home, Undo, UsageFits, WalkHolds, WalkState, after_usage, has, if_written, is_command_out, is_home, walk_end}
 use Rattle.device_order.specs.declared.records.OrderEntry.TheVariants.{Occurred, Used}
 use Rattle.device_order.specs.declared.records.OrderEntry.{OrderEntry}
@@ -25,13 +25,13 @@ alike s t (Occurred e ∷ b) r = alike (record s { up = is_restart e }) (record 
 alike s t (Used c ∷ b) r = alike (after_usage s c) (after_usage t c) b (alike_next s t c r)
 
 -- where no write is in effect, the stand stays
-pub unmoved : (s : WalkState) (b : List OrderEntry) → has has_effect b ≡ false → (walk_end s b).stand ≡ s.stand
+pub unmoved : (s : WalkState) (b : List OrderEntry) → has is_in_effect b ≡ false → (walk_end s b).stand ≡ s.stand
 unfolding walk_end has
 unmoved s [] h = refl
 unmoved s (Occurred e ∷ b) h = unmoved (record s { up = is_restart e }) b h
-unmoved s (Used c ∷ b) h = let p = or_parts (has_effect c) (has has_effect b) h in unmoved (after_usage s c) b p.1 ∙ one s c p.0
+unmoved s (Used c ∷ b) h = let p = or_parts (is_in_effect c) (has is_in_effect b) h in unmoved (after_usage s c) b p.1 ∙ one s c p.0
   where
-    one : (s : WalkState) (c : Usage) → has_effect c ≡ false → (after_usage s c).stand ≡ s.stand
+    one : (s : WalkState) (c : Usage) → is_in_effect c ≡ false → (after_usage s c).stand ≡ s.stand
     one s c h = grind (arith, common_steps)
 
 pub undone_stays : (s : WalkState) (b : List OrderEntry) → has has_write b ≡ false → (walk_end s b).undoing ≡ s.undoing
@@ -44,27 +44,27 @@ undone_stays s (Used c ∷ b) h = let p = or_parts (has_write c) (has has_write 
     one s c h = grind (arith, common_steps)
 
 -- where one is, what stood before it does not matter
-pub overwritten : (s t : WalkState) (b : List OrderEntry) → has has_effect b ≡ true → Alike (walk_end s b) (walk_end t b)
+pub overwritten : (s t : WalkState) (b : List OrderEntry) → has is_in_effect b ≡ true → Alike (walk_end s b) (walk_end t b)
 unfolding walk_end has
 overwritten s t [] h = grind (arith, common_steps)
 overwritten s t (Occurred e ∷ b) h = overwritten (record s { up = is_restart e }) (record t { up = is_restart e }) b h
-overwritten s t (Used c ∷ b) h = at (λ g. overwritten (after_usage s c) (after_usage t c) b g) (has has_effect b) refl
+overwritten s t (Used c ∷ b) h = at (λ g. overwritten (after_usage s c) (after_usage t c) b g) (has is_in_effect b) refl
   where
-    now : (s t : WalkState) (c : Usage) (x : Bool) → x ≡ false → (has_effect c || x) ≡ true → Alike (after_usage s c) (after_usage t c)
+    now : (s t : WalkState) (c : Usage) (x : Bool) → x ≡ false → (is_in_effect c || x) ≡ true → Alike (after_usage s c) (after_usage t c)
     now s t c x e h = grind (arith, common_steps)
 
-    at : (has has_effect b ≡ true → Alike (walk_end (after_usage s c) b) (walk_end (after_usage t c) b)) → (x : Bool) → has has_effect b ≡ x → Alike (walk_end (after_usage s c) b) (walk_end (after_usage t c) b)
+    at : (has is_in_effect b ≡ true → Alike (walk_end (after_usage s c) b) (walk_end (after_usage t c) b)) → (x : Bool) → has is_in_effect b ≡ x → Alike (walk_end (after_usage s c) b) (walk_end (after_usage t c) b)
     at ih true e = ih e
-    at ih false e = alike (after_usage s c) (after_usage t c) b (now s t c (has has_effect b) e h)
+    at ih false e = alike (after_usage s c) (after_usage t c) b (now s t c (has is_in_effect b) e h)
 
 -- where no grip is out, one is put in, or another in its place
-pub out_free : (s : WalkState) (b : List OrderEntry) → has has_grip b ≡ false → (walk_end s b).out ≡ s.out
+pub out_free : (s : WalkState) (b : List OrderEntry) → has holds_grip b ≡ false → (walk_end s b).out ≡ s.out
 unfolding walk_end has
 out_free s [] h = refl
 out_free s (Occurred e ∷ b) h = out_free (record s { up = is_restart e }) b h
-out_free s (Used c ∷ b) h = let p = or_parts (has_grip c) (has has_grip b) h in out_free (after_usage s c) b p.1 ∙ one s c p.0
+out_free s (Used c ∷ b) h = let p = or_parts (holds_grip c) (has holds_grip b) h in out_free (after_usage s c) b p.1 ∙ one s c p.0
   where
-    one : (s : WalkState) (c : Usage) → has_grip c ≡ false → (after_usage s c).out ≡ s.out
+    one : (s : WalkState) (c : Usage) → holds_grip c ≡ false → (after_usage s c).out ≡ s.out
     one s c h = grind (arith, common_steps)
 
 held_next : (s : WalkState) (c : Usage) → is_home s.out ≡ false → is_home (after_usage s c).out ≡ false
@@ -76,26 +76,26 @@ held_end s [] h = h
 held_end s (Occurred e ∷ b) h = held_end (record s { up = is_restart e }) b h
 held_end s (Used c ∷ b) h = held_end (after_usage s c) b (held_next s c h)
 
-pub free_behind : (s : WalkState) (b : List OrderEntry) → is_home s.out ≡ false → WalkHolds s b → has has_grip b ≡ false
+pub free_behind : (s : WalkState) (b : List OrderEntry) → is_home s.out ≡ false → WalkHolds s b → has holds_grip b ≡ false
 unfolding WalkHolds has
 free_behind s [] h k = refl
 free_behind s (Occurred e ∷ b) h k = free_behind (record s { up = is_restart e }) b h k.1
-free_behind s (Used c ∷ b) h k = or_from (has_grip c) (has has_grip b) (one s c k.0 h) (free_behind (after_usage s c) b (held_next s c h) k.1)
+free_behind s (Used c ∷ b) h k = or_from (holds_grip c) (has holds_grip b) (one s c k.0 h) (free_behind (after_usage s c) b (held_next s c h) k.1)
   where
-    one : (s : WalkState) (c : Usage) → UsageFits s c → is_home s.out ≡ false → has_grip c ≡ false
+    one : (s : WalkState) (c : Usage) → UsageFits s c → is_home s.out ≡ false → holds_grip c ≡ false
     one s c f h = grind (arith, common_steps)
 
-pub home_free : (s : WalkState) (b : List OrderEntry) → is_home (walk_end s b).out ≡ true → has has_grip b ≡ false
+pub home_free : (s : WalkState) (b : List OrderEntry) → is_home (walk_end s b).out ≡ true → has holds_grip b ≡ false
 unfolding walk_end has
 home_free s [] h = refl
 home_free s (Occurred e ∷ b) h = home_free (record s { up = is_restart e }) b h
-home_free s (Used c ∷ b) h = or_from (has_grip c) (has has_grip b) (one s c (at (is_home (after_usage s c).out) refl)) (home_free (after_usage s c) b h)
+home_free s (Used c ∷ b) h = or_from (holds_grip c) (has holds_grip b) (one s c (at (is_home (after_usage s c).out) refl)) (home_free (after_usage s c) b h)
   where
     at : (x : Bool) → is_home (after_usage s c).out ≡ x → is_home (after_usage s c).out ≡ true
     at true e = e
     at false e = absurd (both_ways (is_home (walk_end (after_usage s c) b).out) (held_end (after_usage s c) b e) h)
 
-    one : (s : WalkState) (c : Usage) → is_home (after_usage s c).out ≡ true → has_grip c ≡ false
+    one : (s : WalkState) (c : Usage) → is_home (after_usage s c).out ≡ true → holds_grip c ≡ false
     one s c h = grind (arith, common_steps)
 
 -- behind an entry with no grip behind it, the grip that is out may be another, if no command's
@@ -103,12 +103,12 @@ pub record Outs (s : WalkState) (o : GripOut) (b : List OrderEntry) : Type 0 whe
   pub walk : WalkHolds (record s { out = o }) b
   pub ends : walk_end (record s { out = o }) b ≡ record (walk_end s b) { out = o }
 
-pub another_out : (s : WalkState) (o : GripOut) (b : List OrderEntry) → has has_grip b ≡ false → is_command_out o ≡ false → WalkHolds s b → Outs s o b
+pub another_out : (s : WalkState) (o : GripOut) (b : List OrderEntry) → has holds_grip b ≡ false → is_command_out o ≡ false → WalkHolds s b → Outs s o b
 unfolding WalkHolds walk_end has
 another_out s o [] h n k = record { walk = tt; ends = refl }
 another_out s o (Occurred e ∷ b) h n k = let i = another_out (record s { up = is_restart e }) o b h n k.1 in record { walk = (record { turns = k.0.turns; none_waits = k.0.none_waits }, i.walk); ends = i.ends }
 another_out s o (Used c ∷ b) h n k =
-    let p = or_parts (has_grip c) (has has_grip b) h in
+    let p = or_parts (holds_grip c) (has holds_grip b) h in
     let i = another_out (after_usage s c) o b p.1 n k.1 in
     let e : after_usage (record s { out = o }) c ≡ record (after_usage s c) { out = o } = one s o c p.0 in
     record {
@@ -116,19 +116,19 @@ another_out s o (Used c ∷ b) h n k =
       ends = ap (λ x. walk_end x b) e ∙ i.ends;
     }
   where
-    one : (s : WalkState) (o : GripOut) (c : Usage) → has_grip c ≡ false → after_usage (record s { out = o }) c ≡ record (after_usage s c) { out = o }
+    one : (s : WalkState) (o : GripOut) (c : Usage) → holds_grip c ≡ false → after_usage (record s { out = o }) c ≡ record (after_usage s c) { out = o }
     one s o c h = grind (arith, common_steps)
 
-    fits : (s : WalkState) (o : GripOut) (c : Usage) → has_grip c ≡ false → is_command_out o ≡ false → UsageFits s c → UsageFits (record s { out = o }) c
+    fits : (s : WalkState) (o : GripOut) (c : Usage) → holds_grip c ≡ false → is_command_out o ≡ false → UsageFits s c → UsageFits (record s { out = o }) c
     fits s o c h n f = grind (arith, common_steps)
 
-pub acts_stays : (b : List OrderEntry) → has has_grip b ≡ false → has has_write b ≡ has has_effect b
+pub acts_stays : (b : List OrderEntry) → has holds_grip b ≡ false → has has_write b ≡ has is_in_effect b
 unfolding has
 acts_stays [] h = refl
 acts_stays (Occurred e ∷ b) h = acts_stays b h
-acts_stays (Used c ∷ b) h = let p = or_parts (has_grip c) (has has_grip b) h in one c (has has_write b) (has has_effect b) p.0 (acts_stays b p.1)
+acts_stays (Used c ∷ b) h = let p = or_parts (holds_grip c) (has holds_grip b) h in one c (has has_write b) (has is_in_effect b) p.0 (acts_stays b p.1)
   where
-    one : (c : Usage) (x y : Bool) → has_grip c ≡ false → x ≡ y → (has_write c || x) ≡ (has_effect c || y)
+    one : (c : Usage) (x y : Bool) → holds_grip c ≡ false → x ≡ y → (has_write c || x) ≡ (is_in_effect c || y)
     one c x y h e = grind (arith, common_steps)
 
 abbrev pub is_undo_out : GripOut → Bool
@@ -156,7 +156,7 @@ pub same_stand : (s t : WalkState) (b : List OrderEntry) → t.stand ≡ s.stand
 unfolding walk_end
 same_stand s t [] h = h
 same_stand s t (Occurred e ∷ b) h = same_stand (record s { up = is_restart e }) (record t { up = is_restart e }) b h
-same_stand s t (Used c ∷ b) h = same_stand (after_usage s c) (after_usage t c) b (ap (if_written (has_effect c) c.wrote) h)
+same_stand s t (Used c ∷ b) h = same_stand (after_usage s c) (after_usage t c) b (ap (if_written (is_in_effect c) c.wrote) h)
 
 pub spanned_end : (s : WalkState) (b : List OrderEntry) → has spans_up b ≡ false → (walk_end s b).spanned ≡ s.spanned
 unfolding walk_end has
@@ -168,16 +168,16 @@ spanned_end s (Used c ∷ b) h = let p = or_parts (spans_up c) (has spans_up b) 
     one s c h = grind (arith, common_steps)
 
 -- behind the run whose undo is out no write of another stays
-pub undo_last : (s : WalkState) (b : List OrderEntry) → has has_grip b ≡ false → (walk_end s b).undoing ≡ true → has has_write b ≡ false
+pub undo_last : (s : WalkState) (b : List OrderEntry) → has holds_grip b ≡ false → (walk_end s b).undoing ≡ true → has has_write b ≡ false
 unfolding walk_end has
 undo_last s [] n h = refl
 undo_last s (Occurred e ∷ b) n h = undo_last (record s { up = is_restart e }) b n h
 undo_last s (Used c ∷ b) n h =
-    let p = or_parts (has_grip c) (has has_grip b) n in
+    let p = or_parts (holds_grip c) (has holds_grip b) n in
     let r : has has_write b ≡ false = undo_last (after_usage s c) b p.1 h in
     one s c (has has_write b) p.0 (sym (undone_stays (after_usage s c) b r) ∙ h) r
   where
-    one : (s : WalkState) (c : Usage) (x : Bool) → has_grip c ≡ false → (after_usage s c).undoing ≡ true → x ≡ false → (has_write c || x) ≡ false
+    one : (s : WalkState) (c : Usage) (x : Bool) → holds_grip c ≡ false → (after_usage s c).undoing ≡ true → x ≡ false → (has_write c || x) ≡ false
     one s c x n h e = grind (arith, common_steps)
 
 -- and no open run there sees the device up: it would have written, or read where a write is exposed

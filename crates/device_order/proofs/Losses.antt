@@ -6,9 +6,9 @@ use Rattle.device_order.proofs.Parts.{Cut, cut}
 use Rattle.device_order.proofs.Undos.{Undone, undone}
 use Rattle.device_order.specs.Invariant.{DeviceFits, DeviceInvariant}
 use Rattle.device_order.specs.Records.{DeviceRecord, walk_start}
-use Rattle.device_order.specs.Usages.{has_touched, is_command, is_open, is_restart, is_up, spans_up}
+use Rattle.device_order.specs.Usages.{has_used_device, holds_command, is_restart, is_up, spans_up, stage_is_open}
 use Rattle.device_order.specs.Walks.{Undo, UsageFits, WalkHolds, WalkState, after_usage, has, is_command_out, walk_end}
-use Rattle.device_order.specs.declared.records.Grip.TheVariants.{Undoes}
+use Rattle.device_order.specs.declared.records.HeldGrip.TheVariants.{Undoes}
 use Rattle.device_order.specs.declared.records.OrderEntry.TheVariants.{Occurred, Used}
 use Rattle.device_order.specs.declared.records.OrderEntry.{OrderEntry}
 use Rattle.device_order.specs.declared.records.Probe.TheVariants.{Restores}
@@ -37,40 +37,40 @@ none_opened : (s : WalkState) (l : List OrderEntry) → (walk_end s l).opened �
 unfolding walk_end has
 none_opened s [] h = refl
 none_opened s (Occurred e ∷ l) h = none_opened (record s { up = is_restart e }) l h
-none_opened s (Used u ∷ l) h = or_from (spans_up u) (has spans_up l) (at (is_open u.stage) refl) (none_opened (after_usage s u) l h)
+none_opened s (Used u ∷ l) h = or_from (spans_up u) (has spans_up l) (at (stage_is_open u.stage) refl) (none_opened (after_usage s u) l h)
   where
-    now : (s : WalkState) (u : Usage) → is_open u.stage ≡ true → (after_usage s u).opened ≡ true
+    now : (s : WalkState) (u : Usage) → stage_is_open u.stage ≡ true → (after_usage s u).opened ≡ true
     now s u o = grind (arith, common_steps)
 
-    shut : (u : Usage) → is_open u.stage ≡ false → spans_up u ≡ false
+    shut : (u : Usage) → stage_is_open u.stage ≡ false → spans_up u ≡ false
     shut u o = grind (arith, common_steps)
 
-    at : (x : Bool) → is_open u.stage ≡ x → spans_up u ≡ false
+    at : (x : Bool) → stage_is_open u.stage ≡ x → spans_up u ≡ false
     at true o = absurd (both_ways ((walk_end (after_usage s u) l).opened) h (opened_stays (after_usage s u) l (now s u o)))
     at false o = shut u o
 
 -- nor is there one among runs that did not touch the device
-none_touched : (l : List OrderEntry) → has has_touched l ≡ false → has spans_up l ≡ false
+none_touched : (l : List OrderEntry) → has has_used_device l ≡ false → has spans_up l ≡ false
 unfolding has
 none_touched [] h = refl
 none_touched (Occurred e ∷ l) h = none_touched l h
-none_touched (Used u ∷ l) h = let p = or_parts (has_touched u) (has has_touched l) h in or_from (spans_up u) (has spans_up l) (bare u p.0) (none_touched l p.1)
+none_touched (Used u ∷ l) h = let p = or_parts (has_used_device u) (has has_used_device l) h in or_from (spans_up u) (has spans_up l) (bare u p.0) (none_touched l p.1)
   where
-    bare : (u : Usage) → has_touched u ≡ false → spans_up u ≡ false
+    bare : (u : Usage) → has_used_device u ≡ false → spans_up u ≡ false
     bare u h = grind (arith, common_steps)
 
 -- where a run spans, or its command is out, no other run spans
-pub one_spans : (d : DeviceRecord) (a b : List OrderEntry) (u : Usage) → DeviceInvariant d → d.order ≡ a ++ Used u ∷ b → (spans_up u || is_command u.grip) ≡ true
+pub one_spans : (d : DeviceRecord) (a b : List OrderEntry) (u : Usage) → DeviceInvariant d → d.order ≡ a ++ Used u ∷ b → (spans_up u || holds_command u.grip) ≡ true
     → (has spans_up a ≡ false) × (has spans_up b ≡ false)
 one_spans d a b u i at o =
     let z : WalkState = walk_start d.first_up d.first in
     let k : Cut z a u b = cut z a u b (subst (λ l. WalkHolds z l) at i.walk) in
     (none_opened z a (k.fits.after_open (touches u o)), none_touched b (untouched_behind (after_usage (walk_end z a) u) b (blocks (walk_end z a) u o) k.rest))
   where
-    touches : (u : Usage) → (spans_up u || is_command u.grip) ≡ true → has_touched u ≡ true
+    touches : (u : Usage) → (spans_up u || holds_command u.grip) ≡ true → has_used_device u ≡ true
     touches u o = grind (arith, common_steps)
 
-    blocks : (s : WalkState) (u : Usage) → (spans_up u || is_command u.grip) ≡ true → ((after_usage s u).opened || is_command_out (after_usage s u).out) ≡ true
+    blocks : (s : WalkState) (u : Usage) → (spans_up u || holds_command u.grip) ≡ true → ((after_usage s u).opened || is_command_out (after_usage s u).out) ≡ true
     blocks s u o = grind (arith, common_steps)
 
 none_spans : (s : WalkState) (l : List OrderEntry) → (walk_end s l).spanned ≡ false → has spans_up l ≡ false
@@ -108,10 +108,10 @@ undo_loses_none d a b u v i at g =
     shut s u v g t f = grind (arith, common_steps)
 
 -- a run that has more to do sees no device up that is counted down
-pub down_unseen : (d : DeviceRecord) (a b : List OrderEntry) (u : Usage) → DeviceInvariant d → d.order ≡ a ++ Used u ∷ b → is_open u.stage ≡ true → d.up ≡ false → is_up u.view ≡ false
+pub down_unseen : (d : DeviceRecord) (a b : List OrderEntry) (u : Usage) → DeviceInvariant d → d.order ≡ a ++ Used u ∷ b → stage_is_open u.stage ≡ true → d.up ≡ false → is_up u.view ≡ false
 down_unseen d a b u i at o down = by (is_up u.view) refl
   where
-    spans : (u : Usage) → is_open u.stage ≡ true → is_up u.view ≡ true → spans_up u ≡ true
+    spans : (u : Usage) → stage_is_open u.stage ≡ true → is_up u.view ≡ true → spans_up u ≡ true
     spans u o v = grind (arith, common_steps)
 
     by : (x : Bool) → is_up u.view ≡ x → is_up u.view ≡ false

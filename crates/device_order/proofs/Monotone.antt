@@ -4,12 +4,12 @@ use Rattle.device_order.proofs.Effects.{Alike}
 use Rattle.device_order.proofs.Parts.{Cut, cut, Lower, lower, likewise}
 use Rattle.device_order.specs.Invariant.{DeviceFits, DeviceInvariant}
 use Rattle.device_order.specs.Records.{DeviceRecord, walk_start}
-use Rattle.device_order.specs.Usages.{doomed_stage, is_command}
+use Rattle.device_order.specs.Usages.{doomed_stage, holds_command}
 use Rattle.device_order.specs.Walks.{UsageFits, WalkHolds, WalkState, after_usage, walk_end}
 use Rattle.device_order.specs.declared.records.OrderEntry.TheVariants.{Used}
 use Rattle.device_order.specs.declared.records.OrderEntry.{OrderEntry}
 use Rattle.device_order.specs.declared.records.Probe.{Probe}
-use Rattle.device_order.specs.declared.records.Stage.TheVariants.{Committed, Done, Pending}
+use Rattle.device_order.specs.declared.records.RunStage.TheVariants.{Committed, Done, Pending}
 use Rattle.device_order.specs.declared.records.Usage.{Usage}
 use Rattle.std.proofs.Common.{◌≡◌, ℕ, Bool, false, List, ◌∷◌, ◌++◌, arith, subst}
 use Rattle.std.proofs.lemmas.Grind.{common_steps}
@@ -26,7 +26,7 @@ doom_below s c f = grind (arith, common_steps)
 doom_alike : (s : WalkState) (c : Usage) → Alike (after_usage s c) (after_usage s (record c { stage = doomed_stage c.stage }))
 doom_alike s c = grind (arith, common_steps)
 
-skip_fits : (s : WalkState) (c : Usage) → c.stage ≡ Pending → is_command c.grip ≡ false → UsageFits s c → UsageFits s (record c { stage = Done })
+skip_fits : (s : WalkState) (c : Usage) → c.stage ≡ Pending → holds_command c.grip ≡ false → UsageFits s c → UsageFits s (record c { stage = Done })
 skip_fits s c e n f = grind (arith, common_steps)
 
 skip_below : (s : WalkState) (c : Usage) → c.stage ≡ Pending → UsageFits s c → Below (after_usage s c) (after_usage s (record c { stage = Done }))
@@ -60,7 +60,7 @@ lowered d a b c e at i fits below like =
 pub doom : (d : DeviceRecord) (a b : List OrderEntry) (c : Usage) → d.order ≡ a ++ Used c ∷ b → DeviceInvariant d → DeviceInvariant (record d { order = a ++ Used (record c { stage = doomed_stage c.stage }) ∷ b })
 doom d a b c at i = lowered d a b c (record c { stage = doomed_stage c.stage }) at i (λ s. doom_fits s c) (λ s. doom_below s c) (λ s f. doom_alike s c)
 
-pub skip : (d : DeviceRecord) (a b : List OrderEntry) (c : Usage) → d.order ≡ a ++ Used c ∷ b → c.stage ≡ Pending → is_command c.grip ≡ false → DeviceInvariant d → DeviceInvariant (record d { order = a ++ Used (record c { stage = Done }) ∷ b })
+pub skip : (d : DeviceRecord) (a b : List OrderEntry) (c : Usage) → d.order ≡ a ++ Used c ∷ b → c.stage ≡ Pending → holds_command c.grip ≡ false → DeviceInvariant d → DeviceInvariant (record d { order = a ++ Used (record c { stage = Done }) ∷ b })
 skip d a b c at p n i = lowered d a b c (record c { stage = Done }) at i (λ s. skip_fits s c p n) (λ s. skip_below s c p) (λ s f. skip_alike s c p)
 
 pub commit : (d : DeviceRecord) (a b : List OrderEntry) (c : Usage) → d.order ≡ a ++ Used c ∷ b → c.stage ≡ Done → DeviceInvariant d → DeviceInvariant (record d { order = a ++ Used (record c { stage = Committed }) ∷ b })

@@ -1,13 +1,13 @@
 -- What one more answer makes of a run.
 use Rattle.device_order.proofs.Runs.{fit_more, none_more, summary_more, then_here, then_there}
 use Rattle.device_order.specs.LineEntries.{stage_of, usage}
-use Rattle.device_order.specs.RunStates.{RunState, answered, device_summary, paired, remaining, rest, summary_of, uses}
-use Rattle.device_order.specs.Summaries.{AnswersFit, AreHomed, DeviceSummary, FitsSummary, NoneFails, Summary, blank, device_summary_then, summary, summary_then}
+use Rattle.device_order.specs.RunStates.{RunState, answered_commands, device_summary, paired, remaining, rest, summary_of, uses_device}
+use Rattle.device_order.specs.Summaries.{AnswersFit, AreHomed, DeviceSummary, FitsSummary, NoCommandFails, Summary, blank, device_summary_then, summary, summary_then}
 use Rattle.device_order.specs.Usages.{doomed_stage}
 use Rattle.device_order.specs.WindowSteps.{GetsAnswer}
 use Rattle.device_order.specs.Windows.{RunInvariant}
-use Rattle.device_order.specs.declared.records.Grip.TheVariants.{Free}
-use Rattle.device_order.specs.declared.records.Stage.{Stage}
+use Rattle.device_order.specs.declared.records.HeldGrip.TheVariants.{Free}
+use Rattle.device_order.specs.declared.records.RunStage.{RunStage}
 use Rattle.home_types.specs.Commands.{driven, fails}
 use Rattle.home_types.specs.Kinds.{kind_at}
 use Rattle.home_types.specs.declared.commands.Answer.{Answer}
@@ -53,7 +53,7 @@ pair_more (e ∷ cs) [] c ds a h = none e cs ∙ ap (λ x. record { command = x;
     none e (f ∷ cs) = refl
 pair_more (e ∷ cs) (x ∷ xs) c ds a h = ap (λ l. record { command = e; answer = x } ∷ l) (pair_more cs xs c ds a h)
 
-pub gave_answered : (l l' : RunState) (c : Command) (ds : List Command) (a : Answer) (k : Bool) → GetsAnswer l l' c ds a k → answered l' ≡ answered l ++ record { command = c; answer = a } ∷ []
+pub gave_answered : (l l' : RunState) (c : Command) (ds : List Command) (a : Answer) (k : Bool) → GetsAnswer l l' c ds a k → answered_commands l' ≡ answered_commands l ++ record { command = c; answer = a } ∷ []
 gave_answered l l' c ds a k g = ap (λ cs. paired cs l'.answers) g.commands ∙ ap (paired l.commands) g.answers ∙ pair_more l.commands l.answers c ds a g.next
 
 pub gave_rest : (l l' : RunState) (c : Command) (ds : List Command) (a : Answer) (k : Bool) → GetsAnswer l l' c ds a k → rest l' ≡ ds
@@ -61,7 +61,7 @@ gave_rest l l' c ds a k g = ap (λ cs. remaining cs l'.answers) g.commands ∙ a
 
 pub gave_reading : (kinds : List Kind) (l l' : RunState) (c : Command) (ds : List Command) (a : Answer) (k : Bool) → GetsAnswer l l' c ds a k → summary_of kinds l' ≡ summary_then kinds (summary_of kinds l) (record { command = c; answer = a })
 unfolding summary
-gave_reading kinds l l' c ds a k g = ap (summary kinds blank) (gave_answered l l' c ds a k g) ∙ summary_more kinds blank (answered l) (record { command = c; answer = a } ∷ [])
+gave_reading kinds l l' c ds a k g = ap (summary kinds blank) (gave_answered l l' c ds a k g) ∙ summary_more kinds blank (answered_commands l) (record { command = c; answer = a } ∷ [])
 
 -- the run at the device of the answer, ..
 pub gave_here : (kinds : List Kind) (l l' : RunState) (c : Command) (ds : List Command) (a : Answer) (k : Bool) (d : ℕ) → GetsAnswer l l' c ds a k → d ≡ c.device.0
@@ -70,9 +70,9 @@ gave_here kinds l l' c ds a k d g e = ap (λ (s : Summary). s.on d) (gave_readin
 
 pub gave_usage : (kinds : List Kind) (l l' : RunState) (c : Command) (ds : List Command) (a : Answer) (k : Bool) → GetsAnswer l l' c ds a k
     → usage kinds l' c.device.0 ≡ (let t : DeviceSummary = device_summary_then (device_summary kinds l c.device.0) (driven (kind_at kinds c.device.0) c.job (summary_of kinds l).register) a in
-    record { stage = stage_of l.committed (l.doomed || k) (uses c.device.0 ds); view = t.view; read = t.read; wrote = t.wrote; undid = l.undid c.device.0; grip = Free })
+    record { stage = stage_of l.committed (l.doomed || k) (uses_device c.device.0 ds); view = t.view; read = t.read; wrote = t.wrote; undid = l.undid c.device.0; grip = Free })
 gave_usage kinds l l' c ds a k g = λ i. record {
-  stage = stage_of (g.committed i) (g.doomed i) (uses c.device.0 (gave_rest l l' c ds a k g i));
+  stage = stage_of (g.committed i) (g.doomed i) (uses_device c.device.0 (gave_rest l l' c ds a k g i));
   view = (gave_here kinds l l' c ds a k c.device.0 g refl i).view;
   read = (gave_here kinds l l' c ds a k c.device.0 g refl i).read;
   wrote = (gave_here kinds l l' c ds a k c.device.0 g refl i).wrote;
@@ -81,7 +81,7 @@ gave_usage kinds l l' c ds a k g = λ i. record {
 }
 
 -- .. and at another device: nothing, but for the doom
-abbrev pub doomed_if : Bool → Stage → Stage
+abbrev pub doomed_if : Bool → RunStage → RunStage
 doomed_if true st = doomed_stage st
 doomed_if false st = st
 
@@ -92,9 +92,9 @@ pub gave_there : (kinds : List Kind) (l l' : RunState) (c : Command) (ds : List 
     → usage kinds l' d ≡ record (usage kinds l d) { stage = doomed_if k (usage kinds l d).stage }
 gave_there kinds l l' c ds a k d g n =
     let t : device_summary kinds l' d ≡ device_summary kinds l d = ap (λ (s : Summary). s.on d) (gave_reading kinds l l' c ds a k g) ∙ then_there kinds (summary_of kinds l) (record { command = c; answer = a }) d n in
-    let p : uses d (rest l') ≡ uses d (rest l) = ap (uses d) (gave_rest l l' c ds a k g) ∙ off c (uses d ds) n ∙ ap (uses d) (sym g.next) in
-    let st : stage_of l'.committed l'.doomed (uses d (rest l')) ≡ doomed_if k (stage_of l.committed l.doomed (uses d (rest l))) =
-    (λ i. stage_of (g.committed i) (g.doomed i) (p i)) ∙ doom_stage l.committed l.doomed k (uses d (rest l)) in
+    let p : uses_device d (rest l') ≡ uses_device d (rest l) = ap (uses_device d) (gave_rest l l' c ds a k g) ∙ off c (uses_device d ds) n ∙ ap (uses_device d) (sym g.next) in
+    let st : stage_of l'.committed l'.doomed (uses_device d (rest l')) ≡ doomed_if k (stage_of l.committed l.doomed (uses_device d (rest l))) =
+    (λ i. stage_of (g.committed i) (g.doomed i) (p i)) ∙ doom_stage l.committed l.doomed k (uses_device d (rest l)) in
     λ i. record { stage = st i; view = (t i).view; read = (t i).read; wrote = (t i).wrote; undid = g.undid d i; grip = g.grip d n i }
   where
     off : (c : Command) (x : Bool) → d ≢ c.device.0 → x ≡ ((c.device.0 == d) || x)
@@ -127,7 +127,7 @@ gave_run kinds n l l' c ds a k g i live fit ok =
     record {
       homed = subst (AreHomed n) (sym g.commands) i.homed;
       size = subst (λ cs. length l'.answers ≤ length cs) (sym g.commands) (subst (λ xs. length xs ≤ length l.commands) (sym g.answers) (length_more l.commands l.answers c ds a g.next));
-      fit = λ h. subst (AnswersFit kinds blank) (sym e) (fit_more kinds blank (answered l) (record { command = c; answer = a }) (i.fit (sound h).0) (fit (sound h).0 (sound h).1));
-      none_fails = λ h. subst NoneFails (sym e) (none_more (answered l) (record { command = c; answer = a }) (i.none_fails (sound h).0) (ok (sound h).1));
+      fit = λ h. subst (AnswersFit kinds blank) (sym e) (fit_more kinds blank (answered_commands l) (record { command = c; answer = a }) (i.fit (sound h).0) (fit (sound h).0 (sound h).1));
+      none_fails = λ h. subst NoCommandFails (sym e) (none_more (answered_commands l) (record { command = c; answer = a }) (i.none_fails (sound h).0) (ok (sound h).1));
       whole = λ h. absurd (both_ways l'.committed (g.committed ∙ live) h);
     }

@@ -1,7 +1,7 @@
 -- The commands of a run with their answers.
 use Rattle.device_order.proofs.Runs.{then_there}
-use Rattle.device_order.specs.RunStates.{paired, uses}
-use Rattle.device_order.specs.Summaries.{Answered, Summary, answer_of, command_of, summary, summary_then}
+use Rattle.device_order.specs.RunStates.{paired, uses_device}
+use Rattle.device_order.specs.Summaries.{Answered, Summary, pair_answer, pair_command, summary, summary_then}
 use Rattle.home_types.specs.declared.commands.Answer.{Answer}
 use Rattle.home_types.specs.declared.commands.Command.{Command}
 use Rattle.home_types.specs.declared.kinds.Kind.{Kind}
@@ -9,13 +9,13 @@ use Rattle.std.proofs.Common.{Bool, List, [], ap, arith, false, length, map, ref
 use Rattle.std.proofs.lemmas.Grind.{common_steps}
 use Rattle.std.specs.Prelude.{◌==◌, ◌||◌}
 
-pub commands_all : (cs : List Command) (xs : List Answer) → length xs ≡ length cs → map command_of (paired cs xs) ≡ cs
+pub commands_all : (cs : List Command) (xs : List Answer) → length xs ≡ length cs → map pair_command (paired cs xs) ≡ cs
 unfolding paired
 commands_all [] xs h = refl
 commands_all (c ∷ cs) [] h = absurd (omega arith)
 commands_all (c ∷ cs) (a ∷ xs) h = ap (λ l. c ∷ l) (commands_all cs xs (omega arith))
 
-pub answers_all : (cs : List Command) (xs : List Answer) → length xs ≡ length cs → map answer_of (paired cs xs) ≡ xs
+pub answers_all : (cs : List Command) (xs : List Answer) → length xs ≡ length cs → map pair_answer (paired cs xs) ≡ xs
 unfolding paired
 answers_all [] [] h = refl
 answers_all [] (a ∷ xs) h = absurd (omega arith)
@@ -23,13 +23,13 @@ answers_all (c ∷ cs) [] h = absurd (omega arith)
 answers_all (c ∷ cs) (a ∷ xs) h = ap (λ l. a ∷ l) (answers_all cs xs (omega arith))
 
 -- a run has no answer on a device that it does not use
-pub unused_there : (kinds : List Kind) (s : Summary) (cs : List Command) (xs : List Answer) (d : ℕ) → uses d cs ≡ false → (summary kinds s (paired cs xs)).on d ≡ s.on d
+pub unused_there : (kinds : List Kind) (s : Summary) (cs : List Command) (xs : List Answer) (d : ℕ) → uses_device d cs ≡ false → (summary kinds s (paired cs xs)).on d ≡ s.on d
 unfolding paired summary
 unused_there kinds s [] xs d h = refl
 unused_there kinds s (c ∷ cs) [] d h = refl
 unused_there kinds s (c ∷ cs) (a ∷ xs) d h =
     let p : Answered = record { command = c; answer = a } in
-    unused_there kinds (summary_then kinds s p) cs xs d (parts c (uses d cs) h).1 ∙ then_there kinds s p d (parts c (uses d cs) h).0
+    unused_there kinds (summary_then kinds s p) cs xs d (parts c (uses_device d cs) h).1 ∙ then_there kinds s p d (parts c (uses_device d cs) h).0
   where
     parts : (c : Command) (b : Bool) → ((c.device.0 == d) || b) ≡ false → (d ≢ c.device.0) × (b ≡ false)
     parts c b h = (λ e. other c b h e, tail c b h)

@@ -5,14 +5,14 @@ use Rattle.device_order.proofs.Parts.{Cut, cut, Put, put}
 use Rattle.device_order.proofs.Suffix.{Idle, blocks, came, Came}
 use Rattle.device_order.specs.Changes.{probe_for}
 use Rattle.device_order.specs.Invariant.{DeviceFits, DeviceInvariant}
-use Rattle.device_order.specs.Records.{DeviceRecord, IsHome, state_after, walk_start}
-use Rattle.device_order.specs.Usages.{doomed_stage, is_open, spans_up}
+use Rattle.device_order.specs.Records.{DeviceRecord, NothingIsOut, walk_after, walk_start}
+use Rattle.device_order.specs.Usages.{doomed_stage, spans_up, stage_is_open}
 use Rattle.device_order.specs.Walks.{UsageFits, WalkState, after_usage, has, is_home, walk_end, with_event}
 use Rattle.device_order.specs.declared.records.Event.TheVariants.{Failure, Restart}
 use Rattle.device_order.specs.declared.records.OrderEntry.TheVariants.{Used}
 use Rattle.device_order.specs.declared.records.OrderEntry.{OrderEntry}
 use Rattle.device_order.specs.declared.records.Probe.TheVariants.{Asks, Restores, Unprobed}
-use Rattle.device_order.specs.declared.records.Stage.{Stage}
+use Rattle.device_order.specs.declared.records.RunStage.{RunStage}
 use Rattle.device_order.specs.declared.records.Usage.{Usage}
 use Rattle.home_types.specs.declared.commands.View.{View}
 use Rattle.std.proofs.Common.{◌≡◌, ℕ, Bool, true, false, List, ◌∷◌, ◌++◌, arith, refl, ap, subst, Option}
@@ -22,7 +22,7 @@ use Rattle.std.specs.Prelude.{◌&&◌, not, is_some}
 go_ends : (e : WalkState) (up : Bool) (held : ℕ) → is_home e.out ≡ true → DeviceFits e up held Unprobed → DeviceFits e up held (probe_for up e.stand)
 go_ends e up held o x = grind (arith, common_steps)
 
-pub probe_go : (d : DeviceRecord) → IsHome d → DeviceInvariant d → DeviceInvariant (record d { probe = probe_for d.up (state_after d d.order).stand })
+pub probe_go : (d : DeviceRecord) → NothingIsOut d → DeviceInvariant d → DeviceInvariant (record d { probe = probe_for d.up (walk_after d d.order).stand })
 probe_go d h i =
     let e : WalkState = walk_end (walk_start d.first_up d.first) d.order in
     record { walk = i.walk; ends = go_ends e d.up d.held (ap is_home (out_free (walk_start d.first_up d.first) d.order h.free)) (subst (λ q. DeviceFits e d.up d.held q) h.unprobed i.ends) }
@@ -83,7 +83,7 @@ probe_lost d a b c h p at n i =
       ends = lost_ends (walk_end z a) (walk_end z d.order) (walk_end z (a ++ Used c ∷ b)) (walk_end z (a ++ Used c' ∷ b)) c d.up d.held h n (tidy_front d.first_up d.first a k.front) k.fits f.ends m.idle m.idle' m.up x;
     }
   where
-    never : (st : Stage) (v : Option View) → (is_open (doomed_stage st) && not (is_some v)) ≡ true → ⊥
+    never : (st : RunStage) (v : Option View) → (stage_is_open (doomed_stage st) && not (is_some v)) ≡ true → ⊥
     never st v h = grind (arith, common_steps)
 
 rose_ends : (e e1 : WalkState) (up : Bool) (held v : ℕ) → e1 ≡ record e { up = true } → DeviceFits e up held (Restores v) → DeviceFits e1 true v Unprobed

@@ -1,8 +1,8 @@
 -- A use that has not touched the device has done nothing there.
-use Rattle.device_order.specs.Usages.{awaits_first, has_touched, is_command, is_open, is_up}
+use Rattle.device_order.specs.Usages.{awaits_first, has_used_device, holds_command, is_up, stage_is_open}
 use Rattle.device_order.specs.Walks.{UsageFits, WalkState, after_usage, is_command_out}
-use Rattle.device_order.specs.declared.records.Grip.TheVariants.{Free}
-use Rattle.device_order.specs.declared.records.Grip.{Grip}
+use Rattle.device_order.specs.declared.records.HeldGrip.TheVariants.{Free}
+use Rattle.device_order.specs.declared.records.HeldGrip.{HeldGrip}
 use Rattle.device_order.specs.declared.records.Usage.{Usage}
 use Rattle.home_types.specs.declared.commands.View.{View}
 use Rattle.std.proofs.Common.{◌≡◌, ℕ, true, false, arith, Option, None}
@@ -16,16 +16,16 @@ pub record Quiet (c : Usage) : Type 0 where
   pub wrote : c.wrote ≡ None
   pub grip : c.grip ≡ Free
 
-quiet_view : (v : Option View) (g : Grip) → (is_some v || is_command g) ≡ false → v ≡ None
+quiet_view : (v : Option View) (g : HeldGrip) → (is_some v || holds_command g) ≡ false → v ≡ None
 quiet_view v g h = grind (arith, common_steps)
 
 quiet_part : (o : Option ℕ) (v : Option View) → (is_some o ≡ true → is_up v ≡ true) → v ≡ None → o ≡ None
 quiet_part o v h e = grind (arith, common_steps)
 
-quiet_grip : (s : WalkState) (c : Usage) → UsageFits s c → has_touched c ≡ false → c.grip ≡ Free
+quiet_grip : (s : WalkState) (c : Usage) → UsageFits s c → has_used_device c ≡ false → c.grip ≡ Free
 quiet_grip s c f h = grind (arith, common_steps)
 
-pub quiet : (s : WalkState) (c : Usage) → UsageFits s c → has_touched c ≡ false → Quiet c
+pub quiet : (s : WalkState) (c : Usage) → UsageFits s c → has_used_device c ≡ false → Quiet c
 quiet s c f h =
     let v : c.view ≡ None = quiet_view c.view c.grip h in
     record {
@@ -35,11 +35,11 @@ quiet s c f h =
       grip = quiet_grip s c f h;
     }
 
-pub untouched : (s : WalkState) (c : Usage) → UsageFits s c → (s.opened || is_command_out s.out) ≡ true → has_touched c ≡ false
+pub untouched : (s : WalkState) (c : Usage) → UsageFits s c → (s.opened || is_command_out s.out) ≡ true → has_used_device c ≡ false
 untouched s c f h = grind (arith, common_steps)
 
 pub quiet_fits : (s t : WalkState) (c : Usage) → UsageFits s c → Quiet c → UsageFits t c
 quiet_fits s t c f q = grind (arith, common_steps)
 
-pub quiet_next : (t : WalkState) (c : Usage) → Quiet c → after_usage t c ≡ record t { opened = t.opened || is_open c.stage; waiting = t.waiting || awaits_first c }
+pub quiet_next : (t : WalkState) (c : Usage) → Quiet c → after_usage t c ≡ record t { opened = t.opened || stage_is_open c.stage; waiting = t.waiting || awaits_first c }
 quiet_next t c q = grind (arith, common_steps)

@@ -1,6 +1,6 @@
 -- A run whose answers fit one another is executed serially with them.
-use Rattle.device_order.specs.Summaries.{Answered, AnswerFits, AnswersFit, AreHomed, DeviceSummary, FitsSummary, Meets, MeetsHome, NoneFails, Summary, answer_of, blank, command_of, device_summary_then, first_view, overwritten, summary, summary_then, was_done}
-use Rattle.device_order.specs.Usages.{is_down, is_up}
+use Rattle.device_order.specs.Summaries.{Answered, AnswerFits, AnswersFit, AreHomed, DeviceSummary, FitsSummary, MeetsStand, MeetsHome, NoCommandFails, Summary, pair_answer, blank, pair_command, device_summary_then, first_view, overwritten, summary, summary_then, was_done}
+use Rattle.device_order.specs.Usages.{is_seen_down, is_up}
 use Rattle.home_types.specs.Commands.{Effect, Execution, command_effect, done_effect, driven, execute, fails, holds, reads, register_after, with_effect}
 use Rattle.home_types.specs.HomeStates.{stand_at}
 use Rattle.home_types.specs.Kinds.{kind_at}
@@ -22,7 +22,7 @@ use Rattle.std.specs.Prelude.{if◌then◌else◌, is_some, slice_set, ◌==◌,
 abbrev pub effect_of : Kind → Job → ℕ → DeviceSummary → Stand → Answer → Effect
 effect_of kind job register t s a = record { answer = a; register = register_after job a register; stand = overwritten s (device_summary_then t (driven kind job register) a).wrote }
 
-stands_up : (o : Option View) (u : Bool) → (is_some (first_view o Up) ≡ true → is_up (first_view o Up) ≡ u) → is_down o ≡ false → u ≡ true
+stands_up : (o : Option View) (u : Bool) → (is_some (first_view o Up) ≡ true → is_up (first_view o Up) ≡ u) → is_seen_down o ≡ false → u ≡ true
 stands_up None u h g = sym (h refl)
 stands_up (Some Up) u h g = sym (h refl)
 stands_up (Some ViewDown) u h g = grind (arith, common_steps)
@@ -33,7 +33,7 @@ stands_down (Some Up) u h g = grind (arith, common_steps)
 stands_down (Some ViewDown) u h g = sym (h refl)
 
 -- an answer that fits is the one that a command gives that is done, ..
-done_fits : (kind : Kind) (job : Job) (register : ℕ) (t : DeviceSummary) (s : Stand) (a : Answer) → was_done a ≡ true → AnswerFits (reads job) t a → Meets s (device_summary_then t (driven kind job register) a)
+done_fits : (kind : Kind) (job : Job) (register : ℕ) (t : DeviceSummary) (s : Stand) (a : Answer) → was_done a ≡ true → AnswerFits (reads job) t a → MeetsStand s (device_summary_then t (driven kind job register) a)
     → done_effect kind job register (overwritten s t.wrote) ≡ effect_of kind job register t s a
 done_fits kind job register t s Down e f m = let u = stands_down t.view s.up m.view f in grind (arith, common_steps)
 done_fits kind job register t s Fine e f m = let u = stands_up t.view s.up m.view f.1 in grind (arith, common_steps)
@@ -48,14 +48,14 @@ skipped_effect kind Load register t s = refl
 skipped_effect kind Store register t s = refl
 
 -- .. and by its guard a command is the one or the other
-effect_fits : (kind : Kind) (guard : Guard) (job : Job) (register : ℕ) (t : DeviceSummary) (s : Stand) (a : Answer) → holds guard register ≡ was_done a → AnswerFits (reads job) t a → Meets s (device_summary_then t (driven kind job register) a)
+effect_fits : (kind : Kind) (guard : Guard) (job : Job) (register : ℕ) (t : DeviceSummary) (s : Stand) (a : Answer) → holds guard register ≡ was_done a → AnswerFits (reads job) t a → MeetsStand s (device_summary_then t (driven kind job register) a)
     → command_effect kind guard job register (overwritten s t.wrote) ≡ effect_of kind job register t s a
 effect_fits kind guard job register t s a g f m = ap (λ b. if b then done_effect kind job register (overwritten s t.wrote) else skipped) g ∙ at a (was_done a) refl f m
   where
     skipped : Effect
     skipped = record { answer = Skipped; register = register; stand = overwritten s t.wrote }
 
-    at : (a : Answer) → (b : Bool) → was_done a ≡ b → AnswerFits (reads job) t a → Meets s (device_summary_then t (driven kind job register) a) → (if b then done_effect kind job register (overwritten s t.wrote) else skipped) ≡ effect_of kind job register t s a
+    at : (a : Answer) → (b : Bool) → was_done a ≡ b → AnswerFits (reads job) t a → MeetsStand s (device_summary_then t (driven kind job register) a) → (if b then done_effect kind job register (overwritten s t.wrote) else skipped) ≡ effect_of kind job register t s a
     at a true e f m = done_fits kind job register t s a e f m
     at Skipped false e f m = skipped_effect kind job register t s
     at Fine false e f m = absurd (cc)
@@ -75,20 +75,20 @@ seen None u w h g = grind (arith, common_steps)
 seen (Some x) u w h g = h refl
 
 -- a device that meets a summary at the end met it before
-meets_before : (s : Stand) (t : DeviceSummary) (v : ℕ) (a : Answer) → Meets s (device_summary_then t v a) → Meets s t
+meets_before : (s : Stand) (t : DeviceSummary) (v : ℕ) (a : Answer) → MeetsStand s (device_summary_then t v a) → MeetsStand s t
 meets_before s t v Skipped m = m
 meets_before s t v Down m = record { view = λ h. seen t.view s.up ViewDown m.view h; read = m.read }
 meets_before s t v Fine m = record { view = λ h. seen t.view s.up Up m.view h; read = m.read }
 meets_before s t v (Found x) m = record { view = λ h. seen t.view s.up Up m.view h; read = λ y h. m.read y (ap (λ o. if is_some o || is_some t.wrote then o else Some x) h) }
 
-then_meets : (kinds : List Kind) (s : Summary) (p : Answered) (d : ℕ) (x : Stand) → Meets x ((summary_then kinds s p).on d) → Meets x (s.on d)
+then_meets : (kinds : List Kind) (s : Summary) (p : Answered) (d : ℕ) (x : Stand) → MeetsStand x ((summary_then kinds s p).on d) → MeetsStand x (s.on d)
 then_meets kinds s p d x m = at_ (d == p.command.device.0) m
   where
-    at_ : (b : Bool) → Meets x (if b then device_summary_then (s.on d) (driven (kind_at kinds p.command.device.0) p.command.job s.register) p.answer else s.on d) → Meets x (s.on d)
+    at_ : (b : Bool) → MeetsStand x (if b then device_summary_then (s.on d) (driven (kind_at kinds p.command.device.0) p.command.job s.register) p.answer else s.on d) → MeetsStand x (s.on d)
     at_ true m = meets_before x (s.on d) (driven (kind_at kinds p.command.device.0) p.command.job s.register) p.answer m
     at_ false m = m
 
-summary_meets : (kinds : List Kind) (s : Summary) (ps : List Answered) (d : ℕ) (x : Stand) → Meets x ((summary kinds s ps).on d) → Meets x (s.on d)
+summary_meets : (kinds : List Kind) (s : Summary) (ps : List Answered) (d : ℕ) (x : Stand) → MeetsStand x ((summary kinds s ps).on d) → MeetsStand x (s.on d)
 unfolding summary
 summary_meets kinds s [] d x m = m
 summary_meets kinds s (p ∷ ps) d x m = then_meets kinds s p d x (summary_meets kinds (summary_then kinds s p) ps d x m)
@@ -104,7 +104,7 @@ then_there kinds s p d e = grind (arith, common_steps)
 -- one command
 step_fits : (kinds : List Kind) (w : List Stand) (from : Execution) (s : Summary) (p : Answered) → from.register ≡ s.register → from.refused ≡ false
     → stand_at from.home p.command.device.0 ≡ overwritten (stand_at w p.command.device.0) (s.on p.command.device.0).wrote
-    → FitsSummary s p → fails p.command p.answer ≡ false → Meets (stand_at w p.command.device.0) ((summary_then kinds s p).on p.command.device.0)
+    → FitsSummary s p → fails p.command p.answer ≡ false → MeetsStand (stand_at w p.command.device.0) ((summary_then kinds s p).on p.command.device.0)
     → execute kinds from p.command ≡ record {
       home = slice_set from.home p.command.device.0 (overwritten (stand_at w p.command.device.0) ((summary_then kinds s p).on p.command.device.0).wrote);
       register = (summary_then kinds s p).register;
@@ -118,7 +118,7 @@ step_fits kinds w from s p er eb es f ok m =
     let e : command_effect k p.command.when p.command.job from.register (stand_at from.home d) ≡ effect_of k p.command.job s.register (s.on d) (stand_at w d) p.answer =
     ap (λ r. command_effect k p.command.when p.command.job r (stand_at from.home d)) er
     ∙ ap (command_effect k p.command.when p.command.job s.register) es
-    ∙ effect_fits k p.command.when p.command.job s.register (s.on d) (stand_at w d) p.answer f.guard f.answer (subst (Meets (stand_at w d)) here m) in
+    ∙ effect_fits k p.command.when p.command.job s.register (s.on d) (stand_at w d) p.answer f.guard f.answer (subst (MeetsStand (stand_at w d)) here m) in
     let no : (from.refused || fails p.command p.answer) ≡ false = or_from from.refused (fails p.command p.answer) eb ok in
     ap (with_effect from p.command) e
     ∙ (λ i. record { home = slice_set from.home d (overwritten (stand_at w d) (sym here i).wrote); register = register_after p.command.job p.answer s.register; answers = from.answers ++ p.answer ∷ []; refused = no i })
@@ -126,14 +126,14 @@ step_fits kinds w from s p er eb es f ok m =
 -- from the middle: the execution of the answered commands gives their answers, and overwrites the home with the last writes
 pub record Executes (kinds : List Kind) (w : List Stand) (from : Execution) (s : Summary) (ps : List Answered) : Type 0 where
   pub home : List Stand
-  pub is : fold (execute kinds) from (map command_of ps) ≡ record { home = home; register = s.register; answers = from.answers ++ map answer_of ps; refused = false }
+  pub is : fold (execute kinds) from (map pair_command ps) ≡ record { home = home; register = s.register; answers = from.answers ++ map pair_answer ps; refused = false }
   pub size : length home ≡ length w
   pub stands : (d : ℕ) → d < length w → stand_at home d ≡ overwritten (stand_at w d) (s.on d).wrote
 
 pub executes : (kinds : List Kind) (w : List Stand) (from : Execution) (s : Summary) (ps : List Answered) → from.register ≡ s.register → from.refused ≡ false → length from.home ≡ length w
-    → ((d : ℕ) → d < length w → stand_at from.home d ≡ overwritten (stand_at w d) (s.on d).wrote) → AnswersFit kinds s ps → NoneFails ps → AreHomed (length w) (map command_of ps)
+    → ((d : ℕ) → d < length w → stand_at from.home d ≡ overwritten (stand_at w d) (s.on d).wrote) → AnswersFit kinds s ps → NoCommandFails ps → AreHomed (length w) (map pair_command ps)
     → MeetsHome w (summary kinds s ps) → Executes kinds w from (summary kinds s ps) ps
-unfolding summary AnswersFit NoneFails AreHomed
+unfolding summary AnswersFit NoCommandFails AreHomed
 executes kinds w from s [] er eb ez es co ok ho m = record {
   home = from.home;
   is = λ i. record { home = from.home; register = er i; answers = sym (append-nil from.answers) i; refused = eb i };
@@ -152,13 +152,13 @@ executes kinds w from s (p ∷ ps) er eb ez es co ok ho m =
     let rest = executes kinds w n (summary_then kinds s p) ps refl refl (length-set from.home d x ∙ ez) stands co.1 ok.1 ho.1 m in
     record {
       home = rest.home;
-      is = ap (λ y. fold (execute kinds) y (map command_of ps)) one ∙ rest.is
-          ∙ (λ i. record { home = rest.home; register = (summary kinds (summary_then kinds s p) ps).register; answers = append_assoc from.answers (p.answer ∷ []) (map answer_of ps) i; refused = false });
+      is = ap (λ y. fold (execute kinds) y (map pair_command ps)) one ∙ rest.is
+          ∙ (λ i. record { home = rest.home; register = (summary kinds (summary_then kinds s p) ps).register; answers = append_assoc from.answers (p.answer ∷ []) (map pair_answer ps) i; refused = false });
       size = rest.size;
       stands = rest.stands;
     }
 
-pub serves : (kinds : List Kind) (home : List Stand) (ps : List Answered) → AnswersFit kinds blank ps → NoneFails ps → AreHomed (length home) (map command_of ps)
+pub serves : (kinds : List Kind) (home : List Stand) (ps : List Answered) → AnswersFit kinds blank ps → NoCommandFails ps → AreHomed (length home) (map pair_command ps)
     → MeetsHome home (summary kinds blank ps) → Executes kinds home (record { home = home; register = 0; answers = []; refused = false }) (summary kinds blank ps) ps
 serves kinds home ps co ok ho m = executes kinds home (record { home = home; register = 0; answers = []; refused = false }) blank ps refl refl refl (λ d lt. refl) co ok ho m
 
@@ -173,7 +173,7 @@ unfolding summary AnswersFit
 fit_more kinds s [] p co f = (f, tt)
 fit_more kinds s (q ∷ ps) p co f = (co.0, fit_more kinds (summary_then kinds s q) ps p co.1 f)
 
-pub none_more : (ps : List Answered) (p : Answered) → NoneFails ps → fails p.command p.answer ≡ false → NoneFails (ps ++ p ∷ [])
-unfolding NoneFails
+pub none_more : (ps : List Answered) (p : Answered) → NoCommandFails ps → fails p.command p.answer ≡ false → NoCommandFails (ps ++ p ∷ [])
+unfolding NoCommandFails
 none_more [] p ok f = (f, tt)
 none_more (q ∷ ps) p ok f = (ok.0, none_more ps p ok.1 f)

@@ -3,11 +3,11 @@ use Rattle.command_rules.specs.Rosters.{Run, commands_of}
 use Rattle.command_rules.specs.Serial.{SerialRun, Served, serve}
 use Rattle.device_order.proofs.Paired.{answers_all, commands_all, unused_there}
 use Rattle.device_order.proofs.Runs.{Executes, serves, stand_at_set}
-use Rattle.device_order.specs.LineEntries.{entries, entry_if, entry_of, stage_of, usage, with_entry}
+use Rattle.device_order.specs.LineEntries.{entries, entry_if, entry_of, stage_of, usage, with_order_entry}
 use Rattle.device_order.specs.LineOrders.{EventsAreHomed, LineIsSerial, serial_order, served, walk_stand}
-use Rattle.device_order.specs.RunStates.{IsWhole, RunState, RunStates, answered, device_summary, rest, summary_of, uses}
-use Rattle.device_order.specs.Summaries.{AreHomed, DeviceSummary, Meets, blank, overwritten, unanswered}
-use Rattle.device_order.specs.Usages.{counts_serially, is_committed, is_restart, is_up}
+use Rattle.device_order.specs.RunStates.{IsAllAnswered, RunState, RunStates, answered_commands, device_summary, rest, summary_of, uses_device}
+use Rattle.device_order.specs.Summaries.{AreHomed, DeviceSummary, MeetsStand, blank, overwritten, unanswered}
+use Rattle.device_order.specs.Usages.{counts_serially, is_restart, is_up, stage_is_committed}
 use Rattle.device_order.specs.Walks.{EntryFits, WalkHolds, WalkState, after_entry, walk_end}
 use Rattle.device_order.specs.declared.records.Event.{Event}
 use Rattle.device_order.specs.declared.records.Event.TheVariants.{Failure, Restart}
@@ -37,31 +37,31 @@ abbrev pub FitsIf : WalkState → Option OrderEntry → Type 0
 FitsIf z None = Unit {0}
 FitsIf z (Some x) = EntryFits z x
 
-pub walk_first : (z : WalkState) (o : Option OrderEntry) (xs : List OrderEntry) → WalkHolds z (with_entry o xs) → FitsIf z o
+pub walk_first : (z : WalkState) (o : Option OrderEntry) (xs : List OrderEntry) → WalkHolds z (with_order_entry o xs) → FitsIf z o
 unfolding WalkHolds
 walk_first z None xs h = tt
 walk_first z (Some x) xs h = h.0
 
-pub walk_rest : (z : WalkState) (o : Option OrderEntry) (xs : List OrderEntry) → WalkHolds z (with_entry o xs) → WalkHolds (met z o) xs
+pub walk_rest : (z : WalkState) (o : Option OrderEntry) (xs : List OrderEntry) → WalkHolds z (with_order_entry o xs) → WalkHolds (met z o) xs
 unfolding WalkHolds
 walk_rest z None xs h = h
 walk_rest z (Some x) xs h = h.1
 
-pub end_first : (z : WalkState) (o : Option OrderEntry) (xs : List OrderEntry) → walk_end z (with_entry o xs) ≡ walk_end (met z o) xs
+pub end_first : (z : WalkState) (o : Option OrderEntry) (xs : List OrderEntry) → walk_end z (with_order_entry o xs) ≡ walk_end (met z o) xs
 unfolding walk_end
 end_first z None xs = refl
 end_first z (Some x) xs = refl
 
 -- what a committed run leaves is what the walk makes of it; another run leaves nothing
-run_stands : (z : WalkState) (b : Bool) (u : Usage) → is_committed u.stage ≡ true → (b ≡ false → u.wrote ≡ None) → overwritten (walk_stand z) u.wrote ≡ walk_stand (met z (entry_if b (Used u)))
+run_stands : (z : WalkState) (b : Bool) (u : Usage) → stage_is_committed u.stage ≡ true → (b ≡ false → u.wrote ≡ None) → overwritten (walk_stand z) u.wrote ≡ walk_stand (met z (entry_if b (Used u)))
 run_stands z b u h g = grind (arith, common_steps)
 
-run_idle : (z : WalkState) (b : Bool) (u : Usage) → is_committed u.stage ≡ false → walk_stand z ≡ walk_stand (met z (entry_if b (Used u)))
+run_idle : (z : WalkState) (b : Bool) (u : Usage) → stage_is_committed u.stage ≡ false → walk_stand z ≡ walk_stand (met z (entry_if b (Used u)))
 run_idle z b u h = grind (arith, common_steps)
 
-run_meets : (z : WalkState) (b : Bool) (u : Usage) (t : DeviceSummary) → u.view ≡ t.view → u.read ≡ t.read → FitsIf z (entry_if b (Used u)) → counts_serially u.stage ≡ true → (b ≡ false → t ≡ unanswered) → Meets (walk_stand z) t
+run_meets : (z : WalkState) (b : Bool) (u : Usage) (t : DeviceSummary) → u.view ≡ t.view → u.read ≡ t.read → FitsIf z (entry_if b (Used u)) → counts_serially u.stage ≡ true → (b ≡ false → t ≡ unanswered) → MeetsStand (walk_stand z) t
 run_meets z true u t ev er f h g = record { view = λ e. sym (ap is_up ev) ∙ f.view h (ap is_some ev ∙ e); read = λ x e. f.read h x (er ∙ e) }
-run_meets z false u t ev er f h g = subst (Meets (walk_stand z)) (sym (g refl)) (record { view = λ e. nothing e; read = λ x e. none x e })
+run_meets z false u t ev er f h g = subst (MeetsStand (walk_stand z)) (sym (g refl)) (record { view = λ e. nothing e; read = λ x e. none x e })
   where
     nothing : false ≡ true → false ≡ z.up
     nothing e = grind (arith, common_steps)
@@ -114,24 +114,24 @@ comes : (kinds : List Kind) (runs : List Run) (s : SerialRun) (e : DeviceNo) (k 
     → fold (serve runs kinds) s (Back e k ∷ is) ≡ fold (serve runs kinds) (record { home = with_up s.home e.0 true; answers = s.answers; refused = false }) is
 comes kinds runs s e k is h g = ap (λ b. fold (serve runs kinds) (record { home = with_up s.home e.0 true; answers = s.answers; refused = b }) is) (or_from s.refused (stand_at s.home e.0).up h g)
 
-sound : (committed doomed pending : Bool) → committed ≡ true → (is_committed (stage_of committed doomed pending) ≡ true) × (counts_serially (stage_of committed doomed pending) ≡ true)
+sound : (committed doomed pending : Bool) → committed ≡ true → (stage_is_committed (stage_of committed doomed pending) ≡ true) × (counts_serially (stage_of committed doomed pending) ≡ true)
 sound committed doomed pending h = (grind (arith, common_steps), grind (arith, common_steps))
 
-unsound : (committed doomed pending : Bool) → committed ≡ false → is_committed (stage_of committed doomed pending) ≡ false
+unsound : (committed doomed pending : Bool) → committed ≡ false → stage_is_committed (stage_of committed doomed pending) ≡ false
 unsound committed doomed pending h = grind (arith, common_steps)
 
 -- a committed run of a line in the serial execution
-run_serves : (kinds : List Kind) (home : List Stand) (z : ℕ → WalkState) (r : RunState) → r.committed ≡ true → IsWhole kinds (length home) r → ((d : ℕ) → d < length home → stand_at home d ≡ walk_stand (z d))
-    → ((d : ℕ) → d < length home → FitsIf (z d) (entry_if (uses d r.commands) (Used (usage kinds r d)))) → Executes kinds home (record { home = home; register = 0; answers = []; refused = false }) (summary_of kinds r) (answered r)
-run_serves kinds home z r h whole st fit = serves kinds home (answered r) whole.fit whole.none_fails (subst (AreHomed (length home)) (sym (commands_all r.commands r.answers whole.all)) whole.homed)
-    (λ d lt. subst (λ x. Meets x (device_summary kinds r d)) (sym (st d lt)) (run_meets (z d) (uses d r.commands) (usage kinds r d) (device_summary kinds r d) refl refl (fit d lt) (sound r.committed r.doomed (uses d (rest r)) h).1 (λ u. unused_there kinds blank r.commands r.answers d u)))
+run_serves : (kinds : List Kind) (home : List Stand) (z : ℕ → WalkState) (r : RunState) → r.committed ≡ true → IsAllAnswered kinds (length home) r → ((d : ℕ) → d < length home → stand_at home d ≡ walk_stand (z d))
+    → ((d : ℕ) → d < length home → FitsIf (z d) (entry_if (uses_device d r.commands) (Used (usage kinds r d)))) → Executes kinds home (record { home = home; register = 0; answers = []; refused = false }) (summary_of kinds r) (answered_commands r)
+run_serves kinds home z r h whole st fit = serves kinds home (answered_commands r) whole.fit whole.none_fails (subst (AreHomed (length home)) (sym (commands_all r.commands r.answers whole.all)) whole.homed)
+    (λ d lt. subst (λ x. MeetsStand x (device_summary kinds r d)) (sym (st d lt)) (run_meets (z d) (uses_device d r.commands) (usage kinds r d) (device_summary kinds r d) refl refl (fit d lt) (sound r.committed r.doomed (uses_device d (rest r)) h).1 (λ u. unused_there kinds blank r.commands r.answers d u)))
 
 run_leaves : (kinds : List Kind) (home : List Stand) (z : ℕ → WalkState) (r : RunState) → r.committed ≡ true → ((d : ℕ) → d < length home → stand_at home d ≡ walk_stand (z d))
-    → (p : Executes kinds home (record { home = home; register = 0; answers = []; refused = false }) (summary_of kinds r) (answered r))
-    → (d : ℕ) → d < length home → stand_at p.home d ≡ walk_stand (met (z d) (entry_if (uses d r.commands) (Used (usage kinds r d))))
+    → (p : Executes kinds home (record { home = home; register = 0; answers = []; refused = false }) (summary_of kinds r) (answered_commands r))
+    → (d : ℕ) → d < length home → stand_at p.home d ≡ walk_stand (met (z d) (entry_if (uses_device d r.commands) (Used (usage kinds r d))))
 run_leaves kinds home z r h st p d lt =
     p.stands d lt ∙ ap (λ x. overwritten x (device_summary kinds r d).wrote) (st d lt)
-    ∙ run_stands (z d) (uses d r.commands) (usage kinds r d) (sound r.committed r.doomed (uses d (rest r)) h).0 (λ u. ap (λ (t : DeviceSummary). t.wrote) (unused_there kinds blank r.commands r.answers d u))
+    ∙ run_stands (z d) (uses_device d r.commands) (usage kinds r d) (sound r.committed r.doomed (uses_device d (rest r)) h).0 (λ u. ap (λ (t : DeviceSummary). t.wrote) (unused_there kinds blank r.commands r.answers d u))
 
 served_here : (states : RunStates) (all : List Served) (r : RunNo) (is : List Item) → (states r.0).committed ≡ true
     → (all ++ record { run = r; answers = (states r.0).answers } ∷ []) ++ served states is ≡ all ++ served states (Ran r ∷ is)
@@ -148,7 +148,7 @@ runs_so kinds runs s r home register answers is h e =
 
 pub serializes : (kinds : List Kind) (runs : List Run) (states : RunStates) (s : SerialRun) (z : ℕ → WalkState) (line : List Item) → ((r : ℕ) → (states r).commands ≡ commands_of runs r) → s.refused ≡ false
     → ((d : ℕ) → d < length s.home → stand_at s.home d ≡ walk_stand (z d)) → ((d : ℕ) → d < length s.home → WalkHolds (z d) (entries kinds states d line)) → EventsAreHomed (length s.home) line
-    → ((r : ℕ) → (states r).committed ≡ true → IsWhole kinds (length s.home) (states r)) → Serializes kinds runs states s z line
+    → ((r : ℕ) → (states r).committed ≡ true → IsAllAnswered kinds (length s.home) (states r)) → Serializes kinds runs states s z line
 unfolding entries serial_order served EventsAreHomed walk_end
 serializes kinds runs states s z [] same yet st walk ho whole = record { home = s.home; is = nothing; size = refl; stands = ended }
   where
@@ -166,7 +166,7 @@ serializes kinds runs states s z (Failed e k ∷ is) same yet st walk ho whole =
     (λ d lt. event_stands s.home z e.0 Failure ho.0 st d (subst (λ x. d < x) size lt))
     (λ d lt. walk_rest (z d) (entry_of kinds states d (Failed e k)) (entries kinds states d is) (walk d (subst (λ x. d < x) size lt)))
     (subst (λ x. EventsAreHomed x is) (sym size) ho.1)
-    (λ r c. subst (λ x. IsWhole kinds x (states r)) (sym size) (whole r c)))
+    (λ r c. subst (λ x. IsAllAnswered kinds x (states r)) (sym size) (whole r c)))
 serializes kinds runs states s z (Back e k ∷ is) same yet st walk ho whole =
     let n : SerialRun = record { home = with_up s.home e.0 true; answers = s.answers; refused = false } in
     let size : length n.home ≡ length s.home = length-set s.home e.0 (record { value = (stand_at s.home e.0).value; up = true }) in
@@ -176,12 +176,12 @@ serializes kinds runs states s z (Back e k ∷ is) same yet st walk ho whole =
     (λ d lt. event_stands s.home z e.0 Restart ho.0 st d (subst (λ x. d < x) size lt))
     (λ d lt. walk_rest (z d) (entry_of kinds states d (Back e k)) (entries kinds states d is) (walk d (subst (λ x. d < x) size lt)))
     (subst (λ x. EventsAreHomed x is) (sym size) ho.1)
-    (λ r c. subst (λ x. IsWhole kinds x (states r)) (sym size) (whole r c)))
+    (λ r c. subst (λ x. IsAllAnswered kinds x (states r)) (sym size) (whole r c)))
 serializes kinds runs states s z (Ran r ∷ is) same yet st walk ho whole =
     decide (λ n size yet' st'. serializes kinds runs states n (λ d. met (z d) (entry_of kinds states d (Ran r))) is same yet' st'
     (λ d lt. walk_rest (z d) (entry_of kinds states d (Ran r)) (entries kinds states d is) (walk d (subst (λ x. d < x) size lt)))
     (subst (λ x. EventsAreHomed x is) (sym size) ho)
-    (λ q c. subst (λ x. IsWhole kinds x (states q)) (sym size) (whole q c))) (states r.0).committed refl
+    (λ q c. subst (λ x. IsAllAnswered kinds x (states q)) (sym size) (whole q c))) (states r.0).committed refl
   where
     l : RunState
     l = states r.0
@@ -189,8 +189,8 @@ serializes kinds runs states s z (Ran r ∷ is) same yet st walk ho whole =
     decide : ((n : SerialRun) → length n.home ≡ length s.home → n.refused ≡ false → ((d : ℕ) → d < length n.home → stand_at n.home d ≡ walk_stand (met (z d) (entry_of kinds states d (Ran r)))) → Serializes kinds runs states n (λ d. met (z d) (entry_of kinds states d (Ran r))) is)
         → (b : Bool) → l.committed ≡ b → Serializes kinds runs states s z (Ran r ∷ is)
     decide ih true h =
-        let w : IsWhole kinds (length s.home) l = whole r.0 h in
-        let p : Executes kinds s.home (record { home = s.home; register = 0; answers = []; refused = false }) (summary_of kinds l) (answered l) =
+        let w : IsAllAnswered kinds (length s.home) l = whole r.0 h in
+        let p : Executes kinds s.home (record { home = s.home; register = 0; answers = []; refused = false }) (summary_of kinds l) (answered_commands l) =
         run_serves kinds s.home z l h w st (λ d lt. walk_first (z d) (entry_of kinds states d (Ran r)) (entries kinds states d is) (walk d lt)) in
         let x : routine_execution kinds (commands_of runs r.0) s.home ≡ record { home = p.home; register = (summary_of kinds l).register; answers = l.answers; refused = false } =
         ap (λ cs. routine_execution kinds cs s.home) (sym (same r.0) ∙ sym (commands_all l.commands l.answers w.all)) ∙ p.is ∙ ap (λ xs. record { home = p.home; register = (summary_of kinds l).register; answers = xs; refused = false }) (answers_all l.commands l.answers w.all) in
@@ -203,11 +203,11 @@ serializes kinds runs states s z (Ran r ∷ is) same yet st walk ho whole =
         later kinds runs states s s z (Ran r) is
         (ap (λ b. fold (serve runs kinds) s (if b then Ran r ∷ serial_order states is else serial_order states is)) h)
         (ap (λ b. s.answers ++ (if b then record { run = r; answers = l.answers } ∷ served states is else served states is)) (sym h)) refl
-        (ih s refl yet (λ d lt. st d lt ∙ run_idle (z d) (uses d l.commands) (usage kinds l d) (unsound l.committed l.doomed (uses d (rest l)) h)))
+        (ih s refl yet (λ d lt. st d lt ∙ run_idle (z d) (uses_device d l.commands) (usage kinds l d) (unsound l.committed l.doomed (uses_device d (rest l)) h)))
 
 pub line_serial : (kinds : List Kind) (runs : List Run) (states : RunStates) (s : SerialRun) (z : ℕ → WalkState) (line : List Item) → ((r : ℕ) → (states r).commands ≡ commands_of runs r) → s.refused ≡ false
     → ((d : ℕ) → d < length s.home → stand_at s.home d ≡ walk_stand (z d)) → ((d : ℕ) → d < length s.home → WalkHolds (z d) (entries kinds states d line)) → EventsAreHomed (length s.home) line
-    → ((r : ℕ) → (states r).committed ≡ true → IsWhole kinds (length s.home) (states r)) → LineIsSerial kinds runs states s z line
+    → ((r : ℕ) → (states r).committed ≡ true → IsAllAnswered kinds (length s.home) (states r)) → LineIsSerial kinds runs states s z line
 line_serial kinds runs states s z line same yet st walk ho whole =
     let e = serializes kinds runs states s z line same yet st walk ho whole in
     record {

@@ -5,10 +5,10 @@ use Rattle.device_order.proofs.Effects.{out_free}
 use Rattle.device_order.proofs.Parts.{Cut, cut, put}
 use Rattle.device_order.proofs.Suffix.{Idle}
 use Rattle.device_order.proofs.Undos.{undone}
-use Rattle.device_order.specs.Claims.{StandsAt, standing_value}
+use Rattle.device_order.specs.Claims.{StandsAt, value_in_effect}
 use Rattle.device_order.specs.Invariant.{DeviceFits, DeviceInvariant}
 use Rattle.device_order.specs.Records.{DeviceRecord, walk_start}
-use Rattle.device_order.specs.Usages.{is_command}
+use Rattle.device_order.specs.Usages.{holds_command}
 use Rattle.device_order.specs.Walks.{Home, Undo, WalkHolds, WalkState, after_usage, walk_end}
 use Rattle.device_order.specs.declared.records.OrderEntry.TheVariants.{Used}
 use Rattle.device_order.specs.declared.records.OrderEntry.{OrderEntry}
@@ -27,14 +27,14 @@ asked_stands e up held p n x = grind (arith, common_steps)
 restored_stands : (e : WalkState) (up : Bool) (held : ℕ) (p : Probe) (v : ℕ) → p ≡ Restores v → DeviceFits e up held p → v ≡ e.stand
 restored_stands e up held p v n x = grind (arith, common_steps)
 
-called_stands : (s e : WalkState) (u : Usage) (up : Bool) (held : ℕ) (p : Probe) → is_command u.grip ≡ true → Idle (after_usage s u) e → DeviceFits e up held p → held ≡ e.stand
+called_stands : (s e : WalkState) (u : Usage) (up : Bool) (held : ℕ) (p : Probe) → holds_command u.grip ≡ true → Idle (after_usage s u) e → DeviceFits e up held p → held ≡ e.stand
 called_stands s e u up held p g j x = grind (arith, common_steps)
 
 undone_stands : (e : WalkState) (up : Bool) (held : ℕ) (p : Probe) (v : ℕ) → e.out ≡ Undo v → DeviceFits e up held p → v ≡ e.stand
 undone_stands e up held p v o x = grind (arith, common_steps)
 
 -- the device stands at its standing value, and each drive that is out drives that
-pub stands : (d : DeviceRecord) → DeviceInvariant d → StandsAt d (standing_value d)
+pub stands : (d : DeviceRecord) → DeviceInvariant d → StandsAt d (value_in_effect d)
 stands d i = record {
   home = λ h u. home_stands e d.up d.held d.probe (out_free z d.order h.free) h.unprobed u i.ends ∙ same;
   asked = λ p. asked_stands e d.up d.held d.probe p i.ends ∙ same;
@@ -49,13 +49,13 @@ stands d i = record {
     e : WalkState
     e = walk_end (walk_start d.first_up d.first) d.order
 
-    same : (walk_end (walk_start d.first_up d.first) d.order).stand ≡ standing_value d
+    same : (walk_end (walk_start d.first_up d.first) d.order).stand ≡ value_in_effect d
     same = (effect (walk_start d.first_up d.first) d.first None d.order (record { stand = refl; settled = refl })).stand
 
     cut_at : (a b : List OrderEntry) (u : Usage) → d.order ≡ a ++ Used u ∷ b → Cut (walk_start d.first_up d.first) a u b
     cut_at a b u at = cut (walk_start d.first_up d.first) a u b (subst (λ l. WalkHolds (walk_start d.first_up d.first) l) at i.walk)
 
-    idle : (a b : List OrderEntry) (u : Usage) → d.order ≡ a ++ Used u ∷ b → is_command u.grip ≡ true → Idle (after_usage (walk_end (walk_start d.first_up d.first) a) u) (walk_end (walk_start d.first_up d.first) d.order)
+    idle : (a b : List OrderEntry) (u : Usage) → d.order ≡ a ++ Used u ∷ b → holds_command u.grip ≡ true → Idle (after_usage (walk_end (walk_start d.first_up d.first) a) u) (walk_end (walk_start d.first_up d.first) d.order)
     idle a b u at g =
         let k : Cut (walk_start d.first_up d.first) a u b = cut_at a b u at in
         subst (λ l. Idle (after_usage (walk_end (walk_start d.first_up d.first) a) u) (walk_end (walk_start d.first_up d.first) l)) (sym at)

@@ -2,7 +2,7 @@
 use Rattle.device_order.specs.declared.records.Event.{Event}
 use Rattle.device_order.proofs.Quiet.{quiet, untouched, quiet_fits, quiet_next}
 use Rattle.device_order.specs.Changes.{is_calm}
-use Rattle.device_order.specs.Usages.{awaits_first, has_touched, is_open, is_restart}
+use Rattle.device_order.specs.Usages.{awaits_first, has_used_device, is_restart, stage_is_open}
 use Rattle.device_order.specs.Walks.{UsageFits, WalkHolds, WalkState, after_usage, is_command_out, walk_end, with_event}
 use Rattle.device_order.specs.declared.records.OrderEntry.TheVariants.{Occurred, Used}
 use Rattle.device_order.specs.declared.records.OrderEntry.{OrderEntry}
@@ -49,8 +49,8 @@ blocked s t (Occurred e ∷ b) h u w k =
     carry s e z i = record { value = i.value; stand = i.stand; settled = i.settled; undoing = i.undoing; spanned = i.spanned; exposed = i.exposed; out = i.out }
 blocked s t (Used c ∷ b) h u w k =
     let q = quiet s c k.0 (untouched s c k.0 h) in
-    let S : WalkState = record s { opened = s.opened || is_open c.stage; waiting = s.waiting || awaits_first c } in
-    let T : WalkState = record t { opened = t.opened || is_open c.stage; waiting = t.waiting || awaits_first c } in
+    let S : WalkState = record s { opened = s.opened || stage_is_open c.stage; waiting = s.waiting || awaits_first c } in
+    let T : WalkState = record t { opened = t.opened || stage_is_open c.stage; waiting = t.waiting || awaits_first c } in
     let es : after_usage s c ≡ S = quiet_next s c q in
     let et : after_usage t c ≡ T = quiet_next t c q in
     let i : Blocked S T b = blocked S T b (still s c h) u (later s t c w) (subst (λ x. WalkHolds x b) es k.1) in
@@ -61,7 +61,7 @@ blocked s t (Used c ∷ b) h u w k =
       up = ap (λ x. (walk_end x b).up) et ∙ i.up ∙ ap (λ x. (walk_end x b).up) (sym es);
     }
   where
-    still : (s : WalkState) (c : Usage) → (s.opened || is_command_out s.out) ≡ true → ((s.opened || is_open c.stage) || is_command_out s.out) ≡ true
+    still : (s : WalkState) (c : Usage) → (s.opened || is_command_out s.out) ≡ true → ((s.opened || stage_is_open c.stage) || is_command_out s.out) ≡ true
     still s c h = grind (arith, common_steps)
 
     later : (s t : WalkState) (c : Usage) → (t.waiting ≡ true → s.waiting ≡ true) → (t.waiting || awaits_first c) ≡ true → (s.waiting || awaits_first c) ≡ true
@@ -87,7 +87,7 @@ blind s e (Used c ∷ b) o w k =
     let i = blind (after_usage s c) e b (more s c o) (more' s c w) k.1 in
     record { walk = (quiet_fits s (record s { up = e }) c k.0 (quiet s c k.0 (untouched s c k.0 (blocking s o))), i.walk); ends = i.ends; up = i.up }
   where
-    more : (s : WalkState) (c : Usage) → s.opened ≡ true → (s.opened || is_open c.stage) ≡ true
+    more : (s : WalkState) (c : Usage) → s.opened ≡ true → (s.opened || stage_is_open c.stage) ≡ true
     more s c h = grind (arith, common_steps)
 
     more' : (s : WalkState) (c : Usage) → s.waiting ≡ true → (s.waiting || awaits_first c) ≡ true
@@ -113,7 +113,7 @@ came s e (Used c ∷ b) w u k = at (λ h. came (after_usage s c) e b (waiting' s
     waiting' : (s : WalkState) (c : Usage) → s.waiting ≡ false → awaits_first c ≡ false → (s.waiting || awaits_first c) ≡ false
     waiting' s c h g = grind (arith, common_steps)
 
-    opening : (s : WalkState) (c : Usage) → awaits_first c ≡ true → (s.opened || is_open c.stage) ≡ true
+    opening : (s : WalkState) (c : Usage) → awaits_first c ≡ true → (s.opened || stage_is_open c.stage) ≡ true
     opening s c h = grind (arith, common_steps)
 
     fits : (s : WalkState) (e : Event) (c : Usage) → awaits_first c ≡ true → UsageFits s c → UsageFits (record s { up = is_restart e }) c
@@ -151,9 +151,9 @@ calm o s (Occurred e ∷ b) h k = absurd (no h)
     no : false ≡ true → ⊥
     no h = grind (arith, common_steps)
 calm o s (Used c ∷ b) h k =
-    let p = parts (has_touched c) (is_calm b) h in
+    let p = parts (has_used_device c) (is_calm b) h in
     let q = quiet o c k.0 p.0 in
-    let S : WalkState = record s { opened = s.opened || is_open c.stage; waiting = s.waiting || awaits_first c } in
+    let S : WalkState = record s { opened = s.opened || stage_is_open c.stage; waiting = s.waiting || awaits_first c } in
     let es : after_usage s c ≡ S = quiet_next s c q in
     let i : Calm S b = calm (after_usage o c) S b p.1 k.1 in
     record {

@@ -1,7 +1,7 @@
 -- Routines and events on different devices do not see one another.
 use Rattle.command_rules.specs.Rosters.{Run, commands_of, is_on, run_no, touches}
 use Rattle.command_rules.specs.Serial.{SerialRun, Served, serial_execution, serve}
-use Rattle.device_order.specs.Exchanges.{SameOutcome, ShareNoDevice, answers_of}
+use Rattle.device_order.specs.Exchanges.{SameOutcome, ShareNoDevice, servings_of}
 use Rattle.home_types.specs.Commands.{Effect, Execution, command_effect, execute, routine_execution, with_effect}
 use Rattle.home_types.specs.HomeStates.{nowhere, stand_at, with_up}
 use Rattle.home_types.specs.Kinds.{kind_at}
@@ -146,16 +146,16 @@ back : (a b : SerialRun) → SameOutcome a b → SameOutcome b a
 back a b s = record { refused = sym s.refused; home = sym s.home; answers = λ n. sym (s.answers n) }
 
 -- the answers of each run, where two different runs are served in either order
-two_served : (n : ℕ) (all : List Served) (x y : Served) → x.run.0 ≢ y.run.0 → answers_of n ((all ++ x ∷ []) ++ y ∷ []) ≡ answers_of n ((all ++ y ∷ []) ++ x ∷ [])
-two_served n all x y ne = parted x y ∙ ap (λ l. answers_of n all ++ l) (middle (x.run.0 == n) (y.run.0 == n) refl refl) ∙ sym (parted y x)
+two_served : (n : ℕ) (all : List Served) (x y : Served) → x.run.0 ≢ y.run.0 → servings_of n ((all ++ x ∷ []) ++ y ∷ []) ≡ servings_of n ((all ++ y ∷ []) ++ x ∷ [])
+two_served n all x y ne = parted x y ∙ ap (λ l. servings_of n all ++ l) (middle (x.run.0 == n) (y.run.0 == n) refl refl) ∙ sym (parted y x)
   where
     is_of : Served → Bool
     is_of s = s.run.0 == n
 
-    parted : (x y : Served) → answers_of n ((all ++ x ∷ []) ++ y ∷ []) ≡ answers_of n all ++ answers_of n (x ∷ y ∷ [])
-    parted x y = ap (answers_of n) (append_assoc all (x ∷ []) (y ∷ [])) ∙ filter-append (λ s. s.run.0 == n) all (x ∷ y ∷ [])
+    parted : (x y : Served) → servings_of n ((all ++ x ∷ []) ++ y ∷ []) ≡ servings_of n all ++ servings_of n (x ∷ y ∷ [])
+    parted x y = ap (servings_of n) (append_assoc all (x ∷ []) (y ∷ [])) ∙ filter-append (λ s. s.run.0 == n) all (x ∷ y ∷ [])
 
-    middle : (a b : Bool) → (x.run.0 == n) ≡ a → (y.run.0 == n) ≡ b → answers_of n (x ∷ y ∷ []) ≡ answers_of n (y ∷ x ∷ [])
+    middle : (a b : Bool) → (x.run.0 == n) ≡ a → (y.run.0 == n) ≡ b → servings_of n (x ∷ y ∷ []) ≡ servings_of n (y ∷ x ∷ [])
     middle a b e f = grind (arith, common_steps)
 
 run_run : (runs : List Run) (kinds : List Kind) (s : SerialRun) (r q : RunNo) → Avoids (commands_of runs r.0) (commands_of runs q.0) → Avoids (commands_of runs q.0) (commands_of runs r.0)
@@ -201,9 +201,9 @@ run_run runs kinds s r q a b = at_ (r.0 == q.0) refl
       refused = or_swap s.refused X.refused Y.refused X'.refused Y'.refused (ap (λ (z : Execution). z.refused) first) (ap (λ (z : Execution). z.refused) second);
       home = sym (ap (λ (z : Execution). z.home) first);
       answers = λ n.
-          ap (λ (z : Execution). answers_of n ((s.answers ++ record { run = r; answers = X.answers } ∷ []) ++ record { run = q; answers = z.answers } ∷ [])) second
+          ap (λ (z : Execution). servings_of n ((s.answers ++ record { run = r; answers = X.answers } ∷ []) ++ record { run = q; answers = z.answers } ∷ [])) second
           ∙ two_served n s.answers (record { run = r; answers = X.answers }) (record { run = q; answers = Y.answers }) (differ e)
-          ∙ ap (λ (z : Execution). answers_of n ((s.answers ++ record { run = q; answers = Y.answers } ∷ []) ++ record { run = r; answers = z.answers } ∷ [])) (sym first);
+          ∙ ap (λ (z : Execution). servings_of n ((s.answers ++ record { run = q; answers = Y.answers } ∷ []) ++ record { run = r; answers = z.answers } ∷ [])) (sym first);
     }
 
 run_turn : (runs : List Run) (kinds : List Kind) (s : SerialRun) (r : RunNo) (d : ℕ) (f : Stand → Stand) (g : Stand → Bool) → Misses d (commands_of runs r.0)
@@ -212,7 +212,7 @@ run_turn runs kinds s r d f g m =
     record {
       refused = or_swap s.refused X.refused (g (stand_at s.home d)) X'.refused (g (stand_at X.home d)) (ap (λ (z : Execution). z.refused) other) (ap g stays);
       home = ap (λ t. set X.home d (f t)) stays ∙ sym (ap (λ (z : Execution). z.home) other);
-      answers = λ n. ap (λ (z : Execution). answers_of n (s.answers ++ record { run = r; answers = z.answers } ∷ [])) (sym other);
+      answers = λ n. ap (λ (z : Execution). servings_of n (s.answers ++ record { run = r; answers = z.answers } ∷ [])) (sym other);
     }
   where
     cs : List Command
@@ -279,10 +279,10 @@ same_then runs kinds s t [] h = h
 same_then runs kinds s t (Ran r ∷ items) h = same_then runs kinds (serve runs kinds s (Ran r)) (serve runs kinds t (Ran r)) items (record {
   refused = λ i. h.refused i || (routine_execution kinds (commands_of runs r.0) (h.home i)).refused;
   home = λ i. (routine_execution kinds (commands_of runs r.0) (h.home i)).home;
-  answers = λ n. parted n s ∙ (λ i. h.answers n i ++ answers_of n (record { run = r; answers = (routine_execution kinds (commands_of runs r.0) (h.home i)).answers } ∷ [])) ∙ sym (parted n t);
+  answers = λ n. parted n s ∙ (λ i. h.answers n i ++ servings_of n (record { run = r; answers = (routine_execution kinds (commands_of runs r.0) (h.home i)).answers } ∷ [])) ∙ sym (parted n t);
 })
   where
-    parted : (n : ℕ) (s : SerialRun) → answers_of n (serve runs kinds s (Ran r)).answers ≡ answers_of n s.answers ++ answers_of n (record { run = r; answers = (routine_execution kinds (commands_of runs r.0) s.home).answers } ∷ [])
+    parted : (n : ℕ) (s : SerialRun) → servings_of n (serve runs kinds s (Ran r)).answers ≡ servings_of n s.answers ++ servings_of n (record { run = r; answers = (routine_execution kinds (commands_of runs r.0) s.home).answers } ∷ [])
     parted n s = filter-append (λ x. x.run.0 == n) s.answers (record { run = r; answers = (routine_execution kinds (commands_of runs r.0) s.home).answers } ∷ [])
 same_then runs kinds s t (Failed d k ∷ items) h = same_then runs kinds (serve runs kinds s (Failed d k)) (serve runs kinds t (Failed d k)) items (record {
   refused = λ i. h.refused i || not (stand_at (h.home i) d.0).up;

@@ -6,11 +6,11 @@ use Rattle.device_order.proofs.Effects.{Tidy, out_free, unmoved, undone_stays, f
 use Rattle.device_order.proofs.Lists.{has_back, has_head, has_tail, end_join}
 use Rattle.device_order.proofs.Parts.{Cut, cut, mend, Lower, lower}
 use Rattle.device_order.specs.Invariant.{DeviceFits, DeviceInvariant}
-use Rattle.device_order.specs.Records.{DeviceRecord, IsHome, state_after, walk_start}
-use Rattle.device_order.specs.Usages.{has_effect, has_grip, is_doomed}
+use Rattle.device_order.specs.Records.{DeviceRecord, NothingIsOut, walk_after, walk_start}
+use Rattle.device_order.specs.Usages.{holds_grip, is_in_effect, stage_is_doomed}
 use Rattle.device_order.specs.Walks.{Home, Undo, UsageFits, WalkHolds, WalkState, after_usage, has, is_command_out, is_home, walk_end, with_event}
 use Rattle.device_order.specs.declared.records.Event.TheVariants.{Failure}
-use Rattle.device_order.specs.declared.records.Grip.TheVariants.{Free, Undoes}
+use Rattle.device_order.specs.declared.records.HeldGrip.TheVariants.{Free, Undoes}
 use Rattle.device_order.specs.declared.records.OrderEntry.TheVariants.{Used}
 use Rattle.device_order.specs.declared.records.OrderEntry.{OrderEntry}
 use Rattle.device_order.specs.declared.records.Probe.TheVariants.{Unprobed}
@@ -21,26 +21,26 @@ use Rattle.std.proofs.lemmas.Grind.{common_steps}
 
 -- the undo goes out
 
-go_fits : (s : WalkState) (c : Usage) (v : ℕ) → is_doomed c.stage ≡ true → has_effect c ≡ true → s.out ≡ Home → UsageFits s c → UsageFits s (record c { grip = Undoes v })
+go_fits : (s : WalkState) (c : Usage) (v : ℕ) → stage_is_doomed c.stage ≡ true → is_in_effect c ≡ true → s.out ≡ Home → UsageFits s c → UsageFits s (record c { grip = Undoes v })
 go_fits s c v n x o f = grind (arith, common_steps)
 
-go_below : (s : WalkState) (c : Usage) (v : ℕ) → is_doomed c.stage ≡ true → Below (after_usage s c) (record (after_usage s (record c { grip = Undoes v })) { out = (after_usage s c).out })
+go_below : (s : WalkState) (c : Usage) (v : ℕ) → stage_is_doomed c.stage ≡ true → Below (after_usage s c) (record (after_usage s (record c { grip = Undoes v })) { out = (after_usage s c).out })
 go_below s c v n = grind (arith, common_steps)
 
-go_ends : (s e t e' : WalkState) (c : Usage) (v held : ℕ) → is_doomed c.stage ≡ true → has_effect c ≡ true → has_grip c ≡ false
+go_ends : (s e t e' : WalkState) (c : Usage) (v held : ℕ) → stage_is_doomed c.stage ≡ true → is_in_effect c ≡ true → holds_grip c ≡ false
     → Below e t → e' ≡ record t { out = Undo v } → e'.stand ≡ v → e'.undoing ≡ true → DeviceFits e true held Unprobed → DeviceFits e' true held Unprobed
 go_ends s e t e' c v held n x h r q st un y = grind (arith, common_steps)
 
-pub undo_go : (d : DeviceRecord) (a b : List OrderEntry) (c : Usage) → d.order ≡ a ++ Used c ∷ b → is_doomed c.stage ≡ true → has_effect c ≡ true → has has_effect b ≡ false → IsHome d → d.up ≡ true → DeviceInvariant d
-    → DeviceInvariant (record d { order = a ++ Used (record c { grip = Undoes (state_after d (a ++ b)).stand }) ∷ b })
+pub undo_go : (d : DeviceRecord) (a b : List OrderEntry) (c : Usage) → d.order ≡ a ++ Used c ∷ b → stage_is_doomed c.stage ≡ true → is_in_effect c ≡ true → has is_in_effect b ≡ false → NothingIsOut d → d.up ≡ true → DeviceInvariant d
+    → DeviceInvariant (record d { order = a ++ Used (record c { grip = Undoes (walk_after d (a ++ b)).stand }) ∷ b })
 undo_go d a b c at n x y home up i =
     let z : WalkState = walk_start d.first_up d.first in
     let s : WalkState = walk_end z a in
     let v : ℕ = (walk_end z (a ++ b)).stand in
     let c' : Usage = record c { grip = Undoes v } in
     let k : Cut z a c b = cut z a c b (subst (λ l. WalkHolds z l) at i.walk) in
-    let free : has has_grip b ≡ false = has_tail has_grip c b (has_back has_grip a (Used c ∷ b) (subst (λ l. has has_grip l ≡ false) at home.free)) in
-    let mine : has_grip c ≡ false = has_head has_grip c b (has_back has_grip a (Used c ∷ b) (subst (λ l. has has_grip l ≡ false) at home.free)) in
+    let free : has holds_grip b ≡ false = has_tail holds_grip c b (has_back holds_grip a (Used c ∷ b) (subst (λ l. has holds_grip l ≡ false) at home.free)) in
+    let mine : holds_grip c ≡ false = has_head holds_grip c b (has_back holds_grip a (Used c ∷ b) (subst (λ l. has holds_grip l ≡ false) at home.free)) in
     let t : WalkState = record (after_usage s c') { out = (after_usage s c).out } in
     let u : Under (after_usage s c) t b = under (after_usage s c) t b (go_below s c v n) k.rest in
     let w : Outs t (Undo v) b = another_out t (Undo v) b free refl u.walk in
@@ -58,28 +58,28 @@ undo_go d a b c at n x y home up i =
     undone : (s : WalkState) (c : Usage) (v : ℕ) → (after_usage s (record c { grip = Undoes v })).stand ≡ s.stand
     undone s c v = grind (arith, common_steps)
 
-    taken : (s : WalkState) (c : Usage) (v : ℕ) → has_effect c ≡ true → (after_usage s (record c { grip = Undoes v })).undoing ≡ true
+    taken : (s : WalkState) (c : Usage) (v : ℕ) → is_in_effect c ≡ true → (after_usage s (record c { grip = Undoes v })).undoing ≡ true
     taken s c v x = grind (arith, common_steps)
 
 -- the undo is dropped, as the device is down
 
-drop_fits : (s : WalkState) (c : Usage) → is_doomed c.stage ≡ true → has_effect c ≡ true → has_grip c ≡ false → UsageFits s c → UsageFits s (record c { undid = true })
+drop_fits : (s : WalkState) (c : Usage) → stage_is_doomed c.stage ≡ true → is_in_effect c ≡ true → holds_grip c ≡ false → UsageFits s c → UsageFits s (record c { undid = true })
 drop_fits s c n x h f = grind (arith, common_steps)
 
-drop_below : (s : WalkState) (c : Usage) → is_doomed c.stage ≡ true → Below (after_usage s c) (after_usage s (record c { undid = true }))
+drop_below : (s : WalkState) (c : Usage) → stage_is_doomed c.stage ≡ true → Below (after_usage s c) (after_usage s (record c { undid = true }))
 drop_below s c n = grind (arith, common_steps)
 
 drop_ends : (e e' : WalkState) (held : ℕ) → Below e e' → is_home e.out ≡ true → DeviceFits e false held Unprobed → DeviceFits e' false held Unprobed
 drop_ends e e' held r o x = grind (arith, common_steps)
 
-pub drop_undo : (d : DeviceRecord) (a b : List OrderEntry) (c : Usage) → d.order ≡ a ++ Used c ∷ b → is_doomed c.stage ≡ true → has_effect c ≡ true → IsHome d → d.up ≡ false → DeviceInvariant d
+pub drop_undo : (d : DeviceRecord) (a b : List OrderEntry) (c : Usage) → d.order ≡ a ++ Used c ∷ b → stage_is_doomed c.stage ≡ true → is_in_effect c ≡ true → NothingIsOut d → d.up ≡ false → DeviceInvariant d
     → DeviceInvariant (record d { order = a ++ Used (record c { undid = true }) ∷ b })
 drop_undo d a b c at n x home down i =
     let z : WalkState = walk_start d.first_up d.first in
     let s : WalkState = walk_end z a in
     let c' : Usage = record c { undid = true } in
     let k : Cut z a c b = cut z a c b (subst (λ l. WalkHolds z l) at i.walk) in
-    let mine : has_grip c ≡ false = has_head has_grip c b (has_back has_grip a (Used c ∷ b) (subst (λ l. has has_grip l ≡ false) at home.free)) in
+    let mine : holds_grip c ≡ false = has_head holds_grip c b (has_back holds_grip a (Used c ∷ b) (subst (λ l. has holds_grip l ≡ false) at home.free)) in
     let l : Lower z a c c' b = lower z a c c' b k (drop_fits s c n x mine k.fits) (drop_below s c n) in
     let e : DeviceFits (walk_end z (a ++ Used c ∷ b)) false d.held Unprobed = subst (λ q. DeviceFits (walk_end z (a ++ Used c ∷ b)) q d.held Unprobed) down (subst (λ q. DeviceFits (walk_end z (a ++ Used c ∷ b)) d.up d.held q) home.unprobed (subst (λ q. DeviceFits (walk_end z q) d.up d.held d.probe) at i.ends)) in
     let o : is_home (walk_end z (a ++ Used c ∷ b)).out ≡ true = ap is_home (ap (λ q. (walk_end z q).out) (sym at) ∙ out_free z d.order home.free) in
@@ -107,7 +107,7 @@ pub record Undone (z : WalkState) (a : List OrderEntry) (c : Usage) (b : List Or
   pub spanned : (walk_end z (a ++ Used (record c { undid = true; grip = Free }) ∷ b)).spanned ≡ true → (walk_end z (a ++ Used c ∷ b)).spanned ≡ true
   pub stand : (walk_end z (a ++ Used (record c { undid = true; grip = Free }) ∷ b)).stand ≡ (walk_end z (a ++ Used c ∷ b)).stand
   pub home : (walk_end z (a ++ Used (record c { undid = true; grip = Free }) ∷ b)).out ≡ Home
-  pub free : has has_grip b ≡ false
+  pub free : has holds_grip b ≡ false
   pub out : (v : ℕ) → c.grip ≡ Undoes v → (walk_end z (a ++ Used c ∷ b)).out ≡ Undo v
 
 pub undone : (z : WalkState) (a : List OrderEntry) (c : Usage) (b : List OrderEntry) (v : ℕ) → Cut z a c b → c.grip ≡ Undoes v → Undone z a c b
@@ -115,7 +115,7 @@ undone z a c b v k g =
     let s : WalkState = walk_end z a in
     let c' : Usage = record c { undid = true; grip = Free } in
     let o : s.out ≡ Home = homely s c v g k.fits in
-    let free : has has_grip b ≡ false = free_behind (after_usage s c) b (ap is_home (taken s c v g)) k.rest in
+    let free : has holds_grip b ≡ false = free_behind (after_usage s c) b (ap is_home (taken s c v g)) k.rest in
     let t : WalkState = record (after_usage s c') { out = (after_usage s c).out } in
     let u : Under (after_usage s c) t b = under (after_usage s c) t b (done_below s c v g k.fits) k.rest in
     let w : Outs t s.out b = another_out t s.out b free (ap is_command_out o) u.walk in
@@ -151,7 +151,7 @@ undo_ok d a b c v at g i =
       ends = undo_ends (walk_end z (a ++ Used c ∷ b)) (walk_end z (a ++ Used c' ∷ b)) v d.up d.held d.probe (u.out v g) u.home u.up u.spanned u.stand (subst (λ q. DeviceFits (walk_end z q) d.up d.held d.probe) at i.ends);
     }
 
-undo_holds : (c : Usage) (v : ℕ) → c.grip ≡ Undoes v → has_grip c ≡ true
+undo_holds : (c : Usage) (v : ℕ) → c.grip ≡ Undoes v → holds_grip c ≡ true
 undo_holds c v g = grind (arith, common_steps)
 
 undo_dead_ends : (e e1 e' : WalkState) (v h : ℕ) (up : Bool) (held : ℕ) (p : Probe) → e1 ≡ record e { up = false } → e1.out ≡ Undo v → e'.out ≡ Home → e'.up ≡ e1.up → e'.spanned ≡ false → DeviceFits e up held p → DeviceFits e' false h p

@@ -13,19 +13,19 @@ use Rattle.device_order.specs.LineChanges.{line_with_event}
 use Rattle.device_order.specs.LineEntries.{entries, entry_if, stage_of, usage}
 use Rattle.device_order.specs.LineOrders.{EventsAreHomed}
 use Rattle.device_order.specs.LineWords.{any_run, at_device}
-use Rattle.device_order.specs.Records.{IsHome, walk_start}
-use Rattle.device_order.specs.RunStates.{RunState, rest, summary_of, uses}
+use Rattle.device_order.specs.Records.{NothingIsOut, walk_start}
+use Rattle.device_order.specs.RunStates.{RunState, rest, summary_of, uses_device}
 use Rattle.device_order.specs.Summaries.{first_view}
-use Rattle.device_order.specs.Usages.{counts_serially, has_grip, has_pending, is_command, is_committed, is_doomed, is_down, is_open, is_up}
+use Rattle.device_order.specs.Usages.{counts_serially, has_pending, holds_command, holds_grip, is_seen_down, is_up, stage_is_committed, stage_is_doomed, stage_is_open}
 use Rattle.device_order.specs.Walks.{GripFits, UsageFits, WalkState, walk_end, with_event}
 use Rattle.device_order.specs.WindowSteps.{AccessDies, ChangesInPlace, DownIsAnswered, IsHomeAt, ReadIsAnswered, SkipIsAnswered, WriteIsAnswered, with_event_in}
-use Rattle.device_order.specs.Windows.{WindowInvariant, WindowRecord, device_of}
+use Rattle.device_order.specs.Windows.{WindowInvariant, WindowModel, device_record}
 use Rattle.device_order.specs.declared.records.Event.TheVariants.{Failure}
-use Rattle.device_order.specs.declared.records.Grip.{Grip}
-use Rattle.device_order.specs.declared.records.Grip.TheVariants.{Free, Reads, Undoes, Writes}
+use Rattle.device_order.specs.declared.records.HeldGrip.{HeldGrip}
+use Rattle.device_order.specs.declared.records.HeldGrip.TheVariants.{Free, Reads, Undoes, Writes}
 use Rattle.device_order.specs.declared.records.OrderEntry.TheVariants.{Occurred, Used}
-use Rattle.device_order.specs.declared.records.Stage.{Stage}
-use Rattle.device_order.specs.declared.records.Stage.TheVariants.{Done, Pending}
+use Rattle.device_order.specs.declared.records.RunStage.{RunStage}
+use Rattle.device_order.specs.declared.records.RunStage.TheVariants.{Done, Pending}
 use Rattle.device_order.specs.declared.records.Usage.{Usage}
 use Rattle.home_types.specs.Commands.{driven, fails}
 use Rattle.home_types.specs.HomeStates.{stand_at}
@@ -40,14 +40,14 @@ use Rattle.std.proofs.Common.{Bool, List, None, Option, Some, ap, arith, false, 
 use Rattle.std.proofs.lemmas.Grind.{common_steps}
 use Rattle.std.specs.Prelude.{is_some, ◌==◌, ◌||◌}
 
-up_first : (o : Option View) → is_down o ≡ false → first_view o Up ≡ Some Up
+up_first : (o : Option View) → is_seen_down o ≡ false → first_view o Up ≡ Some Up
 up_first o h = grind (arith, common_steps)
 
 -- a run whose command is out does not see the device down
-out_view : (z : WalkState) (u : Usage) → UsageFits z u → is_command u.grip ≡ true → is_down u.view ≡ false
+out_view : (z : WalkState) (u : Usage) → UsageFits z u → holds_command u.grip ≡ true → is_seen_down u.view ≡ false
 out_view z u f e = at_ u.grip f.grip e
   where
-    at_ : (g : Grip) → GripFits g u → is_command g ≡ true → is_down u.view ≡ false
+    at_ : (g : HeldGrip) → GripFits g u → holds_command g ≡ true → is_seen_down u.view ≡ false
     at_ Free f e = grind (arith, common_steps)
     at_ Reads f e = f.2
     at_ Writes f e = f.2
@@ -56,24 +56,24 @@ out_view z u f e = at_ u.grip f.grip e
 answered_stage : (a x k p : Bool) → a ≡ false → IsAnswered (stage_of a x true) (stage_of a (x || k) p)
 answered_stage a x k p h = record { closes = closes a x k p h; doom = doom a x k p h; live = live a x k p h }
   where
-    closes : (a x k p : Bool) → a ≡ false → is_open (stage_of a (x || k) p) ≡ true → is_open (stage_of a x true) ≡ true
+    closes : (a x k p : Bool) → a ≡ false → stage_is_open (stage_of a (x || k) p) ≡ true → stage_is_open (stage_of a x true) ≡ true
     closes a x k p h g = grind (arith, common_steps)
 
-    doom : (a x k p : Bool) → a ≡ false → is_doomed (stage_of a x true) ≡ true → is_doomed (stage_of a (x || k) p) ≡ true
+    doom : (a x k p : Bool) → a ≡ false → stage_is_doomed (stage_of a x true) ≡ true → stage_is_doomed (stage_of a (x || k) p) ≡ true
     doom a x k p h g = grind (arith, common_steps)
 
-    live : (a x k p : Bool) → a ≡ false → is_committed (stage_of a (x || k) p) ≡ false
+    live : (a x k p : Bool) → a ≡ false → stage_is_committed (stage_of a (x || k) p) ≡ false
     live a x k p h = grind (arith, common_steps)
 
 -- a command of the run on the device of its next one is left
-next_pends : (l : RunState) (c : Command) (ds : List Command) → rest l ≡ c ∷ ds → uses c.device.0 (rest l) ≡ true
-next_pends l c ds e = ap (uses c.device.0) e ∙ self c.device.0 (uses c.device.0 ds)
+next_pends : (l : RunState) (c : Command) (ds : List Command) → rest l ≡ c ∷ ds → uses_device c.device.0 (rest l) ≡ true
+next_pends l c ds e = ap (uses_device c.device.0) e ∙ self c.device.0 (uses_device c.device.0 ds)
   where
     self : (d : ℕ) (x : Bool) → ((d == d) || x) ≡ true
     self d x = grind (arith, common_steps)
 
 -- a failure in the line is of a device of the home
-pub homed_failure : (kinds : List Kind) (s : WindowRecord) (d k : ℕ) → d < length s.first → WindowInvariant kinds s → EventsAreHomed (length s.first) (line_with_event kinds s.states d (Failed (device_no d) k) s.line)
+pub homed_failure : (kinds : List Kind) (s : WindowModel) (d k : ℕ) → d < length s.first → WindowInvariant kinds s → EventsAreHomed (length s.first) (line_with_event kinds s.states d (Failed (device_no d) k) s.line)
 unfolding EventsAreHomed
 homed_failure kinds s d k lt o = events_event kinds s.states (length s.first) d (Failed (device_no d) k) s.line (lt, tt) o.events
 
@@ -83,13 +83,13 @@ clash x h g = grind (arith, common_steps)
 unless : (x y : Bool) → x ≡ false → (y ≡ true → x ≡ true) → y ≡ false
 unless x y h g = grind (arith, common_steps)
 
-pub pends_answered : (l : RunState) (c : Command) (ds : List Command) (k : Bool) → rest l ≡ c ∷ ds → l.committed ≡ false → IsAnswered (stage_of l.committed l.doomed (uses c.device.0 (rest l))) (stage_of l.committed (l.doomed || k) (uses c.device.0 ds))
-pends_answered l c ds k e h = subst (λ p. IsAnswered (stage_of l.committed l.doomed p) (stage_of l.committed (l.doomed || k) (uses c.device.0 ds))) (sym (next_pends l c ds e)) (answered_stage l.committed l.doomed k (uses c.device.0 ds) h)
+pub pends_answered : (l : RunState) (c : Command) (ds : List Command) (k : Bool) → rest l ≡ c ∷ ds → l.committed ≡ false → IsAnswered (stage_of l.committed l.doomed (uses_device c.device.0 (rest l))) (stage_of l.committed (l.doomed || k) (uses_device c.device.0 ds))
+pends_answered l c ds k e h = subst (λ p. IsAnswered (stage_of l.committed l.doomed p) (stage_of l.committed (l.doomed || k) (uses_device c.device.0 ds))) (sym (next_pends l c ds e)) (answered_stage l.committed l.doomed k (uses_device c.device.0 ds) h)
 
-pub pends_counts : (l : RunState) (c : Command) (ds : List Command) → rest l ≡ c ∷ ds → l.committed ≡ false → l.doomed ≡ false → stage_of l.committed l.doomed (uses c.device.0 (rest l)) ≡ Pending
+pub pends_counts : (l : RunState) (c : Command) (ds : List Command) → rest l ≡ c ∷ ds → l.committed ≡ false → l.doomed ≡ false → stage_of l.committed l.doomed (uses_device c.device.0 (rest l)) ≡ Pending
 pends_counts l c ds e h g = λ i. stage_of (h i) (g i) (next_pends l c ds e i)
 
-pub write_answered : (kinds : List Kind) (s s' : WindowRecord) (r : ℕ) (c : Command) (ds : List Command) (k : Bool) → WriteIsAnswered kinds s s' r c ds k → WindowInvariant kinds s → WindowInvariant kinds s'
+pub write_answered : (kinds : List Kind) (s s' : WindowModel) (r : ℕ) (c : Command) (ds : List Command) (k : Bool) → WriteIsAnswered kinds s s' r c ds k → WindowInvariant kinds s → WindowInvariant kinds s'
 write_answered kinds s s' r c ds k w o =
     acted kinds s s' r d s.line k m (λ q n. refl) w.still (λ q n. gave_there kinds l (s'.states r) c ds Fine k q w.answer n) o.events
     (gave_run kinds (length s.first) l (s'.states r) c ds Fine k w.answer (o.runs r) w.live (λ h g. record { guard = w.guard; answer = (w.job, down) }) (λ h. passes c))
@@ -108,7 +108,7 @@ write_answered kinds s s' r c ds k w o =
     lt : d < length s.first
     lt = next_homed (length s.first) l.commands l.answers c ds w.answer.next (o.runs r).homed
 
-    used : uses d l.commands ≡ true
+    used : uses_device d l.commands ≡ true
     used = next_used l c ds w.answer.next
 
     z : WalkState
@@ -117,14 +117,14 @@ write_answered kinds s s' r c ds k w o =
     u : Usage
     u = usage kinds l d
 
-    down : is_down u.view ≡ false
-    down = out_view z u (run_fits kinds s r d m.front m.back (o.devices d lt) m.at used) (ap is_command w.out)
+    down : is_seen_down u.view ≡ false
+    down = out_view z u (run_fits kinds s r d m.front m.back (o.devices d lt) m.at used) (ap holds_command w.out)
 
     x : ℕ
     x = driven (kind_at kinds d) c.job (summary_of kinds l).register
 
-    st : Stage
-    st = stage_of l.committed (l.doomed || k) (uses d ds)
+    st : RunStage
+    st = stage_of l.committed (l.doomed || k) (uses_device d ds)
 
     e : usage kinds (s'.states r) d ≡ record u { stage = st; view = Some Up; wrote = Some x; grip = Free }
     e = gave_usage kinds l (s'.states r) c ds Fine k w.answer ∙ ap (λ o. record u { stage = st; view = o; wrote = Some x; grip = Free }) (up_first u.view down)
@@ -132,11 +132,11 @@ write_answered kinds s s' r c ds k w o =
     passes : (c : Command) → fails c Fine ≡ false
     passes c = grind (arith, common_steps)
 
-pub read_answered : (kinds : List Kind) (s s' : WindowRecord) (r : ℕ) (c : Command) (ds : List Command) (x : ℕ) (k : Bool) → ReadIsAnswered kinds s s' r c ds x k → WindowInvariant kinds s → WindowInvariant kinds s'
+pub read_answered : (kinds : List Kind) (s s' : WindowModel) (r : ℕ) (c : Command) (ds : List Command) (x : ℕ) (k : Bool) → ReadIsAnswered kinds s s' r c ds x k → WindowInvariant kinds s → WindowInvariant kinds s'
 read_answered kinds s s' r c ds x k w o =
     acted kinds s s' r d s.line k m (λ q n. refl) (λ q n. w.still q) (λ q n. gave_there kinds l (s'.states r) c ds (Found x) k q w.answer n) o.events
     (gave_run kinds (length s.first) l (s'.states r) c ds (Found x) k w.answer (o.runs r) w.live
-    (λ h q. record { guard = w.guard; answer = (w.job, down, (λ y g. w.found ∙ finds.own y g), (λ n y g. w.found ∙ finds.again (counts l.committed l.doomed (uses d (rest l)) h) n y g)) })
+    (λ h q. record { guard = w.guard; answer = (w.job, down, (λ y g. w.found ∙ finds.own y g), (λ n y g. w.found ∙ finds.again (counts l.committed l.doomed (uses_device d (rest l)) h) n y g)) })
     (λ h. unless k (fails c (Found x)) h w.refutes))
     (stepped kinds s s' r d s.line m (record u { stage = st; view = Some Up; read = first_read u (s.held d); grip = Free }) (s.up d) (s.held d) (s.probe d) used e (w.still d).up (w.still d).held (w.still d).probe
     (ReadAnswered (entries kinds s.states d m.front) (entries kinds s.states d m.back) u st (entries_before kinds s s' r d m used) w.out (pends_answered l c ds k w.answer.next w.live))) o
@@ -153,7 +153,7 @@ read_answered kinds s s' r c ds x k w o =
     lt : d < length s.first
     lt = next_homed (length s.first) l.commands l.answers c ds w.answer.next (o.runs r).homed
 
-    used : uses d l.commands ≡ true
+    used : uses_device d l.commands ≡ true
     used = next_used l c ds w.answer.next
 
     z : WalkState
@@ -162,14 +162,14 @@ read_answered kinds s s' r c ds x k w o =
     u : Usage
     u = usage kinds l d
 
-    down : is_down u.view ≡ false
-    down = out_view z u (run_fits kinds s r d m.front m.back (o.devices d lt) m.at used) (ap is_command w.out)
+    down : is_seen_down u.view ≡ false
+    down = out_view z u (run_fits kinds s r d m.front m.back (o.devices d lt) m.at used) (ap holds_command w.out)
 
-    finds : ReadFinds (device_of kinds s d) (entries kinds s.states d m.front) u (s.held d)
-    finds = reads_find (device_of kinds s d) (entries kinds s.states d m.front) (entries kinds s.states d m.back) u (o.devices d lt) (entries_before kinds s s' r d m used) w.out
+    finds : ReadFinds (device_record kinds s d) (entries kinds s.states d m.front) u (s.held d)
+    finds = reads_find (device_record kinds s d) (entries kinds s.states d m.front) (entries kinds s.states d m.back) u (o.devices d lt) (entries_before kinds s s' r d m used) w.out
 
-    st : Stage
-    st = stage_of l.committed (l.doomed || k) (uses d ds)
+    st : RunStage
+    st = stage_of l.committed (l.doomed || k) (uses_device d ds)
 
     e : usage kinds (s'.states r) d ≡ record u { stage = st; view = Some Up; read = first_read u (s.held d); grip = Free }
     e = gave_usage kinds l (s'.states r) c ds (Found x) k w.answer ∙ (λ i. record u { stage = st; view = up_first u.view down i; read = first_read u (w.found i); grip = Free })
@@ -182,7 +182,7 @@ died_view : (o : Option View) → (is_some o ≡ true → ⊥) → is_up o ≡ f
 died_view None h = refl
 died_view (Some v) h = absurd (h refl)
 
-pub access_died : (kinds : List Kind) (s s' : WindowRecord) (r n : ℕ) (c : Command) (ds : List Command) (k : Bool) → AccessDies kinds s s' r n c ds k → WindowInvariant kinds s → WindowInvariant kinds s'
+pub access_died : (kinds : List Kind) (s s' : WindowModel) (r n : ℕ) (c : Command) (ds : List Command) (k : Bool) → AccessDies kinds s s' r n c ds k → WindowInvariant kinds s → WindowInvariant kinds s'
 access_died kinds s s' r n c ds k w o =
     acted kinds s s' r d (line_with_event kinds s.states d (Failed c.device n) s.line) k m (λ q ne. entries_event_off kinds s.states q d (Failed c.device n) s.line (event_there d q (Occurred Failure) ne)) w.still
     (λ q ne. gave_there kinds l (s'.states r) c ds Down k q w.answer ne) (homed_failure kinds s d n (next_homed (length s.first) l.commands l.answers c ds w.answer.next (o.runs r).homed) o)
@@ -201,10 +201,10 @@ access_died kinds s s' r n c ds k w o =
     u : Usage
     u = usage kinds l d
 
-    st : Stage
-    st = stage_of l.committed (l.doomed || k) (uses d ds)
+    st : RunStage
+    st = stage_of l.committed (l.doomed || k) (uses_device d ds)
 
-    used : uses d l.commands ≡ true
+    used : uses_device d l.commands ≡ true
     used = next_used l c ds w.answer.next
 
     answered : IsAnswered u.stage st
@@ -213,7 +213,7 @@ access_died kinds s s' r n c ds k w o =
     placed : with_event Failure (entries kinds s.states d s.line) ≡ entries kinds s.states d m.front ++ Used u ∷ entries kinds s.states d m.back
     placed = evented kinds s s' r d (Failed c.device n) Failure m used (event_here d d (Occurred Failure) refl)
 
-    dooms : (e x y : Bool) (p : Bool) → e ≡ false → y ≡ true → is_doomed (stage_of e (x || y) p) ≡ true
+    dooms : (e x y : Bool) (p : Bool) → e ≡ false → y ≡ true → stage_is_doomed (stage_of e (x || y) p) ≡ true
     dooms e x y p h g = grind (arith, common_steps)
 
     stays : (o : Option View) → is_some o ≡ true → first_view o ViewDown ≡ o
@@ -222,18 +222,18 @@ access_died kinds s s' r n c ds k w o =
     then_ : (o : Option View) → first_view u.view ViewDown ≡ o → usage kinds (s'.states r) d ≡ record u { stage = st; view = o; grip = Free }
     then_ o e = gave_usage kinds l (s'.states r) c ds Down k w.answer ∙ ap (λ o. record u { stage = st; view = o; grip = Free }) e
 
-    by_view : (o : Option View) → u.view ≡ o → DeviceInvariant (device_of kinds s d) → DeviceInvariant (device_of kinds s' d)
+    by_view : (o : Option View) → u.view ≡ o → DeviceInvariant (device_record kinds s d) → DeviceInvariant (device_record kinds s' d)
     by_view None e i = stepped kinds s s' r d (line_with_event kinds s.states d (Failed c.device n) s.line) m (record u { stage = st; view = Some ViewDown; grip = Free }) false (s'.held d) (s.probe d) used (then_ (Some ViewDown) (ap (λ o. first_view o ViewDown) e)) w.up refl w.probe
         (FirstAccessDied (entries kinds s.states d m.front) (entries kinds s.states d m.back) u st (s'.held d) placed w.out e answered) i
     by_view (Some x) e i =
         let some : is_some u.view ≡ true = ap is_some e in
         stepped kinds s s' r d (line_with_event kinds s.states d (Failed c.device n) s.line) m (record u { stage = st; grip = Free }) false (s'.held d) (s.probe d) used (then_ u.view (stays u.view some)) w.up refl w.probe
-        (LaterAccessDied (entries kinds s.states d m.front) (entries kinds s.states d m.back) u st (s'.held d) placed w.out some (dooms l.committed l.doomed k (uses d ds) w.live (w.lost some))) i
+        (LaterAccessDied (entries kinds s.states d m.front) (entries kinds s.states d m.back) u st (s'.held d) placed w.out some (dooms l.committed l.doomed k (uses_device d ds) w.live (w.lost some))) i
 
-pub home_at : (kinds : List Kind) (s : WindowRecord) (d : ℕ) → IsHomeAt kinds s d → IsHome (device_of kinds s d)
-home_at kinds s d h = record { free = has_entries kinds s.states d has_grip s.line ∙ h.free; unprobed = h.unprobed }
+pub home_at : (kinds : List Kind) (s : WindowModel) (d : ℕ) → IsHomeAt kinds s d → NothingIsOut (device_record kinds s d)
+home_at kinds s d h = record { free = has_entries kinds s.states d holds_grip s.line ∙ h.free; unprobed = h.unprobed }
 
-pub down_answered : (kinds : List Kind) (s s' : WindowRecord) (r : ℕ) (c : Command) (ds : List Command) (k : Bool) → DownIsAnswered kinds s s' r c ds k → WindowInvariant kinds s → WindowInvariant kinds s'
+pub down_answered : (kinds : List Kind) (s s' : WindowModel) (r : ℕ) (c : Command) (ds : List Command) (k : Bool) → DownIsAnswered kinds s s' r c ds k → WindowInvariant kinds s → WindowInvariant kinds s'
 down_answered kinds s s' r c ds k w o =
     acted kinds s s' r d s.line k m (λ q n. refl) (λ q n. w.still q) (λ q n. gave_there kinds l (s'.states r) c ds Down k q w.answer n) o.events
     (gave_run kinds (length s.first) l (s'.states r) c ds Down k w.answer (o.runs r) w.live (λ h g. record { guard = w.guard; answer = elim w.may [ inl e ↦ ap is_up e | inr e ↦ ap is_up e.0 ] }) (λ h. unless k (fails c Down) h w.must))
@@ -251,29 +251,29 @@ down_answered kinds s s' r c ds k w o =
     u : Usage
     u = usage kinds l d
 
-    st : Stage
-    st = stage_of l.committed (l.doomed || k) (uses d ds)
+    st : RunStage
+    st = stage_of l.committed (l.doomed || k) (uses_device d ds)
 
-    used : uses d l.commands ≡ true
+    used : uses_device d l.commands ≡ true
     used = next_used l c ds w.answer.next
 
     then_ : first_view u.view ViewDown ≡ Some ViewDown → usage kinds (s'.states r) d ≡ record u { stage = st; view = Some ViewDown }
     then_ e = gave_usage kinds l (s'.states r) c ds Down k w.answer ∙ (λ i. record u { stage = st; view = e i; grip = sym w.free i })
 
-    again : u.view ≡ Some ViewDown → DeviceInvariant (device_of kinds s d) → DeviceInvariant (device_of kinds s' d)
+    again : u.view ≡ Some ViewDown → DeviceInvariant (device_record kinds s d) → DeviceInvariant (device_record kinds s' d)
     again e i = stepped kinds s s' r d s.line m (record u { stage = st }) (s.up d) (s.held d) (s.probe d) used (then_ (ap (λ o. first_view o ViewDown) e) ∙ (λ i. record u { stage = st; view = sym e i })) (w.still d).up (w.still d).held (w.still d).probe
         (DownAgain (entries kinds s.states d m.front) (entries kinds s.states d m.back) u st (entries_before kinds s s' r d m used) (pends_counts l c ds w.answer.next w.live w.counts) e (pends_answered l c ds k w.answer.next w.live)) i
 
-    first : u.view ≡ None → s.up d ≡ false → IsHomeAt kinds s d → any_run (at_device kinds s.states d has_pending) m.front ≡ false → DeviceInvariant (device_of kinds s d) → DeviceInvariant (device_of kinds s' d)
+    first : u.view ≡ None → s.up d ≡ false → IsHomeAt kinds s d → any_run (at_device kinds s.states d has_pending) m.front ≡ false → DeviceInvariant (device_record kinds s d) → DeviceInvariant (device_record kinds s' d)
     first e down h none i = stepped kinds s s' r d s.line m (record u { stage = st; view = Some ViewDown }) (s.up d) (s.held d) (s.probe d) used (then_ (ap (λ o. first_view o ViewDown) e)) (w.still d).up (w.still d).held (w.still d).probe
         (DownFirst (entries kinds s.states d m.front) (entries kinds s.states d m.back) u st (entries_before kinds s s' r d m used) (pends_counts l c ds w.answer.next w.live w.counts) (home_at kinds s d h) down (has_entries kinds s.states d has_pending m.front ∙ none) (pends_answered l c ds k w.answer.next w.live)) i
 
 -- a skipped command leaves its device as it is, but that the run may have no more to do there
-pub skip_answered : (kinds : List Kind) (s s' : WindowRecord) (r : ℕ) (c : Command) (ds : List Command) → SkipIsAnswered kinds s s' r c ds → WindowInvariant kinds s → WindowInvariant kinds s'
+pub skip_answered : (kinds : List Kind) (s s' : WindowModel) (r : ℕ) (c : Command) (ds : List Command) → SkipIsAnswered kinds s s' r c ds → WindowInvariant kinds s → WindowInvariant kinds s'
 skip_answered kinds s s' r c ds w o =
     acted kinds s s' r d s.line false m (λ q n. refl) (λ q n. w.still q) (λ q n. gave_there kinds l (s'.states r) c ds Skipped false q w.answer n) o.events
     (gave_run kinds (length s.first) l (s'.states r) c ds Skipped false w.answer (o.runs r) w.live (λ h g. record { guard = w.guard; answer = tt }) (λ h. passes c))
-    (by_rest (uses d ds) refl) o
+    (by_rest (uses_device d ds) refl) o
   where
     d : ℕ
     d = c.device.0
@@ -287,24 +287,24 @@ skip_answered kinds s s' r c ds w o =
     u : Usage
     u = usage kinds l d
 
-    used : uses d l.commands ≡ true
+    used : uses_device d l.commands ≡ true
     used = next_used l c ds w.answer.next
 
     pending : u.stage ≡ Pending
     pending = pends_counts l c ds w.answer.next w.live w.counts
 
-    stage : (b : Bool) → uses d ds ≡ b → stage_of l.committed (l.doomed || false) (uses d ds) ≡ stage_of false false b
+    stage : (b : Bool) → uses_device d ds ≡ b → stage_of l.committed (l.doomed || false) (uses_device d ds) ≡ stage_of false false b
     stage b e = λ i. stage_of (w.live i) (w.counts i || false) (e i)
 
-    then_ : (st : Stage) → stage_of l.committed (l.doomed || false) (uses d ds) ≡ st → usage kinds (s'.states r) d ≡ record u { stage = st }
+    then_ : (st : RunStage) → stage_of l.committed (l.doomed || false) (uses_device d ds) ≡ st → usage kinds (s'.states r) d ≡ record u { stage = st }
     then_ st e = gave_usage kinds l (s'.states r) c ds Skipped false w.answer ∙ (λ i. record u { stage = e i; grip = sym w.free i })
 
-    by_rest : (b : Bool) → uses d ds ≡ b → DeviceInvariant (device_of kinds s d) → DeviceInvariant (device_of kinds s' d)
+    by_rest : (b : Bool) → uses_device d ds ≡ b → DeviceInvariant (device_record kinds s d) → DeviceInvariant (device_record kinds s' d)
     by_rest true e i =
-        subst DeviceInvariant (sym (still_device kinds s s' r d m (w.still d) (ap (λ x. entry_if x (Used (usage kinds (s'.states r) d))) (ap (uses d) m.commands)
-        ∙ ap (λ v. entry_if (uses d l.commands) (Used v)) (then_ u.stage (stage true e ∙ sym pending))))) i
+        subst DeviceInvariant (sym (still_device kinds s s' r d m (w.still d) (ap (λ x. entry_if x (Used (usage kinds (s'.states r) d))) (ap (uses_device d) m.commands)
+        ∙ ap (λ v. entry_if (uses_device d l.commands) (Used v)) (then_ u.stage (stage true e ∙ sym pending))))) i
     by_rest false e i = stepped kinds s s' r d s.line m (record u { stage = Done }) (s.up d) (s.held d) (s.probe d) used (then_ Done (stage false e)) (w.still d).up (w.still d).held (w.still d).probe
-        (GuardSkipped (entries kinds s.states d m.front) (entries kinds s.states d m.back) u (entries_before kinds s s' r d m used) pending (ap is_command w.free)) i
+        (GuardSkipped (entries kinds s.states d m.front) (entries kinds s.states d m.back) u (entries_before kinds s s' r d m used) pending (ap holds_command w.free)) i
 
     passes : (c : Command) → fails c Skipped ≡ false
     passes c = grind (arith, common_steps)

@@ -1,5 +1,5 @@
 -- The invariant of one device.
-use Rattle.device_order.specs.Records.{DeviceRecord, state_after, walk_start}
+use Rattle.device_order.specs.Records.{DeviceRecord, walk_after, walk_start}
 use Rattle.device_order.specs.Walks.{Commands, GripOut, Home, Undo, WalkHolds, WalkState}
 use Rattle.device_order.specs.declared.records.Probe.TheVariants.{Asks, Restores, Unprobed}
 use Rattle.device_order.specs.declared.records.Probe.{Probe}
@@ -26,4 +26,4 @@ pub record DeviceFits (s : WalkState) (up : Bool) (held : ℕ) (probe : Probe) :
 -- the walk along the order holds, and the device fits its end
 pub record DeviceInvariant (d : DeviceRecord) : Type 0 where
   pub walk : WalkHolds (walk_start d.first_up d.first) d.order
-  pub ends : DeviceFits (state_after d d.order) d.up d.held d.probe
+  pub ends : DeviceFits (walk_after d d.order) d.up d.held d.probe

@@ -1,5 +1,5 @@
 -- How a line changes.
-use Rattle.device_order.specs.RunStates.{RunStates, device_summary, rest, uses}
+use Rattle.device_order.specs.RunStates.{RunStates, device_summary, rest, uses_device}
 use Rattle.home_types.specs.Numbers.{DeviceId, RunId}
 use Rattle.home_types.specs.declared.items.Item.TheVariants.{Back, Failed, Ran}
 use Rattle.home_types.specs.declared.items.Item.{Item}
@@ -15,7 +15,7 @@ Lacks r (Back e k ∷ is) = Lacks r is
 
 -- a live run that is not doomed, with a command on the device without an answer, and no answer there so far
 abbrev pub waits_at : List Kind → RunStates → DeviceId → Item → Bool
-waits_at kinds states d (Ran r) = not (states r.0).committed && not (states r.0).doomed && uses d (rest (states r.0)) && not (is_some (device_summary kinds (states r.0) d).view)
+waits_at kinds states d (Ran r) = not (states r.0).committed && not (states r.0).doomed && uses_device d (rest (states r.0)) && not (is_some (device_summary kinds (states r.0) d).view)
 waits_at kinds states d (Failed e k) = false
 waits_at kinds states d (Back e k) = false
 

@@ -1,5 +1,5 @@
 -- What is kept of one device.
-use Rattle.device_order.specs.Usages.{has_grip}
+use Rattle.device_order.specs.Usages.{holds_grip}
 use Rattle.device_order.specs.Walks.{Home, WalkState, has, walk_end}
 use Rattle.device_order.specs.declared.records.OrderEntry.{OrderEntry}
 use Rattle.device_order.specs.declared.records.Probe.TheVariants.{Unprobed}
@@ -20,12 +20,12 @@ abbrev pub walk_start : Bool → ℕ → WalkState
 walk_start up v = record { up = up; value = v; stand = v; settled = true; undoing = false; opened = false; waiting = false; spanned = false; exposed = false; out = Home }
 
 -- the walk along these entries, from the device's first state
-abbrev pub state_after : DeviceRecord → List OrderEntry → WalkState
-state_after d xs = walk_end (walk_start d.first_up d.first) xs
+abbrev pub walk_after : DeviceRecord → List OrderEntry → WalkState
+walk_after d xs = walk_end (walk_start d.first_up d.first) xs
 
 -- no grip and no probe of the device is out
-pub record IsHome (d : DeviceRecord) : Type 0 where
-  pub free : has has_grip d.order ≡ false
+pub record NothingIsOut (d : DeviceRecord) : Type 0 where
+  pub free : has holds_grip d.order ≡ false
   pub unprobed : d.probe ≡ Unprobed
 
 -- a device that no run has used

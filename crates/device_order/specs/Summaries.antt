@@ -1,5 +1,5 @@
 -- What the answers of a run say, read from the first to the last, and when they are those of a serial execution.
-use Rattle.device_order.specs.Usages.{is_down, is_up}
+use Rattle.device_order.specs.Usages.{is_seen_down, is_up}
 use Rattle.home_types.specs.Commands.{driven, fails, holds, reads, register_after}
 use Rattle.home_types.specs.HomeStates.{stand_at}
 use Rattle.home_types.specs.Kinds.{kind_at}
@@ -19,12 +19,12 @@ pub record Answered : Type 0 where
   pub answer : Answer
 
 -- the command of such a pair
-abbrev pub command_of : Answered → Command
-command_of p = p.command
+abbrev pub pair_command : Answered → Command
+pair_command p = p.command
 
 -- the answer of such a pair
-abbrev pub answer_of : Answered → Answer
-answer_of p = p.answer
+abbrev pub pair_answer : Answered → Answer
+pair_answer p = p.answer
 
 -- what the answers of a run on one device say: whether it was up at the first of them, the first value found before a write of its own, and its last write
 pub record DeviceSummary : Type 0 where
@@ -78,8 +78,8 @@ was_done Skipped = false
 
 -- an answer that one execution of the run can give next, to a command that reads or writes: by what the device answered so far
 abbrev pub AnswerFits : Bool → DeviceSummary → Answer → Type 0
-AnswerFits reading t Fine = (reading ≡ false) × (is_down t.view ≡ false)
-AnswerFits reading t (Found x) = (reading ≡ true) × (is_down t.view ≡ false) × ((v : ℕ) → t.wrote ≡ Some v → x ≡ v) × (t.wrote ≡ None → (y : ℕ) → t.read ≡ Some y → x ≡ y)
+AnswerFits reading t Fine = (reading ≡ false) × (is_seen_down t.view ≡ false)
+AnswerFits reading t (Found x) = (reading ≡ true) × (is_seen_down t.view ≡ false) × ((v : ℕ) → t.wrote ≡ Some v → x ≡ v) × (t.wrote ≡ None → (y : ℕ) → t.read ≡ Some y → x ≡ y)
 AnswerFits reading t Down = is_up t.view ≡ false
 AnswerFits reading t Skipped = Unit {0}
 
@@ -94,9 +94,9 @@ AnswersFit kinds s [] = Unit {0}
 AnswersFit kinds s (p ∷ ps) = FitsSummary s p × AnswersFit kinds (summary_then kinds s p) ps
 
 -- no answered command is a failed must command
-unfoldable pub NoneFails : List Answered → Type 0
-NoneFails [] = Unit {0}
-NoneFails (p ∷ ps) = (fails p.command p.answer ≡ false) × NoneFails ps
+unfoldable pub NoCommandFails : List Answered → Type 0
+NoCommandFails [] = Unit {0}
+NoCommandFails (p ∷ ps) = (fails p.command p.answer ≡ false) × NoCommandFails ps
 
 -- each command is on one of the n devices of the home
 unfoldable pub AreHomed : ℕ → List Command → Type 0
@@ -104,13 +104,13 @@ AreHomed n [] = Unit {0}
 AreHomed n (c ∷ cs) = (c.device.0 < n) × AreHomed n cs
 
 -- the first view and the first value read are those of a device that stands so
-pub record Meets (s : Stand) (t : DeviceSummary) : Type 0 where
+pub record MeetsStand (s : Stand) (t : DeviceSummary) : Type 0 where
   pub view : is_some t.view ≡ true → is_up t.view ≡ s.up
   pub read : (x : ℕ) → t.read ≡ Some x → x ≡ s.value
 
 -- each device of the home is as the summary says
 abbrev pub MeetsHome : List Stand → Summary → Type 0
-MeetsHome home s = (d : DeviceId) → d < length home → Meets (stand_at home d) (s.on d)
+MeetsHome home s = (d : DeviceId) → d < length home → MeetsStand (stand_at home d) (s.on d)
 
 -- a device with a run's last write put over its value
 abbrev pub overwritten : Stand → Option ℕ → Stand

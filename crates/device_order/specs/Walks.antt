@@ -2,10 +2,10 @@
 pub use Rattle.device_order.specs.declared.walks.GripOut.TheVariants.{Commands, Home, Undo}
 pub use Rattle.device_order.specs.declared.walks.GripOut.{GripOut}
 pub use Rattle.device_order.specs.declared.walks.WalkState.{WalkState}
-use Rattle.device_order.specs.Usages.{awaits_first, counts_serially, has_committed_write, has_effect, has_live_write, has_touched, has_write, is_committed, is_doomed, is_down, is_free, is_open, is_pending, is_restart, is_undo, is_up, spans_up}
+use Rattle.device_order.specs.Usages.{awaits_first, counts_serially, has_committed_write, has_uncommitted_write, has_used_device, has_write, holds_undo, is_free, is_in_effect, is_pending, is_restart, is_seen_down, is_up, spans_up, stage_is_committed, stage_is_doomed, stage_is_open}
 use Rattle.device_order.specs.declared.records.Event.{Event}
-use Rattle.device_order.specs.declared.records.Grip.TheVariants.{Free, Reads, Undoes, Writes}
-use Rattle.device_order.specs.declared.records.Grip.{Grip}
+use Rattle.device_order.specs.declared.records.HeldGrip.TheVariants.{Free, Reads, Undoes, Writes}
+use Rattle.device_order.specs.declared.records.HeldGrip.{HeldGrip}
 use Rattle.device_order.specs.declared.records.OrderEntry.TheVariants.{Occurred, Used}
 use Rattle.device_order.specs.declared.records.OrderEntry.{OrderEntry}
 use Rattle.device_order.specs.declared.records.Usage.{Usage}
@@ -29,25 +29,25 @@ if_written true wrote v = unwrap_or wrote v
 if_written false wrote v = v
 
 -- the grip that is out behind a run which holds it so (true: the run has written nothing there)
-abbrev pub out_after : Grip → Bool → GripOut → GripOut
-out_after Free fresh out = out
-out_after Reads fresh out = Commands fresh
-out_after Writes fresh out = Commands false
-out_after (Undoes v) fresh out = Undo v
+abbrev pub grip_out_after : HeldGrip → Bool → GripOut → GripOut
+grip_out_after Free fresh out = out
+grip_out_after Reads fresh out = Commands fresh
+grip_out_after Writes fresh out = Commands false
+grip_out_after (Undoes v) fresh out = Undo v
 
 -- what the walk has seen behind a use, ..
 abbrev pub after_usage : WalkState → Usage → WalkState
 after_usage s u = record {
   up = s.up;
   value = if_written (has_committed_write u) u.wrote s.value;
-  stand = if_written (has_effect u) u.wrote s.stand;
-  settled = if has_effect u then is_committed u.stage else s.settled;
-  undoing = if has_write u then is_undo u.grip else s.undoing;
-  opened = s.opened || is_open u.stage;
+  stand = if_written (is_in_effect u) u.wrote s.stand;
+  settled = if is_in_effect u then stage_is_committed u.stage else s.settled;
+  undoing = if has_write u then holds_undo u.grip else s.undoing;
+  opened = s.opened || stage_is_open u.stage;
   waiting = s.waiting || awaits_first u;
   spanned = s.spanned || spans_up u;
-  exposed = not (has_committed_write u) && (s.exposed || has_live_write u);
-  out = out_after u.grip (not (is_some u.wrote)) s.out;
+  exposed = not (has_committed_write u) && (s.exposed || has_uncommitted_write u);
+  out = grip_out_after u.grip (not (is_some u.wrote)) s.out;
 }
 
 -- .. and behind any entry
@@ -56,20 +56,20 @@ after_entry s (Occurred e) = record s { up = is_restart e }
 after_entry s (Used u) = after_usage s u
 
 -- a run holds the grip for a command while it has one without an answer, sees no failure and is not undone, and for an undo while it is doomed and has a write to undo
-abbrev pub GripFits : Grip → Usage → Type 0
+abbrev pub GripFits : HeldGrip → Usage → Type 0
 GripFits Free u = Unit {0}
-GripFits Reads u = (is_pending u.stage ≡ true) × (u.undid ≡ false) × (is_down u.view ≡ false)
-GripFits Writes u = (is_pending u.stage ≡ true) × (u.undid ≡ false) × (is_down u.view ≡ false)
-GripFits (Undoes v) u = (is_doomed u.stage ≡ true) × (u.undid ≡ false) × (is_some u.wrote ≡ true)
+GripFits Reads u = (is_pending u.stage ≡ true) × (u.undid ≡ false) × (is_seen_down u.view ≡ false)
+GripFits Writes u = (is_pending u.stage ≡ true) × (u.undid ≡ false) × (is_seen_down u.view ≡ false)
+GripFits (Undoes v) u = (stage_is_doomed u.stage ≡ true) × (u.undid ≡ false) × (is_some u.wrote ≡ true)
 
 -- a use fits what stands before it
 pub record UsageFits (s : WalkState) (u : Usage) : Type 0 where
   pub read_up : is_some u.read ≡ true → is_up u.view ≡ true  -- a run sees the device up where it read, ..
   pub wrote_up : is_some u.wrote ≡ true → is_up u.view ≡ true  -- .. or wrote, ..
   pub why_up : is_up u.view ≡ true → (is_some u.read || is_some u.wrote) ≡ true  -- .. and only there
-  pub undid : u.undid ≡ true → (is_doomed u.stage && is_some u.wrote) ≡ true  -- only a doomed run that wrote is undone
-  pub after_open : has_touched u ≡ true → s.opened ≡ false  -- it touched the device behind no run that has more to do there, ..
-  pub after_command : has_touched u ≡ true → is_command_out s.out ≡ false  -- .. and behind no command that is out
+  pub undid : u.undid ≡ true → (stage_is_doomed u.stage && is_some u.wrote) ≡ true  -- only a doomed run that wrote is undone
+  pub after_open : has_used_device u ≡ true → s.opened ≡ false  -- it touched the device behind no run that has more to do there, ..
+  pub after_command : has_used_device u ≡ true → is_command_out s.out ≡ false  -- .. and behind no command that is out
   pub view : counts_serially u.stage ≡ true → is_some u.view ≡ true → is_up u.view ≡ s.up  -- where it counts, it sees the device as it is there, ..
   pub read : counts_serially u.stage ≡ true → (x : ℕ) → u.read ≡ Some x → x ≡ s.value  -- .. and read the committed value there
   pub covered : is_some u.read ≡ true → s.exposed ≡ false  -- it read behind no live write that no committed one covers
@@ -112,14 +112,14 @@ with_event e (Used u ∷ xs) = if awaits_first u then (Occurred e ∷ Used u ∷
 unfoldable pub effective : Option Usage → List OrderEntry → Option Usage
 effective o [] = o
 effective o (Occurred e ∷ xs) = effective o xs
-effective o (Used u ∷ xs) = effective (if has_effect u then Some u else o) xs
+effective o (Used u ∷ xs) = effective (if is_in_effect u then Some u else o) xs
 
 -- the value of an effective write, else the first one
-abbrev pub written_by : Option Usage → ℕ → ℕ
-written_by None first = first
-written_by (Some u) first = unwrap_or u.wrote first
+abbrev pub written_or_first : Option Usage → ℕ → ℕ
+written_or_first None first = first
+written_or_first (Some u) first = unwrap_or u.wrote first
 
 -- no write is in effect, or a committed one
-abbrev pub is_settled : Option Usage → Bool
-is_settled None = true
-is_settled (Some u) = is_committed u.stage
+abbrev pub is_write_settled : Option Usage → Bool
+is_write_settled None = true
+is_write_settled (Some u) = stage_is_committed u.stage

@@ -5,8 +5,8 @@ use Rattle.device_order.specs.Invariant.{DeviceInvariant}
 use Rattle.device_order.specs.LineEntries.{entries}
 use Rattle.device_order.specs.LineOrders.{EventsAreHomed, serial_order, served}
 use Rattle.device_order.specs.Records.{DeviceRecord, walk_start}
-use Rattle.device_order.specs.RunStates.{RunState, RunStates, answered, device_summary, rest, uses}
-use Rattle.device_order.specs.Summaries.{AnswersFit, AreHomed, NoneFails, blank}
+use Rattle.device_order.specs.RunStates.{RunState, RunStates, answered_commands, device_summary, rest, uses_device}
+use Rattle.device_order.specs.Summaries.{AnswersFit, AreHomed, NoCommandFails, blank}
 use Rattle.device_order.specs.Walks.{walk_end}
 use Rattle.device_order.specs.declared.records.Probe.{Probe}
 use Rattle.device_order.specs.declared.records.Probe.TheVariants.{Unprobed}
@@ -19,7 +19,7 @@ use Rattle.home_types.specs.declared.worlds.Stand.{Stand}
 use Rattle.std.specs.Prelude.{Bool, List, false, is_some, length, true, ℕ, ◌++◌, ◌<◌, ◌∷◌, ◌≡◌, ◌≤◌}
 
 -- a window: its runs, the state of its home at the start, its line, what is known of each run, and of each device whether it is counted up, where it stands or stood as it went out, and its probe
-pub record WindowRecord : Type 0 where
+pub record WindowModel : Type 0 where
   pub runs : List Run
   pub first : List Stand
   pub line : List Item
@@ -29,8 +29,8 @@ pub record WindowRecord : Type 0 where
   pub probe : DeviceId → Probe
 
 -- one device of a window
-abbrev pub device_of : List Kind → WindowRecord → DeviceId → DeviceRecord
-device_of kinds s d = record {
+abbrev pub device_record : List Kind → WindowModel → DeviceId → DeviceRecord
+device_record kinds s d = record {
   order = entries kinds s.states d s.line;
   first_up = (stand_at s.first d).up;
   first = (stand_at s.first d).value;
@@ -43,30 +43,30 @@ device_of kinds s d = record {
 pub record RunInvariant (kinds : List Kind) (n : ℕ) (r : RunState) : Type 0 where
   pub homed : AreHomed n r.commands
   pub size : length r.answers ≤ length r.commands
-  pub fit : r.doomed ≡ false → AnswersFit kinds blank (answered r)
-  pub none_fails : r.doomed ≡ false → NoneFails (answered r)
+  pub fit : r.doomed ≡ false → AnswersFit kinds blank (answered_commands r)
+  pub none_fails : r.doomed ≡ false → NoCommandFails (answered_commands r)
   pub whole : r.committed ≡ true → (r.doomed ≡ false) × (length r.answers ≡ length r.commands)
 
 -- the invariant of each device and of each run
-pub record WindowInvariant (kinds : List Kind) (s : WindowRecord) : Type 0 where
-  pub devices : (d : DeviceId) → d < length s.first → DeviceInvariant (device_of kinds s d)
+pub record WindowInvariant (kinds : List Kind) (s : WindowModel) : Type 0 where
+  pub devices : (d : DeviceId) → d < length s.first → DeviceInvariant (device_record kinds s d)
   pub runs : (r : RunId) → RunInvariant kinds (length s.first) (s.states r)
   pub commands : (r : RunId) → (s.states r).commands ≡ commands_of s.runs r
   pub events : EventsAreHomed (length s.first) s.line
 
 -- the value of the last committed write in line order, else the first value
-abbrev pub committed_value : List Kind → WindowRecord → DeviceId → ℕ
-committed_value kinds s d = (walk_end (walk_start (stand_at s.first d).up (stand_at s.first d).value) (entries kinds s.states d s.line)).value
+abbrev pub walked_value : List Kind → WindowModel → DeviceId → ℕ
+walked_value kinds s d = (walk_end (walk_start (stand_at s.first d).up (stand_at s.first d).value) (entries kinds s.states d s.line)).value
 
 -- the serial execution of the line's order is not refused, gives the committed runs their answers, and ends with each device at its committed value, up or down as it is counted
-pub record OrderIsSerial (kinds : List Kind) (s : WindowRecord) : Type 0 where
+pub record OrderIsSerial (kinds : List Kind) (s : WindowModel) : Type 0 where
   pub refused : (serial_execution s.runs kinds s.first (serial_order s.states s.line)).refused ≡ false
   pub answers : (serial_execution s.runs kinds s.first (serial_order s.states s.line)).answers ≡ served s.states s.line
   pub size : length (serial_execution s.runs kinds s.first (serial_order s.states s.line)).home ≡ length s.first
-  pub stands : (d : DeviceId) → d < length s.first → stand_at (serial_execution s.runs kinds s.first (serial_order s.states s.line)).home d ≡ record { value = committed_value kinds s d; up = s.up d }
+  pub stands : (d : DeviceId) → d < length s.first → stand_at (serial_execution s.runs kinds s.first (serial_order s.states s.line)).home d ≡ record { value = walked_value kinds s d; up = s.up d }
 
 -- where each run of the line has committed: the serial execution of the whole line is not refused, gives its runs their answers, and leaves each device up or down as it is counted, and where it stands if it is home and up
-pub record LineIsWhole (kinds : List Kind) (s : WindowRecord) : Type 0 where
+pub record LineIsWhole (kinds : List Kind) (s : WindowModel) : Type 0 where
   pub refused : (serial_execution s.runs kinds s.first s.line).refused ≡ false
   pub answers : (serial_execution s.runs kinds s.first s.line).answers ≡ served s.states s.line
   pub size : length (serial_execution s.runs kinds s.first s.line).home ≡ length s.first
@@ -81,13 +81,13 @@ pub record StandsBefore (x w : RunId) (line : List Item) : Type 0 where
   pub at : line ≡ front ++ Ran (run_no x) ∷ (between ++ Ran (run_no w) ∷ back)
 
 -- the run is live and not doomed, and a command of it on the device has no answer
-pub record IsPendingAt (s : WindowRecord) (d : DeviceId) (r : RunId) : Type 0 where
+pub record IsPendingAt (s : WindowModel) (d : DeviceId) (r : RunId) : Type 0 where
   pub live : (s.states r).committed ≡ false
   pub counts : (s.states r).doomed ≡ false
-  pub left : uses d (rest (s.states r)) ≡ true
+  pub left : uses_device d (rest (s.states r)) ≡ true
 
 -- the run is live, it wrote the device, and no entry undid that
-pub record HasLiveWriteAt (kinds : List Kind) (s : WindowRecord) (d : DeviceId) (r : RunId) : Type 0 where
+pub record HasLiveWriteAt (kinds : List Kind) (s : WindowModel) (d : DeviceId) (r : RunId) : Type 0 where
   pub live : (s.states r).committed ≡ false
   pub wrote : is_some (device_summary kinds (s.states r) d).wrote ≡ true
   pub kept : (s.states r).undid d ≡ false

@@ -1,10 +1,10 @@
 //! Laws of one device's order. Each is a function with no work in it, whose contract is the law.
 
 ghost use Rattle.device_order.specs.Changes.{DeviceChange};
-ghost use Rattle.device_order.specs.Claims.{ReadFinds, StandsAt, standing_value};
+ghost use Rattle.device_order.specs.Claims.{ReadFinds, StandsAt, value_in_effect};
 ghost use Rattle.device_order.specs.Invariant.{DeviceInvariant};
 ghost use Rattle.device_order.specs.Records.{DeviceRecord};
-ghost use Rattle.device_order.specs.declared.records.Grip.TheVariants.{Reads};
+ghost use Rattle.device_order.specs.declared.records.HeldGrip.TheVariants.{Reads};
 ghost use Rattle.device_order.specs.declared.records.OrderEntry.TheVariants.{Used};
 ghost use Rattle.device_order.specs.declared.records.OrderEntry.{OrderEntry};
 ghost use Rattle.device_order.specs.declared.records.Usage.{Usage};
@@ -22,5 +22,5 @@ pub fn read_law()
 
 /// The device stands at its standing value, and each drive that is out drives that value.
 pub fn standing_law()
-    ensures { (d : DeviceRecord) → DeviceInvariant d → StandsAt d (standing_value d) }
+    ensures { (d : DeviceRecord) → DeviceInvariant d → StandsAt d (value_in_effect d) }
 {}

@@ -8,5 +8,5 @@ pub mod records;
 pub mod walks;
 pub mod window_laws;
 
-pub use records::{Event, Grip, OrderEntry, Probe, Stage, Usage};
+pub use records::{Event, HeldGrip, OrderEntry, Probe, RunStage, Usage};
 pub use walks::{GripOut, WalkState};

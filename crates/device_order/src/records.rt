@@ -5,7 +5,7 @@ use home_types::{Value, View};
 ///
 /// A run counts while it is neither doomed nor about to be doomed by the step under way.
 #[derive(Clone, Copy)]
-pub enum Stage {
+pub enum RunStage {
     /// The run is committed.
     Committed,
     /// The run counts, and a command of it on the device has no answer.
@@ -20,7 +20,7 @@ pub enum Stage {
 
 /// What a run holds the grip of a device for.
 #[derive(Clone, Copy)]
-pub enum Grip {
+pub enum HeldGrip {
     /// The run does not hold it.
     Free,
     /// A command that reads.
@@ -34,7 +34,7 @@ pub enum Grip {
 /// The use that one run makes of a device.
 #[derive(Clone, Copy)]
 pub struct Usage {
-    pub stage: Stage,
+    pub stage: RunStage,
     /// How the run sees the device; none before its first answer there.
     pub view: Option<View>,
     /// What the run read before its first write.
@@ -43,7 +43,7 @@ pub struct Usage {
     pub wrote: Option<Value>,
     /// Whether its writes were undone. An undo that is out does not count yet.
     pub undid: bool,
-    pub grip: Grip,
+    pub grip: HeldGrip,
 }
 
 /// What happens to a device by itself.

@@ -44,7 +44,7 @@ impl Model for SimDevice {
 }
 
 impl SimDevice {
-    ghost use Rattle.device_states.specs.SimDevices.{dies_next, died, next_answer};
+    ghost use Rattle.device_states.specs.SimDevices.{dies_next, died, next_call_answer};
 
     // Whether the next call dies.
     fn is_down(&self) -> bool
@@ -67,7 +67,7 @@ impl SimDevice {
     // Counts the fault of the next call where it dies.
     fn fail_if_down(&mut self) -> Result<(), Dead>
         requires { self.old.faults < 2 ^ 63 }
-        ensures answer { result ≡ next_answer self.old }
+        ensures answer { result ≡ next_call_answer self.old }
         ensures down { OnErr result (self.new ≡ died self.old) }
         ensures up { OnOk result (self.new ≡ self.old) }
     {
@@ -81,7 +81,7 @@ impl SimDevice {
 
 impl Device for SimDevice {
     ghost use Rattle.std.specs.Prelude.{Some};
-    ghost use Rattle.device_states.specs.SimDevices.{after_drive, after_probe, after_sense, next_answer, sense_answer};
+    ghost use Rattle.device_states.specs.SimDevices.{after_drive, after_probe, after_sense, next_call_answer, sense_answer};
 
     ghost tag = { λ s. s.tag };
 
@@ -97,7 +97,7 @@ impl Device for SimDevice {
 
     fn drive(&mut self, v: Value) -> Result<(), Dead>
         requires room { HasRoom self.old.turns self.old.probes self.old.faults }
-        ensures answer { result ≡ next_answer self.old }
+        ensures answer { result ≡ next_call_answer self.old }
         ensures after { self.new ≡ after_drive self.old v }
     {
         self.fail_if_down()?;
@@ -118,7 +118,7 @@ impl Device for SimDevice {
 
     fn probe(&mut self) -> Result<(), Dead>
         requires room { HasRoom self.old.turns self.old.probes self.old.faults }
-        ensures answer { result ≡ next_answer self.old }
+        ensures answer { result ≡ next_call_answer self.old }
         ensures after { self.new ≡ after_probe self.old }
     {
         self.parts.probes += 1;

@@ -2,7 +2,7 @@
 use Rattle.atomic_table.specs.Seated.{TableId}
 use Rattle.atomic_table.specs.Table.{Me}
 use Rattle.grip_seats.specs.Views.{keeper}
-use Rattle.grip_seats.specs.declared.views.View.{View}
+use Rattle.grip_seats.specs.declared.views.SeatView.{SeatView}
 use Rattle.std.specs.Prelude.{List, Option, [], ℕ, ◌<◌, ◌≡◌}
 
 -- which desk it is
@@ -24,11 +24,11 @@ pub record PassState (T : Type 0) : Type 0 where
   pub claim : Option (ℕ × T)
 
 -- the seat is the desk's
-pub record IsDesk {T : Type 0} (table seat : TableId) (me : Me (ℕ × T) (View T)) : Type 0 where
+pub record IsDesk {T : Type 0} (table seat : TableId) (me : Me (ℕ × T) (SeatView T)) : Type 0 where
   pub same : seat ≡ table
   pub words : 0 < table.words
   pub keeps : me ≡ (keeper me.0.out, [])
 
 -- the seat holds no slot
-abbrev pub IsPass : {T : Type 0} → Me (ℕ × T) (View T) → Type 0
+abbrev pub IsPass : {T : Type 0} → Me (ℕ × T) (SeatView T) → Type 0
 IsPass me = me.1 ≡ []

@@ -1,7 +1,7 @@
 //! The desk, and the passes.
 ghost use Rattle.std.specs.Prelude.{◌≡◌, IfOk, IfSome, None, Some, replicate, slice_get, slice_set, ℕ};
 
-use crate::views::{ComesHome, CutClaim, EachOnce, GoesOut, View};
+use crate::views::{ComesHome, CutClaim, EachOnce, GoesOut, SeatView};
 use atomic_table::{Seat, Table};
 use std::alloc::{AllocError, Global};
 use std::marker::Model;
@@ -11,8 +11,8 @@ use std::marker::Model;
 /// Contracts see its name, and what is out of each place.
 #[derive(Drop)]
 pub struct Desk<T: Drop> {
-    table: Table<(u64, T), View<T>, u64, EachOnce, Global>,
-    seat: Seat<(u64, T), View<T>>,
+    table: Table<(u64, T), SeatView<T>, u64, EachOnce, Global>,
+    seat: Seat<(u64, T), SeatView<T>>,
 }
 
 /// The claim that something is out of a place of the desk of this name. Nobody else has it.
@@ -20,7 +20,7 @@ pub struct Desk<T: Drop> {
 /// It has no bytes. One that is dropped is lost, and what it claims then never comes home.
 #[derive(Drop)]
 pub struct Pass<T> {
-    seat: Seat<(u64, T), View<T>>,
+    seat: Seat<(u64, T), SeatView<T>>,
 }
 
 impl<T: Drop> Model for Desk<T> {

@@ -1,6 +1,6 @@
 //! The answer to a call that was made elsewhere, handed in for the grip with which the device is out.
 ghost use Rattle.std.specs.Prelude.{◌≡◌, ◌+◌, IfErr, IfOk, false, true};
-ghost use Rattle.device_gate.specs.Calls.{answered, failed, may_tell, probed};
+ghost use Rattle.device_gate.specs.Calls.{answered_turns, failed, may_tell, probed};
 ghost use Rattle.device_gate.specs.Grips.{WasCalled};
 ghost use Rattle.device_states.specs.Devices.{HasRoom};
 ghost use Rattle.handed_devices.specs.Answers.{known_value};
@@ -75,7 +75,7 @@ fn known_value(task: Task, stood: Value, told: Told) -> Value
 
 /// The drives and senses that the device answered.
 fn answered(task: Task, told: Told) -> u64
-    ensures { result ≡ answered task told }
+    ensures { result ≡ answered_turns task told }
 {
     match (task, told) {
         (_, Told::Died) | (Task::Probe(None), _) => 0,

@@ -1,6 +1,6 @@
 -- The places of first entries: what stands at them, and what they are after one more entry.
 use Rattle.history_book.specs.BookParts.{ArePlaces, entry_at, noted}
-use Rattle.history_book.specs.Books.{doom_in, end_in, first_place, first_told, placing_in}
+use Rattle.history_book.specs.Books.{doom_in, end_in, first_told, first_told_place, placing_in}
 use Rattle.history_book.specs.declared.entries.Cause.{Cause}
 use Rattle.history_book.specs.declared.entries.End.{End}
 use Rattle.history_book.specs.declared.entries.Entry.TheVariants.{Arrived, Did, Doomed, Ended, Fell, Placed, Rose, Undid}
@@ -45,7 +45,7 @@ position_more p (x ∷ xs) y =
     further false false None = refl
 
 -- what stands at the first place that tells something tells it
-pub first_told-place : {T : Type 0} (told : Entry → Option T) (h : List Kept) → option_and_then told (entry_at h (first_place told h)) ≡ first_told told h
+pub first_told-place : {T : Type 0} (told : Entry → Option T) (h : List Kept) → option_and_then told (entry_at h (first_told_place told h)) ≡ first_told told h
 first_told-place told [] = refl
 first_told-place {T} told (x ∷ xs) = rw (position_cons (λ k. is_some (told k.entry)) x xs) (by_cases (told x.entry) refl (first_told-place told xs))
   where
@@ -53,14 +53,14 @@ first_told-place {T} told (x ∷ xs) = rw (position_cons (λ k. is_some (told k.
     further None = refl
     further (Some k) = let next : k + 1 ≡ suc k = omega arith in rw next refl
 
-    by_cases : (t : Option T) → told x.entry ≡ t → option_and_then told (entry_at xs (first_place told xs)) ≡ first_told told xs → option_and_then told (entry_at (x ∷ xs) (if is_some t then Some 0 else option_map (λ k. k + 1) (first_place told xs))) ≡ option_or t (first_told told xs)
+    by_cases : (t : Option T) → told x.entry ≡ t → option_and_then told (entry_at xs (first_told_place told xs)) ≡ first_told told xs → option_and_then told (entry_at (x ∷ xs) (if is_some t then Some 0 else option_map (λ k. k + 1) (first_told_place told xs))) ≡ option_or t (first_told told xs)
     by_cases (Some v) e rest = e
-    by_cases None e rest = further (first_place told xs) ∙ rest
+    by_cases None e rest = further (first_told_place told xs) ∙ rest
 
 -- there is such a place exactly where something is told
-pub told-placed : {T : Type 0} (told : Entry → Option T) (h : List Kept) → is_some (first_place told h) ≡ is_some (first_told told h)
+pub told-placed : {T : Type 0} (told : Entry → Option T) (h : List Kept) → is_some (first_told_place told h) ≡ is_some (first_told told h)
 told-placed told [] = refl
-told-placed {T} told (x ∷ xs) = rw (position_cons (λ k. is_some (told k.entry)) x xs) (by_cases (told x.entry) (first_place told xs) (told-placed told xs))
+told-placed {T} told (x ∷ xs) = rw (position_cons (λ k. is_some (told k.entry)) x xs) (by_cases (told x.entry) (first_told_place told xs) (told-placed told xs))
   where
     by_cases : (t : Option T) (o : Option ℕ) → is_some o ≡ is_some (first_told told xs) → is_some (if is_some t then Some 0 else option_map (λ k. k + 1) o) ≡ is_some (option_or t (first_told told xs))
     by_cases (Some v) o rest = refl
@@ -68,7 +68,7 @@ told-placed {T} told (x ∷ xs) = rw (position_cons (λ k. is_some (told k.entry
     by_cases None None rest = rest
 
 -- a place that is read is the first
-pub place_read : {T : Type 0} (told : ℕ → Entry → Option T) (h : List Kept) (places : List (Option ℕ)) (r : ℕ) (place : Option ℕ) → true ≡ nat_lt r (length places) → place ≡ slice_index_or places r place → ArePlaces told h places → place ≡ first_place (told r) h
+pub place_read : {T : Type 0} (told : ℕ → Entry → Option T) (h : List Kept) (places : List (Option ℕ)) (r : ℕ) (place : Option ℕ) → true ≡ nat_lt r (length places) → place ≡ slice_index_or places r place → ArePlaces told h places → place ≡ first_told_place (told r) h
 place_read told h places r place within read are = read ∙ any_default places r within ∙ are r (grind (arith, common_steps))
   where
     any_default : (xs : List (Option ℕ)) (k : ℕ) → true ≡ nat_lt k (length xs) → slice_index_or xs k place ≡ slice_index_or xs k None
@@ -118,15 +118,15 @@ pub places_more : {T : Type 0} (told : ℕ → Entry → Option T) (h : List Kep
 places_more told h kept q places tells are r within =
     noted_at places q (length h) r within
     ∙ ap (λ o. option_or o (if q == r then Some (length h) else None)) (are r (subst (λ n. r < n) (length_noted places q (length h)) within))
-    ∙ ap (λ b. option_or (first_place (told r) h) (if b then Some (length h) else None)) (sym (tells r))
+    ∙ ap (λ b. option_or (first_told_place (told r) h) (if b then Some (length h) else None)) (sym (tells r))
     ∙ sym (position_more (λ k. is_some (told r k.entry)) h kept)
 
 -- one that tells of none: the places stay
 pub places_stay : {T : Type 0} (told : ℕ → Entry → Option T) (h : List Kept) (kept : Kept) (places : List (Option ℕ)) → ((r : ℕ) → is_some (told r kept.entry) ≡ false) → ArePlaces told h places → ArePlaces told (h ++ kept ∷ []) places
 places_stay told h kept places silent are r within =
     are r within
-    ∙ sym (or_none (first_place (told r) h))
-    ∙ ap (λ b. option_or (first_place (told r) h) (if b then Some (length h) else None)) (sym (silent r))
+    ∙ sym (or_none (first_told_place (told r) h))
+    ∙ ap (λ b. option_or (first_told_place (told r) h) (if b then Some (length h) else None)) (sym (silent r))
     ∙ sym (position_more (λ k. is_some (told r k.entry)) h kept)
 
 -- no entry: no places

@@ -3,7 +3,7 @@ use Rattle.command_rules.specs.Items.{is_ran}
 use Rattle.command_rules.specs.Rosters.{command_at, commands_of, is_on, touches_from}
 use Rattle.history_book.proofs.Snoc.{put_keeps, put_other, put_same}
 use Rattle.history_book.specs.Histories.{entry, more_if, reading, with_turn}
-use Rattle.history_book.specs.Readings.{Event, First, Last, Mark, OfRun, Reading, is_access, is_first, is_last, next_of, nothing_read, pends, put, span_of, view_by}
+use Rattle.history_book.specs.Readings.{Event, First, Last, LogMark, OfRun, Reading, is_access, is_first_mark, is_last_mark, next_of, nothing_read, pends, put, span_of, view_by}
 use Rattle.history_book.specs.Settings.{Setting}
 use Rattle.history_book.specs.WellFormed.{IsWellFormed, along, may_follow}
 use Rattle.history_book.specs.declared.entries.Entry.{Entry}
@@ -24,13 +24,13 @@ use Rattle.std.specs.Option.{option_or}
 use Rattle.std.specs.Prelude.{Bool, IsTrue, List, None, Option, Some, [], drop, false, fold, if◌then◌else◌, is_none, is_some, length, not, suc, take_while, true, zero, ℕ, ◌&&◌, ◌++◌, ◌+◌, ◌==◌, ◌||◌, ◌∷◌, ◌≡◌, ◌≢◌, ◌⊎◌}
 
 abbrev pub LogsFirsts : Reading → Type 0
-LogsFirsts n = (r d : ℕ) → list_any (is_first r) (n.log d) ≡ is_some ((n.run r).on d).view
+LogsFirsts n = (r d : ℕ) → list_any (is_first_mark r) (n.log d) ≡ is_some ((n.run r).on d).view
 
 abbrev pub LogsLasts : Setting → Reading → Type 0
-LogsLasts w n = (r d : ℕ) → pends w n r d ≡ true → list_any (is_last r) (n.log d) ≡ false
+LogsLasts w n = (r d : ℕ) → pends w n r d ≡ true → list_any (is_last_mark r) (n.log d) ≡ false
 
 -- the mark is of an event, and the run stands for the event
-abbrev pub is_event_of : ℕ → Mark → Bool
+abbrev pub is_event_of : ℕ → LogMark → Bool
 is_event_of r (First q) = false
 is_event_of r (Event i) = is_ran r i
 is_event_of r (Last q) = false
@@ -57,27 +57,27 @@ any_more p false x xs = sym (or_false (list_any p xs))
     or_false false = refl
 
 -- the log of the command's device when its answer is there
-abbrev pub log_after : Setting → Reading → ℕ → ℕ → Answer → List Mark
+abbrev pub log_after : Setting → Reading → ℕ → ℕ → Answer → List LogMark
 log_after w n r k a =
     more_if (not (touches_from w.runs r (command_at w.runs r k).device.0 (k + 1))) (Last r) (more_if (is_access a && is_none ((n.run r).on (command_at w.runs r k).device.0).view) (First r) (n.log (command_at w.runs r k).device.0))
 
-first_after : (w : Setting) (n : Reading) (r k q : ℕ) (a : Answer) → list_any (is_first q) (log_after w n r k a) ≡ (list_any (is_first q) (n.log (command_at w.runs r k).device.0) || (is_access a && is_none ((n.run r).on (command_at w.runs r k).device.0).view && (r == q)))
+first_after : (w : Setting) (n : Reading) (r k q : ℕ) (a : Answer) → list_any (is_first_mark q) (log_after w n r k a) ≡ (list_any (is_first_mark q) (n.log (command_at w.runs r k).device.0) || (is_access a && is_none ((n.run r).on (command_at w.runs r k).device.0).view && (r == q)))
 first_after w n r k q a =
-    any_more (is_first q) (not (touches_from w.runs r (command_at w.runs r k).device.0 (k + 1))) (Last r) _
-    ∙ no_last (list_any (is_first q) (more_if (is_access a && is_none ((n.run r).on (command_at w.runs r k).device.0).view) (First r) (n.log (command_at w.runs r k).device.0))) (not (touches_from w.runs r (command_at w.runs r k).device.0 (k + 1)))
-    ∙ any_more (is_first q) (is_access a && is_none ((n.run r).on (command_at w.runs r k).device.0).view) (First r) (n.log (command_at w.runs r k).device.0)
+    any_more (is_first_mark q) (not (touches_from w.runs r (command_at w.runs r k).device.0 (k + 1))) (Last r) _
+    ∙ no_last (list_any (is_first_mark q) (more_if (is_access a && is_none ((n.run r).on (command_at w.runs r k).device.0).view) (First r) (n.log (command_at w.runs r k).device.0))) (not (touches_from w.runs r (command_at w.runs r k).device.0 (k + 1)))
+    ∙ any_more (is_first_mark q) (is_access a && is_none ((n.run r).on (command_at w.runs r k).device.0).view) (First r) (n.log (command_at w.runs r k).device.0)
   where
     no_last : (b c : Bool) → (b || (c && false)) ≡ b
     no_last true c = refl
     no_last false true = refl
     no_last false false = refl
 
-last_after : (w : Setting) (n : Reading) (r k q : ℕ) (a : Answer) → list_any (is_last q) (log_after w n r k a) ≡ (list_any (is_last q) (n.log (command_at w.runs r k).device.0) || (not (touches_from w.runs r (command_at w.runs r k).device.0 (k + 1)) && (r == q)))
+last_after : (w : Setting) (n : Reading) (r k q : ℕ) (a : Answer) → list_any (is_last_mark q) (log_after w n r k a) ≡ (list_any (is_last_mark q) (n.log (command_at w.runs r k).device.0) || (not (touches_from w.runs r (command_at w.runs r k).device.0 (k + 1)) && (r == q)))
 last_after w n r k q a =
-    any_more (is_last q) (not (touches_from w.runs r (command_at w.runs r k).device.0 (k + 1))) (Last r) _
+    any_more (is_last_mark q) (not (touches_from w.runs r (command_at w.runs r k).device.0 (k + 1))) (Last r) _
     ∙ ap (λ b. b || (not (touches_from w.runs r (command_at w.runs r k).device.0 (k + 1)) && (r == q)))
-    (any_more (is_last q) (is_access a && is_none ((n.run r).on (command_at w.runs r k).device.0).view) (First r) (n.log (command_at w.runs r k).device.0)
-    ∙ no_first (list_any (is_last q) (n.log (command_at w.runs r k).device.0)) (is_access a && is_none ((n.run r).on (command_at w.runs r k).device.0).view))
+    (any_more (is_last_mark q) (is_access a && is_none ((n.run r).on (command_at w.runs r k).device.0).view) (First r) (n.log (command_at w.runs r k).device.0)
+    ∙ no_first (list_any (is_last_mark q) (n.log (command_at w.runs r k).device.0)) (is_access a && is_none ((n.run r).on (command_at w.runs r k).device.0).view))
   where
     no_first : (b c : Bool) → (b || (c && false)) ≡ b
     no_first true c = refl
@@ -107,20 +107,20 @@ take_while_more p x xs e = take_while-cons p x xs ∙ ap (λ b. cond b (x ∷ ta
 same_logs : (w : Setting) (n m : Reading) (r : ℕ) (o : OfRun) → m.log ≡ n.log → m.run ≡ put n.run r o → o.answers ≡ (n.run r).answers → ((d : ℕ) → (o.on d).view ≡ ((n.run r).on d).view) → Logged w n → Logged w m
 same_logs w n m r o log run answers views s =
     record {
-      firsts = λ q d. ap (λ l. list_any (is_first q) (l d)) log ∙ s.firsts q d ∙ sym (ap (λ f. is_some ((f q).on d).view) run ∙ ap is_some (put_keeps (λ x. (x.on d).view) n.run r o (views d) q));
-      lasts = λ q d e. ap (λ l. list_any (is_last q) (l d)) log ∙ s.lasts q d (sym (ap (λ f. touches_from w.runs q d (length (f q).answers)) run ∙ ap (λ a. touches_from w.runs q d (length a)) (put_keeps (λ x. x.answers) n.run r o answers q)) ∙ e);
+      firsts = λ q d. ap (λ l. list_any (is_first_mark q) (l d)) log ∙ s.firsts q d ∙ sym (ap (λ f. is_some ((f q).on d).view) run ∙ ap is_some (put_keeps (λ x. (x.on d).view) n.run r o (views d) q));
+      lasts = λ q d e. ap (λ l. list_any (is_last_mark q) (l d)) log ∙ s.lasts q d (sym (ap (λ f. touches_from w.runs q d (length (f q).answers)) run ∙ ap (λ a. touches_from w.runs q d (length a)) (put_keeps (λ x. x.answers) n.run r o answers q)) ∙ e);
       events = λ q d. ap (λ l. list_any (is_event_of q) (l d)) log ∙ s.events q d;
     }
 
 turn_logged : (w : Setting) (n : Reading) (d : DeviceNo) (x : Item) (up : Bool) → ((r : ℕ) → is_ran r x ≡ false) → Logged w n → Logged w (with_turn w n d x up)
 turn_logged w n d x up never s =
     record {
-      firsts = λ r e. put_keeps (list_any (is_first r)) n.log d.0 (n.log d.0 ++ Event x ∷ []) (no_more (is_first r) (n.log d.0) refl) e ∙ s.firsts r e;
-      lasts = λ r e p. put_keeps (list_any (is_last r)) n.log d.0 (n.log d.0 ++ Event x ∷ []) (no_more (is_last r) (n.log d.0) refl) e ∙ s.lasts r e p;
+      firsts = λ r e. put_keeps (list_any (is_first_mark r)) n.log d.0 (n.log d.0 ++ Event x ∷ []) (no_more (is_first_mark r) (n.log d.0) refl) e ∙ s.firsts r e;
+      lasts = λ r e p. put_keeps (list_any (is_last_mark r)) n.log d.0 (n.log d.0 ++ Event x ∷ []) (no_more (is_last_mark r) (n.log d.0) refl) e ∙ s.lasts r e p;
       events = λ r e. put_keeps (list_any (is_event_of r)) n.log d.0 (n.log d.0 ++ Event x ∷ []) (no_more (is_event_of r) (n.log d.0) (never r)) e ∙ s.events r e;
     }
   where
-    no_more : (p : Mark → Bool) (marks : List Mark) → p (Event x) ≡ false → list_any p (marks ++ Event x ∷ []) ≡ list_any p marks
+    no_more : (p : LogMark → Bool) (marks : List LogMark) → p (Event x) ≡ false → list_any p (marks ++ Event x ∷ []) ≡ list_any p marks
     no_more p marks none = list_any-append p marks (Event x ∷ []) ∙ grind (arith, common_steps)
 
 did_logged : (w : Setting) (n : Reading) (r : RunNo) (k : ℕ) (a : Answer) → k ≡ next_of n r.0 → Logged w n → Logged w (entry w n (Did r k a))
@@ -147,18 +147,18 @@ did_logged w n r k a number s = record { firsts = firsts'; lasts = lasts'; event
     other_view q d (inr other) = put_keeps (λ o. (o.on d).view) n.run r.0 _ (ap (λ o. o.view) (put_other (n.run r.0).on c.device.0 _ d other)) q
 
     firsts' : LogsFirsts later
-    firsts' q d = elim (d == c.device.0) as (λ b. (d == c.device.0) ≡ b → list_any (is_first q) (if b then log_after w n r.0 k a else n.log d) ≡ is_some ((later.run q).on d).view) [
+    firsts' q d = elim (d == c.device.0) as (λ b. (d == c.device.0) ≡ b → list_any (is_first_mark q) (if b then log_after w n r.0 k a else n.log d) ≡ is_some ((later.run q).on d).view) [
       | true ↦ (λ e. let same : d ≡ c.device.0 = grind (arith, common_steps) in
-          first_after w n r.0 k q a ∙ subst (λ x. (list_any (is_first q) (n.log c.device.0) || (is_access a && is_none ((n.run r.0).on c.device.0).view && (r.0 == q))) ≡ is_some ((later.run q).on x).view) (sym same) (here q))
+          first_after w n r.0 k q a ∙ subst (λ x. (list_any (is_first_mark q) (n.log c.device.0) || (is_access a && is_none ((n.run r.0).on c.device.0).view && (r.0 == q))) ≡ is_some ((later.run q).on x).view) (sym same) (here q))
       | false ↦ (λ e. s.firsts q d ∙ sym (ap is_some (other_view q d (inr (grind (arith, common_steps))))))
     ] refl
       where
-        here : (q : ℕ) → (list_any (is_first q) (n.log c.device.0) || (is_access a && is_none ((n.run r.0).on c.device.0).view && (r.0 == q))) ≡ is_some ((later.run q).on c.device.0).view
-        here q = elim (r.0 == q) as (λ b. (r.0 == q) ≡ b → (list_any (is_first q) (n.log c.device.0) || (is_access a && is_none ((n.run r.0).on c.device.0).view && b)) ≡ is_some ((later.run q).on c.device.0).view) [
+        here : (q : ℕ) → (list_any (is_first_mark q) (n.log c.device.0) || (is_access a && is_none ((n.run r.0).on c.device.0).view && (r.0 == q))) ≡ is_some ((later.run q).on c.device.0).view
+        here q = elim (r.0 == q) as (λ b. (r.0 == q) ≡ b → (list_any (is_first_mark q) (n.log c.device.0) || (is_access a && is_none ((n.run r.0).on c.device.0).view && b)) ≡ is_some ((later.run q).on c.device.0).view) [
           | true ↦ (λ e. let same : r.0 ≡ q = grind (arith, common_steps) in
-              subst (λ x. (list_any (is_first x) (n.log c.device.0) || (is_access a && is_none ((n.run r.0).on c.device.0).view && true)) ≡ is_some ((later.run x).on c.device.0).view) same
+              subst (λ x. (list_any (is_first_mark x) (n.log c.device.0) || (is_access a && is_none ((n.run r.0).on c.device.0).view && true)) ≡ is_some ((later.run x).on c.device.0).view) same
               (ap (λ b. b || (is_access a && is_none ((n.run r.0).on c.device.0).view && true)) (s.firsts r.0 c.device.0) ∙ seen ((n.run r.0).on c.device.0).view a ∙ sym (ap is_some own_view)))
-          | false ↦ (λ e. drop_last (list_any (is_first q) (n.log c.device.0)) (is_access a && is_none ((n.run r.0).on c.device.0).view) ∙ s.firsts q c.device.0 ∙ sym (ap is_some (other_view q c.device.0 (inl (grind (arith, common_steps))))))
+          | false ↦ (λ e. drop_last (list_any (is_first_mark q) (n.log c.device.0)) (is_access a && is_none ((n.run r.0).on c.device.0).view) ∙ s.firsts q c.device.0 ∙ sym (ap is_some (other_view q c.device.0 (inl (grind (arith, common_steps))))))
         ] refl
           where
             drop_last : (b x : Bool) → (b || (x && false)) ≡ b
@@ -181,13 +181,13 @@ did_logged w n r k a number s = record { firsts = firsts'; lasts = lasts'; event
     ] refl
 
     lasts' : LogsLasts w later
-    lasts' q d e = elim (d == c.device.0) as (λ b. (d == c.device.0) ≡ b → list_any (is_last q) (if b then log_after w n r.0 k a else n.log d) ≡ false) [
+    lasts' q d e = elim (d == c.device.0) as (λ b. (d == c.device.0) ≡ b → list_any (is_last_mark q) (if b then log_after w n r.0 k a else n.log d) ≡ false) [
       | true ↦ (λ is. let same : d ≡ c.device.0 = grind (arith, common_steps) in last_after w n r.0 k q a ∙ here q (subst (λ x. pends w later q x ≡ true) same e))
       | false ↦ (λ is. s.lasts q d (pended q d e))
     ] refl
       where
-        here : (q : ℕ) → pends w later q c.device.0 ≡ true → (list_any (is_last q) (n.log c.device.0) || (not (touches_from w.runs r.0 c.device.0 (k + 1)) && (r.0 == q))) ≡ false
-        here q p = elim (r.0 == q) as (λ b. (r.0 == q) ≡ b → (list_any (is_last q) (n.log c.device.0) || (not (touches_from w.runs r.0 c.device.0 (k + 1)) && b)) ≡ false) [
+        here : (q : ℕ) → pends w later q c.device.0 ≡ true → (list_any (is_last_mark q) (n.log c.device.0) || (not (touches_from w.runs r.0 c.device.0 (k + 1)) && (r.0 == q))) ≡ false
+        here q p = elim (r.0 == q) as (λ b. (r.0 == q) ≡ b → (list_any (is_last_mark q) (n.log c.device.0) || (not (touches_from w.runs r.0 c.device.0 (k + 1)) && b)) ≡ false) [
           | true ↦ (λ is. let same : r.0 ≡ q = grind (arith, common_steps) in let more : touches_from w.runs r.0 c.device.0 (k + 1) ≡ true = ap (λ j. touches_from w.runs r.0 c.device.0 j) (sym own_answers) ∙ subst (λ x. pends w later x c.device.0 ≡ true) (sym same) p in
               rw (s.lasts q c.device.0 (pended q c.device.0 p), more) refl)
           | false ↦ (λ is. rw (s.lasts q c.device.0 (pended q c.device.0 p)) (none_left (not (touches_from w.runs r.0 c.device.0 (k + 1)))))
@@ -217,16 +217,16 @@ logged w h ok = logged_from w (nothing_read w) h (record { firsts = λ r d. refl
 -- Spans
 
 -- what is added to the log while the run's span is open stands in the span
-pub span_more : (r : ℕ) (marks more : List Mark) → list_any (is_first r) marks ≡ true → list_any (is_last r) marks ≡ false → span_of r (marks ++ more) ≡ span_of r marks ++ take_while (λ x. not (is_last r x)) more
+pub span_more : (r : ℕ) (marks more : List LogMark) → list_any (is_first_mark r) marks ≡ true → list_any (is_last_mark r) marks ≡ false → span_of r (marks ++ more) ≡ span_of r marks ++ take_while (λ x. not (is_last_mark r x)) more
 span_more r [] more first last = absurd (cc)
-span_more r (m ∷ ms) more first last = elim (is_first r m) as (λ b. is_first r m ≡ b → (if b then take_while (λ x. not (is_last r x)) (ms ++ more) else span_of r (ms ++ more)) ≡ (if b then take_while (λ x. not (is_last r x)) ms else span_of r ms) ++ take_while (λ x. not (is_last r x)) more) [
+span_more r (m ∷ ms) more first last = elim (is_first_mark r m) as (λ b. is_first_mark r m ≡ b → (if b then take_while (λ x. not (is_last_mark r x)) (ms ++ more) else span_of r (ms ++ more)) ≡ (if b then take_while (λ x. not (is_last_mark r x)) ms else span_of r ms) ++ take_while (λ x. not (is_last_mark r x)) more) [
   | true ↦ (λ e. all_taken ms (grind (arith, common_steps)))
   | false ↦ (λ e. span_more r ms more (grind (arith, common_steps)) (grind (arith, common_steps)))
 ] refl
   where
-    all_taken : (xs : List Mark) → list_any (is_last r) xs ≡ false → take_while (λ x. not (is_last r x)) (xs ++ more) ≡ take_while (λ x. not (is_last r x)) xs ++ take_while (λ x. not (is_last r x)) more
+    all_taken : (xs : List LogMark) → list_any (is_last_mark r) xs ≡ false → take_while (λ x. not (is_last_mark r x)) (xs ++ more) ≡ take_while (λ x. not (is_last_mark r x)) xs ++ take_while (λ x. not (is_last_mark r x)) more
     all_taken [] none = refl
-    all_taken (x ∷ xs) none = elim (is_last r x) as (λ b. is_last r x ≡ b → take_while (λ y. not (is_last r y)) (x ∷ (xs ++ more)) ≡ take_while (λ y. not (is_last r y)) (x ∷ xs) ++ take_while (λ y. not (is_last r y)) more) [
+    all_taken (x ∷ xs) none = elim (is_last_mark r x) as (λ b. is_last_mark r x ≡ b → take_while (λ y. not (is_last_mark r y)) (x ∷ (xs ++ more)) ≡ take_while (λ y. not (is_last_mark r y)) (x ∷ xs) ++ take_while (λ y. not (is_last_mark r y)) more) [
       | true ↦ (λ e. absurd (grind (arith, common_steps)))
-      | false ↦ (λ e. take_while_more (λ y. not (is_last r y)) x (xs ++ more) (ap not e) ∙ ap (λ l. x ∷ l) (all_taken xs (grind (arith, common_steps))) ∙ ap (λ l. l ++ take_while (λ y. not (is_last r y)) more) (sym (take_while_more (λ y. not (is_last r y)) x xs (ap not e))))
+      | false ↦ (λ e. take_while_more (λ y. not (is_last_mark r y)) x (xs ++ more) (ap not e) ∙ ap (λ l. x ∷ l) (all_taken xs (grind (arith, common_steps))) ∙ ap (λ l. l ++ take_while (λ y. not (is_last_mark r y)) more) (sym (take_while_more (λ y. not (is_last_mark r y)) x xs (ap not e))))
     ] refl

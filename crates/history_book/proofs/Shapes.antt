@@ -3,7 +3,7 @@ use Rattle.command_rules.specs.Rosters.{command_at, commands_of, is_on, is_run, 
 use Rattle.history_book.proofs.Lines.{any_left}
 use Rattle.history_book.proofs.Standing.{aborted}
 use Rattle.history_book.specs.Histories.{answered, entry, reading}
-use Rattle.history_book.specs.Readings.{OfRun, OnDevice, PlacedAt, Planned, Reading, did, is_access, is_committing, is_doomed, nothing_read, passed_by, pends, put, unread, untouched, view_by}
+use Rattle.history_book.specs.Readings.{OfRun, OnDevice, PlacedAt, Planned, Reading, did, is_access, is_committing, is_doomed, nothing_read, passed_by, pends, put, unread, untouched_device, view_by}
 use Rattle.history_book.specs.Settings.{Setting}
 use Rattle.history_book.specs.WellFormed.{IsWellFormed, along, may_follow, same_cause, suits}
 use Rattle.history_book.specs.declared.entries.Cause.{Cause}
@@ -92,7 +92,7 @@ pub record IsShaped (w : Setting) (r : ℕ) (o : OfRun) : Type 0 where
   pub unanswered : is_none o.placed ≡ true → o.answers ≡ []
   pub sound : is_none o.placed ≡ true → o.doomed ≡ None
   pub going : is_none o.placed ≡ true → o.ended ≡ None
-  pub clear : is_none o.placed ≡ true → (d : ℕ) → o.on d ≡ untouched
+  pub clear : is_none o.placed ≡ true → (d : ℕ) → o.on d ≡ untouched_device
   -- a run is doomed where it ends aborted or is answered late, and not where it commits
   pub commits : committed_in o ≡ true → o.doomed ≡ None
   pub whole : committed_in o ≡ true → length o.answers ≡ length (commands_of w.runs r)

@@ -1,5 +1,5 @@
 -- What is true of the parts of each book.
-use Rattle.history_book.specs.Books.{answer_count, doom_in, end_in, first_place, placing_in}
+use Rattle.history_book.specs.Books.{answer_count, doom_in, end_in, first_told_place, placing_in}
 use Rattle.history_book.specs.declared.books.Book.TheInside.{Inside}
 use Rattle.history_book.specs.declared.entries.Entry.{Entry}
 use Rattle.history_book.specs.declared.entries.Kept.{Kept}
@@ -9,7 +9,7 @@ use Rattle.std.specs.Prelude.{List, None, Option, Some, if◌then◌else◌, is_
 
 -- the places are, by the numbers of the runs, those of the first entry that tells something of the run
 abbrev pub ArePlaces : {T : Type 0} → (RunId → Entry → Option T) → List Kept → List (Option ℕ) → Type 0
-ArePlaces told history places = (r : RunId) → r < length places → slice_index_or places r None ≡ first_place (told r) history
+ArePlaces told history places = (r : RunId) → r < length places → slice_index_or places r None ≡ first_told_place (told r) history
 
 -- the counts are, by the numbers of the runs, those of their answers
 abbrev pub AreCounts : List Kept → List ℕ → Type 0

@@ -15,8 +15,8 @@ first_told told [] = None
 first_told told (kept ∷ history) = option_or (told kept.entry) (first_told told history)
 
 -- the place of that entry
-abbrev pub first_place : {T : Type 0} → (Entry → Option T) → List Kept → Option ℕ
-first_place told history = position (λ k. is_some (told k.entry)) history
+abbrev pub first_told_place : {T : Type 0} → (Entry → Option T) → List Kept → Option ℕ
+first_told_place told history = position (λ k. is_some (told k.entry)) history
 
 -- the end of the run, where the entry is its end
 abbrev pub end_in : RunId → Entry → Option End
@@ -72,7 +72,7 @@ doom_of history r = first_told (doom_in r) history
 
 -- the number of entries before the run was placed
 abbrev pub placing_of : List Kept → RunId → Option ℕ
-placing_of history r = first_place (placing_in r) history
+placing_of history r = first_told_place (placing_in r) history
 
 -- how many answers the run has
 abbrev pub answer_count : List Kept → RunId → ℕ

@@ -72,12 +72,12 @@ moment_of (Revoked lender d deadline m) moment = max moment m
 moment_of (DownAtEnd d) moment = moment
 
 -- one entry more, that says this of its run
-abbrev pub with_run : Reading → RunId → OfRun → Reading
-with_run n r q = record n { run = put n.run r q; size = n.size + 1 }
+abbrev pub with_run_told : Reading → RunId → OfRun → Reading
+with_run_told n r q = record n { run = put n.run r q; size = n.size + 1 }
 
 abbrev pub with_placed : Reading → RunNo → LinePlace → Moment → List Planned → Split → Reading
 with_placed n r at m planned s =
-    record (with_run n r.0 (record (n.run r.0) { placed = Some (record { place = at; moment = m; stamp = n.size }); planned = planned })) {
+    record (with_run_told n r.0 (record (n.run r.0) { placed = Some (record { place = at; moment = m; stamp = n.size }); planned = planned })) {
       moment = max n.moment m;
       line = with_run_in s r;
     }
@@ -85,7 +85,7 @@ with_placed n r at m planned s =
 -- the run's command c, of the number k, is answered
 abbrev pub with_answer : Setting → Reading → RunId → Command → CommandIndex → Answer → Reading
 with_answer w n r c k a =
-    record (with_run n r (record q {
+    record (with_run_told n r (record q {
       answers = q.answers ++ a ∷ [];
       register = register_after c.job a q.register;
       answered_doomed = q.answered_doomed || is_some q.doomed;
@@ -99,7 +99,7 @@ with_answer w n r c k a =
     q = n.run r
 
 abbrev pub with_undo : Reading → RunNo → DeviceNo → Reading
-with_undo n r d = with_run n r.0 (record (n.run r.0) { on = put (n.run r.0).on d.0 (record ((n.run r.0).on d.0) { undid = true }) })
+with_undo n r d = with_run_told n r.0 (record (n.run r.0) { on = put (n.run r.0).on d.0 (record ((n.run r.0).on d.0) { undid = true }) })
 
 -- the device's event: it is counted up or down from then on
 abbrev pub with_turn : Setting → Reading → DeviceNo → Item → Bool → Reading
@@ -107,14 +107,14 @@ with_turn w n d x up = record n { up = put n.up d.0 up; line = with_event w n d 
 
 -- the reading with one entry more
 abbrev pub entry : Setting → Reading → Entry → Reading
-entry w n (Arrived r m) = record (with_run n r.0 (record (n.run r.0) { arrived = Some m })) { moment = max n.moment m }
+entry w n (Arrived r m) = record (with_run_told n r.0 (record (n.run r.0) { arrived = Some m })) { moment = max n.moment m }
 entry w n (Placed r at m) = with_placed n r at m (planned_times w n r.0 (front_for w n r.0 at m) m) (split_of w n r.0 at m)
 entry w n (Did r c a) = with_answer w n r.0 (command_at w.runs r.0 c) c a
 entry w n (Undid r d drove) = with_undo n r d
 entry w n (Fell d) = record (with_turn w n d (Failed d (n.fell d.0 + 1)) false) { fell = put n.fell d.0 (n.fell d.0 + 1) }
 entry w n (Rose d) = record (with_turn w n d (Back d (n.rose d.0 + 1)) true) { rose = put n.rose d.0 (n.rose d.0 + 1) }
-entry w n (Doomed r cause) = record (with_run n r.0 (record (n.run r.0) { doomed = Some cause })) { moment = moment_of cause n.moment }
-entry w n (Ended r e) = record (with_run n r.0 (record (n.run r.0) { ended = Some e })) { line = line_after r.0 e n.line }
+entry w n (Doomed r cause) = record (with_run_told n r.0 (record (n.run r.0) { doomed = Some cause })) { moment = moment_of cause n.moment }
+entry w n (Ended r e) = record (with_run_told n r.0 (record (n.run r.0) { ended = Some e })) { line = line_after r.0 e n.line }
 
 -- what a history says
 abbrev pub reading : Setting → List Entry → Reading

@@ -52,13 +52,13 @@ pub record OfRun : Type 0 where
   pub on : DeviceId → OnDevice
 
 -- what stands in a device's own log
-pub data Mark : Type 0 where
+pub data LogMark : Type 0 where
   -- this run had its first access on the device
-  First : RunId → Mark
+  First : RunId → LogMark
   -- the device failed or came back
-  Event : Item → Mark
+  Event : Item → LogMark
   -- the last command of this run on the device was answered
-  Last : RunId → Mark
+  Last : RunId → LogMark
 
 pub record Reading : Type 0 where
   pub run : RunId → OfRun
@@ -71,7 +71,7 @@ pub record Reading : Type 0 where
   pub last : DeviceId → ℕ
   -- the serialization line
   pub line : List Item
-  pub log : DeviceId → List Mark
+  pub log : DeviceId → List LogMark
   pub moment : Moment
   -- the number of entries
   pub size : ℕ
@@ -81,12 +81,12 @@ abbrev pub put : {A : Type 0} → (ℕ → A) → ℕ → A → ℕ → A
 put f k v n = if n == k then v else f n
 
 -- nothing has happened on the device
-abbrev pub untouched : OnDevice
-untouched = record { view = None; found = None; wrote = None; undid = false; late = false }
+abbrev pub untouched_device : OnDevice
+untouched_device = record { view = None; found = None; wrote = None; undid = false; late = false }
 
 -- nothing has happened to the run
 abbrev pub unread : OfRun
-unread = record { arrived = None; placed = None; planned = []; answers = []; register = 0; doomed = None; answered_doomed = false; ended = None; on = λ d. untouched }
+unread = record { arrived = None; placed = None; planned = []; answers = []; register = 0; doomed = None; answered_doomed = false; ended = None; on = λ d. untouched_device }
 
 -- the reading of an empty history
 abbrev pub nothing_read : Setting → Reading
@@ -197,22 +197,22 @@ passed_by w n r d = touches w.runs r d && not (pends w n r d) && not (did n r d)
 
 -- The log of a device
 
-abbrev pub is_first : RunId → Mark → Bool
-is_first r (First q) = q == r
-is_first r (Event i) = false
-is_first r (Last q) = false
+abbrev pub is_first_mark : RunId → LogMark → Bool
+is_first_mark r (First q) = q == r
+is_first_mark r (Event i) = false
+is_first_mark r (Last q) = false
 
-abbrev pub is_last : RunId → Mark → Bool
-is_last r (First q) = false
-is_last r (Event i) = false
-is_last r (Last q) = q == r
+abbrev pub is_last_mark : RunId → LogMark → Bool
+is_last_mark r (First q) = false
+is_last_mark r (Event i) = false
+is_last_mark r (Last q) = q == r
 
-abbrev pub is_event : Mark → Bool
+abbrev pub is_event : LogMark → Bool
 is_event (First r) = false
 is_event (Event i) = true
 is_event (Last r) = false
 
-abbrev pub is_fall : Mark → Bool
+abbrev pub is_fall : LogMark → Bool
 is_fall (First r) = false
 is_fall (Event i) = is_failure i
   where
@@ -223,15 +223,15 @@ is_fall (Event i) = is_failure i
 is_fall (Last r) = false
 
 -- the run's span in the log: what stands behind its first access, up to the answer to its last command
-abbrev pub span_of : RunId → List Mark → List Mark
+abbrev pub span_of : RunId → List LogMark → List LogMark
 span_of r [] = []
-span_of r (m ∷ ms) = if is_first r m then take_while (λ x. not (is_last r x)) ms else span_of r ms
+span_of r (m ∷ ms) = if is_first_mark r m then take_while (λ x. not (is_last_mark r x)) ms else span_of r ms
 
 -- the failures and restarts of the log, in history order
-abbrev pub events_of : List Mark → List Item
+abbrev pub events_of : List LogMark → List Item
 events_of marks = filter_map event_of marks
   where
-    event_of : Mark → Option Item
+    event_of : LogMark → Option Item
     event_of (First r) = None
     event_of (Event i) = Some i
     event_of (Last r) = None

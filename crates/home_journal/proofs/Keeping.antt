@@ -4,7 +4,7 @@ use Rattle.home_journal.proofs.StateBytes.{last_pushed, round_trip, states_push}
 use Rattle.home_journal.specs.Journals.{IsStateOf, KeepsFirst, KnowsKept, last_kept}
 use Rattle.home_journal.specs.KeptStates.{kept_states, states_from}
 use Rattle.home_journal.specs.SlotFiles.{IsBeforeOrAfter}
-use Rattle.home_journal.specs.Slots.{body_size, open_slots, state_bytes, state_of}
+use Rattle.home_journal.specs.Slots.{body_size, open_slots, slot_state, state_bytes}
 use Rattle.home_types.specs.Limits.{most_devices, most_windows}
 use Rattle.home_types.specs.declared.kinds.Kind.{Kind}
 use Rattle.home_types.specs.declared.worlds.Stand.{Stand}
@@ -37,7 +37,7 @@ module _ (kinds : List Kind) (size most count : ℕ) (seen : List ℕ) (home : L
       ap (λ n. states_from kinds 0 (open_slots n most c)) (sym is.sized)
       ∙ ap (states_from kinds 0) same
       ∙ states_push kinds (open_slots size most seen) (state_bytes (count + 1) home) homes home told
-      (ap (λ n. state_of kinds n (state_bytes (count + 1) home)) number ∙ round_trip kinds (count + 1) home (omega (arith, is.next, is.windows)) (omega (arith, is.devices)) is.of_kinds is.small)
+      (ap (λ n. slot_state kinds n (state_bytes (count + 1) home)) number ∙ round_trip kinds (count + 1) home (omega (arith, is.next, is.windows)) (omega (arith, is.devices)) is.of_kinds is.small)
 
   pub keeps_first : (c : List ℕ) → IsBeforeOrAfter size most (open_slots size most seen) (state_bytes (count + 1) home) c → KeepsFirst kinds most homes (home ∷ []) c
   keeps_first c (inl same) = (0, same_states kinds size most c seen is.sized same ∙ kept ∙ ap Ok (sym (append-nil homes)))

@@ -1,7 +1,7 @@
 -- Each state that a file keeps is one of the kinds.
 use Rattle.home_journal.specs.Journals.{IsStateOf, KnowsKept, last_kept}
 use Rattle.home_journal.specs.KeptStates.{states_from, with_first}
-use Rattle.home_journal.specs.Slots.{body_size, open_slots, stands_of, state_of}
+use Rattle.home_journal.specs.Slots.{body_size, open_slots, slot_state, stands_of}
 use Rattle.home_types.specs.HomeStates.{stand_at}
 use Rattle.home_types.specs.Kinds.{has_value, kind_at}
 use Rattle.home_types.specs.declared.kinds.Kind.{Kind}
@@ -43,7 +43,7 @@ stands_are (kind ∷ kinds) (a ∷ b ∷ []) home is = absurd (cc)
 stands_are (kind ∷ kinds) (a ∷ b ∷ c ∷ []) home is = absurd (cc)
 stands_are (kind ∷ kinds) (a ∷ b ∷ c ∷ d ∷ []) home is = absurd (cc)
 
-state_is : (kinds : List Kind) (number : ℕ) (body : List ℕ) (home : List Stand) → state_of kinds number body ≡ Some home → IsStateOf kinds home
+state_is : (kinds : List Kind) (number : ℕ) (body : List ℕ) (home : List Stand) → slot_state kinds number body ≡ Some home → IsStateOf kinds home
 state_is kinds number (a ∷ b ∷ c ∷ d ∷ e ∷ f ∷ rest) home is =
     stands_are kinds rest home (both_hold (from_le_bytes w32 (a ∷ b ∷ c ∷ d ∷ []) == number) (from_le_bytes w16 (e ∷ f ∷ []) == length kinds) (stands_of kinds rest) home is).1
 state_is kinds number [] home is = absurd (cc)
@@ -62,10 +62,10 @@ first_and_more k (Some home) (Ok more) homes is = (home, more, refl, refl, cc)
 states_are : (kinds : List Kind) (k : ℕ) (bodies : List (List ℕ)) (homes : List (List Stand)) (i : ℕ) (home : List Stand) → states_from kinds k bodies ≡ Ok homes → slice_get homes i ≡ Some home → IsStateOf kinds home
 states_are kinds k [] homes i home is at = absurd (let none : [] ≡ homes = cc in let nothing : slice_get [] i ≡ Some home = ap (λ hs. slice_get hs i) none ∙ at in cc)
 states_are kinds k (body ∷ bodies) homes i home is at =
-    let parts = first_and_more k (state_of kinds (k + 1) body) (states_from kinds (k + 1) bodies) homes is in
+    let parts = first_and_more k (slot_state kinds (k + 1) body) (states_from kinds (k + 1) bodies) homes is in
     by parts.0 parts.1 parts.2 (λ j there. states_are kinds (k + 1) bodies parts.1 j home parts.3 there) i (ap (λ hs. slice_get hs i) parts.4 ∙ at)
   where
-    by : (first : List Stand) (more : List (List Stand)) → state_of kinds (k + 1) body ≡ Some first → ((j : ℕ) → slice_get more j ≡ Some home → IsStateOf kinds home) → (i : ℕ) → slice_get (first ∷ more) i ≡ Some home → IsStateOf kinds home
+    by : (first : List Stand) (more : List (List Stand)) → slot_state kinds (k + 1) body ≡ Some first → ((j : ℕ) → slice_get more j ≡ Some home → IsStateOf kinds home) → (i : ℕ) → slice_get (first ∷ more) i ≡ Some home → IsStateOf kinds home
     by first more good later zero at = let same : first ≡ home = cc in subst (IsStateOf kinds) same (state_is kinds (k + 1) body first good)
     by first more good later (suc j) at = later j at
 

@@ -1,10 +1,10 @@
 -- What a scan of the slots knows.
 use Rattle.home_journal.proofs.OpenSlots.{kept_shut, kept_slots, one_size, slots-length, slots_push}
 use Rattle.home_journal.proofs.StateBytes.{last_pushed, states_bad, states_length, states_push}
-use Rattle.home_journal.specs.Journals.{KnowsKept, last_kept, last_of}
+use Rattle.home_journal.specs.Journals.{KnowsKept, last_kept, last_kept_home}
 use Rattle.home_journal.specs.KeptStates.{kept_states, states_from}
 use Rattle.home_journal.specs.SlotFiles.{AreSlots, IsFound, slots_of}
-use Rattle.home_journal.specs.Slots.{body_size, is_to_shut, open_slots, state_of}
+use Rattle.home_journal.specs.Slots.{body_size, is_to_shut, open_slots, slot_state}
 use Rattle.home_journal.specs.declared.scans.Found.{Found}
 use Rattle.home_types.specs.declared.kinds.Kind.{Kind}
 use Rattle.home_types.specs.declared.worlds.Stand.{Stand}
@@ -25,7 +25,7 @@ pub record IsScannedTo (kinds : List Kind) (size place : ℕ) (bytes rest : List
   pub counts : length bodies ≡ place
   pub some : 0 < place → 0 < length rest
   pub told : states_from kinds 0 bodies ≡ Ok homes
-  pub last_is : last_kept place last ≡ last_of homes
+  pub last_is : last_kept place last ≡ last_kept_home homes
 
 pub scan_first : (kinds : List Kind) (size : ℕ) (bytes : List ℕ) (last : List Stand) → IsScannedTo kinds size 0 bytes bytes last
 scan_first kinds size bytes last = record {
@@ -53,11 +53,11 @@ module _ (kinds : List Kind) (size most place : ℕ) (bytes rest behind : List �
   parts : rest ≡ 1 ∷ behind
   parts = parted rest behind 1 some (sym is_open) parts_are
 
-  pub scan_next : (home : List Stand) → size < length behind → state_of kinds (place + 1) (take size behind) ≡ Some home → IsScannedTo kinds size (place + 1) bytes (take (length behind - size) (drop size behind)) home
+  pub scan_next : (home : List Stand) → size < length behind → slot_state kinds (place + 1) (take size behind) ≡ Some home → IsScannedTo kinds size (place + 1) bytes (take (length behind - size) (drop size behind)) home
   scan_next home long good =
       subst (λ left. IsScannedTo kinds size (place + 1) bytes left home) (sym (take_rest behind size)) (next home long good)
     where
-      next : (home : List Stand) → size < length behind → state_of kinds (place + 1) (take size behind) ≡ Some home → IsScannedTo kinds size (place + 1) bytes (drop size behind) home
+      next : (home : List Stand) → size < length behind → slot_state kinds (place + 1) (take size behind) ≡ Some home → IsScannedTo kinds size (place + 1) bytes (drop size behind) home
       next home long good =
           let bodies = so_far.bodies in
           let body = take size behind in
@@ -73,11 +73,11 @@ module _ (kinds : List Kind) (size most place : ℕ) (bytes rest behind : List �
             sizes = All-append (λ body. length body ≡ size) bodies (body ∷ []) so_far.sizes (one_size size body fits);
             counts = omega (arith, so_far.counts, length-append bodies (body ∷ []));
             some = λ more. omega (arith, long, length-drop size behind);
-            told = states_push kinds bodies body so_far.homes home so_far.told (ap (λ n. state_of kinds n body) (sym number) ∙ good);
+            told = states_push kinds bodies body so_far.homes home so_far.told (ap (λ n. slot_state kinds n body) (sym number) ∙ good);
             last_is = if_kept place home ∙ sym (last_pushed so_far.homes home);
           }
 
-  pub scan_bad : size ≡ body_size (length kinds) → place < most → size < length behind → state_of kinds (place + 1) (take size behind) ≡ None → kept_states kinds most bytes ≡ Err place
+  pub scan_bad : size ≡ body_size (length kinds) → place < most → size < length behind → slot_state kinds (place + 1) (take size behind) ≡ None → kept_states kinds most bytes ≡ Err place
   scan_bad sized more long bad =
       let bodies = so_far.bodies in
       let m = most - (place + 1) in
@@ -89,7 +89,7 @@ module _ (kinds : List Kind) (size most place : ℕ) (bytes rest behind : List �
       ∙ ap (λ l. bodies ++ l) opens in
       ap (λ n. states_from kinds 0 (open_slots n most bytes)) (sym sized)
       ∙ ap (states_from kinds 0) whole
-      ∙ states_bad kinds bodies (open_slots size m (drop size behind)) (take size behind) so_far.homes so_far.told (ap (λ n. state_of kinds n (take size behind)) (sym number) ∙ bad)
+      ∙ states_bad kinds bodies (open_slots size m (drop size behind)) (take size behind) so_far.homes so_far.told (ap (λ n. slot_state kinds n (take size behind)) (sym number) ∙ bad)
       ∙ ap Err so_far.counts
 
 -- where no slot more is open

@@ -1,7 +1,7 @@
 -- The states that slots tell: the bytes of a state are read as it, and so are one more and the first that is not good.
-use Rattle.home_journal.specs.Journals.{IsStateOf, last_of}
+use Rattle.home_journal.specs.Journals.{IsStateOf, last_kept_home}
 use Rattle.home_journal.specs.KeptStates.{states_from, with_first}
-use Rattle.home_journal.specs.Slots.{body_size, stand_bytes, stands_of, state_bytes, state_of}
+use Rattle.home_journal.specs.Slots.{body_size, slot_state, stand_bytes, stands_of, state_bytes}
 use Rattle.home_types.specs.HomeStates.{stand_at}
 use Rattle.home_types.specs.Kinds.{has_value, kind_at}
 use Rattle.home_types.specs.declared.kinds.Kind.TheVariants.{States}
@@ -80,7 +80,7 @@ state_size number home = omega (arith, stands_size home)
 
 -- what is read of a state's bytes is the state
 pub round_trip : (kinds : List Kind) (number : ℕ) (home : List Stand) → number < 2 ^ 32 → length kinds < 2 ^ 16 → IsStateOf kinds home → All (λ s. s.value < 2 ^ 32) home
-    → state_of kinds number (state_bytes number home) ≡ Some home
+    → slot_state kinds number (state_bytes number home) ≡ Some home
 round_trip kinds number home small few is values =
     if_both (from_le_bytes w32 (to_le_bytes w32 number) == number) (from_le_bytes w16 (to_le_bytes w16 (length home)) == length kinds) (stands_of kinds (flat_map stand_bytes home)) _
     (equal _ number (from_le_bytes-to_le_bytes_4 number small))
@@ -208,12 +208,12 @@ states_append kinds k [] more homes e = ap (λ n. states_from kinds n more) (ome
     none (Err bad) = refl
 states_append kinds k (body ∷ bodies) more homes e =
     let on : k + 1 + length bodies ≡ k + suc (length bodies) = omega arith in
-    first_known k (state_of kinds (k + 1) body) (states_from kinds (k + 1) bodies) (states_from kinds (k + 1) (bodies ++ more)) (states_from kinds (k + suc (length bodies)) more) homes e
+    first_known k (slot_state kinds (k + 1) body) (states_from kinds (k + 1) bodies) (states_from kinds (k + 1) (bodies ++ more)) (states_from kinds (k + suc (length bodies)) more) homes e
     (λ hs is. states_append kinds (k + 1) bodies more hs is ∙ ap (λ n. prepended hs (states_from kinds n more)) on)
 
 pub states_length : (kinds : List Kind) (k : ℕ) (bodies : List (List ℕ)) (homes : List (List Stand)) → states_from kinds k bodies ≡ Ok homes → length homes ≡ length bodies
 states_length kinds k [] homes e = ap length (sym (ap known e))
-states_length kinds k (body ∷ bodies) homes e = by (state_of kinds (k + 1) body) (states_from kinds (k + 1) bodies) (states_length kinds (k + 1) bodies) e
+states_length kinds k (body ∷ bodies) homes e = by (slot_state kinds (k + 1) body) (states_from kinds (k + 1) bodies) (states_length kinds (k + 1) bodies) e
   where
     by : (o : Option (List Stand)) (r : Result (List (List Stand)) ℕ) → ((hs : List (List Stand)) → r ≡ Ok hs → length hs ≡ length bodies) → with_first k o r ≡ Ok homes → length homes ≡ suc (length bodies)
     by None r f e = absurd (true≢false (sym (ap is_ok e)))
@@ -221,26 +221,26 @@ states_length kinds k (body ∷ bodies) homes e = by (state_of kinds (k + 1) bod
     by (Some home) (Ok hs) f e = ap length (sym (ap known e)) ∙ ap suc (f hs refl)
 
 -- one more slot that is good
-pub states_push : (kinds : List Kind) (bodies : List (List ℕ)) (body : List ℕ) (homes : List (List Stand)) (home : List Stand) → states_from kinds 0 bodies ≡ Ok homes → state_of kinds (length bodies + 1) body ≡ Some home
+pub states_push : (kinds : List Kind) (bodies : List (List ℕ)) (body : List ℕ) (homes : List (List Stand)) (home : List Stand) → states_from kinds 0 bodies ≡ Ok homes → slot_state kinds (length bodies + 1) body ≡ Some home
     → states_from kinds 0 (bodies ++ body ∷ []) ≡ Ok (homes ++ home ∷ [])
 states_push kinds bodies body homes home e good =
     let on : 0 + length bodies ≡ length bodies = omega arith in
     states_append kinds 0 bodies (body ∷ []) homes e
-    ∙ ap (λ n. prepended homes (with_first n (state_of kinds (n + 1) body) (Ok []))) on
+    ∙ ap (λ n. prepended homes (with_first n (slot_state kinds (n + 1) body) (Ok []))) on
     ∙ ap (λ o. prepended homes (with_first (length bodies) o (Ok []))) good
 
 -- the first slot that is not good
-pub states_bad : (kinds : List Kind) (bodies more : List (List ℕ)) (body : List ℕ) (homes : List (List Stand)) → states_from kinds 0 bodies ≡ Ok homes → state_of kinds (length bodies + 1) body ≡ None
+pub states_bad : (kinds : List Kind) (bodies more : List (List ℕ)) (body : List ℕ) (homes : List (List Stand)) → states_from kinds 0 bodies ≡ Ok homes → slot_state kinds (length bodies + 1) body ≡ None
     → states_from kinds 0 (bodies ++ body ∷ more) ≡ Err (length bodies)
 states_bad kinds bodies more body homes e bad =
     let on : 0 + length bodies ≡ length bodies = omega arith in
     states_append kinds 0 bodies (body ∷ more) homes e
-    ∙ ap (λ n. prepended homes (with_first n (state_of kinds (n + 1) body) (states_from kinds (n + 1) more))) on
+    ∙ ap (λ n. prepended homes (with_first n (slot_state kinds (n + 1) body) (states_from kinds (n + 1) more))) on
     ∙ ap (λ o. prepended homes (with_first (length bodies) o (states_from kinds (length bodies + 1) more))) bad
 
 at_end : (homes : List (List Stand)) (home : List Stand) → slice_get (homes ++ home ∷ []) (length homes) ≡ Some home
 at_end [] home = refl
 at_end (h ∷ homes) home = at_end homes home
 
-pub last_pushed : (homes : List (List Stand)) (home : List Stand) → last_of (homes ++ home ∷ []) ≡ Some home
+pub last_pushed : (homes : List (List Stand)) (home : List Stand) → last_kept_home (homes ++ home ∷ []) ≡ Some home
 last_pushed homes home = ap (slice_get (homes ++ home ∷ [])) (omega (arith, length-append homes (home ∷ []))) ∙ at_end homes home

@@ -19,8 +19,8 @@ pub record JournalState (Q : Type 0) : Type 0 where
   pub last : Option (List Stand)
 
 -- the last one, where there is one
-abbrev pub last_of : List (List Stand) → Option (List Stand)
-last_of homes = slice_get homes (length homes - 1)
+abbrev pub last_kept_home : List (List Stand) → Option (List Stand)
+last_kept_home homes = slice_get homes (length homes - 1)
 
 -- the state that is known as the last, where some are kept
 abbrev pub last_kept : ℕ → List Stand → Option (List Stand)
@@ -31,7 +31,7 @@ pub record KnowsKept (kinds : List Kind) (most : ℕ) (bytes : List ℕ) (count 
   pub homes : List (List Stand)
   pub kept : kept_states kinds most bytes ≡ Ok homes
   pub counts : count ≡ length homes
-  pub last : final ≡ last_of homes
+  pub last : final ≡ last_kept_home homes
 
 -- a device of each kind stands there, at a value of its kind
 pub record IsStateOf (kinds : List Kind) (home : List Stand) : Type 0 where
@@ -39,8 +39,8 @@ pub record IsStateOf (kinds : List Kind) (home : List Stand) : Type 0 where
   pub values : (d : ℕ) → d < length kinds → has_value (kind_at kinds d) (stand_at home d).value ≡ true
 
 -- the states that the journal's file keeps
-abbrev pub kept_by : {Q : Type 0} → (Q → List ℕ) → JournalState Q → Result (List (List Stand)) ℕ
-kept_by seen j = kept_states j.kinds j.most (seen j.disk)
+abbrev pub states_kept : {Q : Type 0} → (Q → List ℕ) → JournalState Q → Result (List (List Stand)) ℕ
+states_kept seen j = kept_states j.kinds j.most (seen j.disk)
 
 -- the disk that a call hands back, in a journal or beside an error
 abbrev pub disk_of : {Q E : Type 0} → Result (JournalState Q) (Q × E) → Q
@@ -59,7 +59,7 @@ KeepsFirst kinds most homes added c = (i : ℕ) × (kept_states kinds most c ≡
 abbrev pub LeavesFirst : {Q : Type 0} → (Q → List ℕ) → (Q → ℕ) → (Q → ℕ → List ℕ → Type 0) → JournalState Q → Q → List (List Stand) → Type 0
 LeavesFirst seen moment since old new added =
     (homes : List (List Stand))
-    → kept_by seen old ≡ Ok homes
+    → states_kept seen old ≡ Ok homes
     → LeavesOnly moment since old.disk new (KeepsFirst old.kinds old.most homes added)
 
 -- a crash at any moment since the disk was so leaves one of its images, or what keeps what it kept

@@ -1,5 +1,5 @@
 -- The states of a home that a journal's file keeps.
-use Rattle.home_journal.specs.Slots.{body_size, open_slots, state_of}
+use Rattle.home_journal.specs.Slots.{body_size, open_slots, slot_state}
 use Rattle.home_types.specs.declared.kinds.Kind.{Kind}
 use Rattle.home_types.specs.declared.worlds.Stand.{Stand}
 use Rattle.std.specs.Prelude.{Err, List, None, Ok, Option, Result, Some, [], length, ℕ, ◌+◌, ◌∷◌}
@@ -13,7 +13,7 @@ with_first k (Some home) (Err bad) = Err bad
 -- the states that these slots tell, the first of them with this place; or the place of the first that is not good
 abbrev pub states_from : List Kind → ℕ → List (List ℕ) → Result (List (List Stand)) ℕ
 states_from kinds k [] = Ok []
-states_from kinds k (body ∷ bodies) = with_first k (state_of kinds (k + 1) body) (states_from kinds (k + 1) bodies)
+states_from kinds k (body ∷ bodies) = with_first k (slot_state kinds (k + 1) body) (states_from kinds (k + 1) bodies)
 
 -- the states that a file keeps for a script with at most so many windows; where it is damaged, the place of the first
 -- slot that is not good

@@ -29,20 +29,20 @@ past_of None = []
 past_of (Some before) = (record { stable = before.value.stable; ranges = before.value.ranges }) ∷ before.value.past
 
 -- what a crash may leave of these bytes where these ranges were written since, the newest first
-abbrev pub MayLeave : List ℕ → List Range → List ℕ → Type 0
-MayLeave stable [] c = c ≡ stable
-MayLeave stable (r ∷ ranges) c = (d : List ℕ) × MayLeave stable ranges d × Torn r.at r.len d c
+abbrev pub CrashMayLeave : List ℕ → List Range → List ℕ → Type 0
+CrashMayLeave stable [] c = c ≡ stable
+CrashMayLeave stable (r ∷ ranges) c = (d : List ℕ) × CrashMayLeave stable ranges d × Torn r.at r.len d c
 
 -- what a crash at the moment t or later might have left, of these moments, the newest first
 abbrev pub HadLeft : ℕ → List Unsynced → List ℕ → Type 0
 HadLeft t [] c = ⊥
-HadLeft t (m ∷ past) c = ((t ≤ length past) × MayLeave m.stable m.ranges c) ⊎ HadLeft t past c
+HadLeft t (m ∷ past) c = ((t ≤ length past) × CrashMayLeave m.stable m.ranges c) ⊎ HadLeft t past c
 
 abbrev pub images_of : MemoryState → List ℕ → Type 0
-images_of m c = MayLeave m.stable m.ranges c
+images_of m c = CrashMayLeave m.stable m.ranges c
 
 abbrev pub images_since_of : MemoryState → ℕ → List ℕ → Type 0
-images_since_of m t c = MayLeave m.stable m.ranges c ⊎ HadLeft t m.past c
+images_since_of m t c = CrashMayLeave m.stable m.ranges c ⊎ HadLeft t m.past c
 
 none_since : (t : ℕ) (past : List Unsynced) (c : List ℕ) → length past ≤ t → HadLeft t past c → ⊥
 none_since t [] c le had = had
@@ -60,35 +60,35 @@ fresh_disk bytes room fails_from =
     record { stable = bytes; current = bytes; ranges = []; past = []; room = room; calls = 0; fails_from = fails_from; faults = 0 }
 
 -- the number of the next call: one more, up to 2^64 - 1
-abbrev pub next_call : MemoryState → ℕ
-next_call m = min (m.calls + 1) (2 ^ 64 - 1)
+abbrev pub next_disk_call : MemoryState → ℕ
+next_disk_call m = min (m.calls + 1) (2 ^ 64 - 1)
 
 abbrev pub is_from : Option ℕ → ℕ → Bool
 is_from None call = false
 is_from (Some first) call = nat_le first call
 
 -- the next call is one of those that are to fail
-abbrev pub fails_next : MemoryState → Bool
-fails_next m = is_from m.fails_from (next_call m)
+abbrev pub next_call_fails : MemoryState → Bool
+next_call_fails m = is_from m.fails_from (next_disk_call m)
 
 -- one more call was made
-abbrev pub called : MemoryState → MemoryState
-called m = record m { calls = next_call m }
+abbrev pub disk_called : MemoryState → MemoryState
+disk_called m = record m { calls = next_disk_call m }
 
 -- one more fault came
-abbrev pub faulted : MemoryState → MemoryState
-faulted m = record m { faults = m.faults + 1 }
+abbrev pub disk_faulted : MemoryState → MemoryState
+disk_faulted m = record m { faults = m.faults + 1 }
 
 -- after a call that changes no bytes
-abbrev pub after_call : MemoryState → MemoryState
-after_call m = if fails_next m then faulted (called m) else called m
+abbrev pub after_plain_call : MemoryState → MemoryState
+after_plain_call m = if next_call_fails m then disk_faulted (disk_called m) else disk_called m
 
 abbrev pub as_it_was : MemoryState → Unsynced
 as_it_was m = record { stable = m.stable; ranges = m.ranges }
 
 -- these bytes were written there
-abbrev pub written : ℕ → List ℕ → MemoryState → MemoryState
-written at bytes m =
+abbrev pub bytes_written : ℕ → List ℕ → MemoryState → MemoryState
+bytes_written at bytes m =
     record m {
       current = take at m.current ++ bytes ++ drop (at + length bytes) m.current;
       ranges = (record { at = at; len = length bytes }) ∷ m.ranges;
@@ -100,22 +100,22 @@ abbrev pub synced : MemoryState → MemoryState
 synced m = record m { stable = m.current; ranges = []; past = as_it_was m ∷ m.past }
 
 -- what the next call answers that gives this where it does not fail
-abbrev pub answer_of : {T : Type 0} → MemoryState → T → Result T Failed
-answer_of m given = if fails_next m then Err (record {}) else Ok given
+abbrev pub call_answer : {T : Type 0} → MemoryState → T → Result T Failed
+call_answer m given = if next_call_fails m then Err (record {}) else Ok given
 
 -- there is room for so many bytes from there on
 abbrev pub has_room : MemoryState → ℕ → ℕ → Bool
 has_room m at n = nat_le (at + n) m.room
 
 -- what the next call answers, a write of so many bytes
-abbrev pub write_answer : MemoryState → ℕ → ℕ → Result ⊤ Failed
-write_answer m at n = if has_room m at n then answer_of m tt else Err (record {})
+abbrev pub disk_write_answer : MemoryState → ℕ → ℕ → Result ⊤ Failed
+disk_write_answer m at n = if has_room m at n then call_answer m tt else Err (record {})
 
 -- the disk after the next call, a write: one that is to fail writes all the same, and one with no room writes nothing
-abbrev pub after_write : MemoryState → ℕ → List ℕ → MemoryState
-after_write m at bytes =
-    if has_room m at (length bytes) then after_call (written at bytes m) else faulted (called m)
+abbrev pub disk_after_write : MemoryState → ℕ → List ℕ → MemoryState
+disk_after_write m at bytes =
+    if has_room m at (length bytes) then after_plain_call (bytes_written at bytes m) else disk_faulted (disk_called m)
 
 -- the disk after the next call, a sync
 abbrev pub after_sync : MemoryState → MemoryState
-after_sync m = if fails_next m then faulted (called m) else synced (called m)
+after_sync m = if next_call_fails m then disk_faulted (disk_called m) else synced (disk_called m)

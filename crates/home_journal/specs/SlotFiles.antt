@@ -54,7 +54,7 @@ IsBeforeOrAfter size most bodies body c =
     (open_slots size most c ≡ bodies) ⊎ (open_slots size most c ≡ bodies ++ body ∷ [])
 
 -- bytes were read, and nothing else is changed
-pub record Reads {D : Type 0} (seen : D → List ℕ) (images : D → List ℕ → Type 0) (moment : D → ℕ)
+pub record ReadsBytes {D : Type 0} (seen : D → List ℕ) (images : D → List ℕ → Type 0) (moment : D → ℕ)
     (since : D → ℕ → List ℕ → Type 0) (old new : D) : Type 0 where
   pub same : seen new ≡ seen old
   pub fewer : NoneAdded (images old) (images new)

@@ -38,12 +38,12 @@ stands_of (kind ∷ kinds) (a ∷ b ∷ c ∷ d ∷ up ∷ rest) =
 stands_of (kind ∷ kinds) bytes = None
 
 -- the state that is told behind the gate of the slot of this window; none where that slot is not good
-abbrev pub state_of : List Kind → ℕ → List ℕ → Option (List Stand)
-state_of kinds number (a ∷ b ∷ c ∷ d ∷ e ∷ f ∷ rest) =
+abbrev pub slot_state : List Kind → ℕ → List ℕ → Option (List Stand)
+slot_state kinds number (a ∷ b ∷ c ∷ d ∷ e ∷ f ∷ rest) =
     if (from_le_bytes w32 (a ∷ b ∷ c ∷ d ∷ []) == number) && (from_le_bytes w16 (e ∷ f ∷ []) == length kinds)
     then stands_of kinds rest
     else None
-state_of kinds number bytes = None
+slot_state kinds number bytes = None
 
 -- a gate that is missing or open is to be shut
 abbrev pub is_to_shut : Option ℕ → Bool

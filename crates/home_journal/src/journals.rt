@@ -1,7 +1,7 @@
 //! A journal: the states of a home after its windows, on a disk.
 ghost use Rattle.std.specs.Prelude.{◌≡◌, ◌+◌, ◌*◌, ◌<◌, ◌≤◌, [], ◌∷◌, All, IfErr, IfOk, IfSome, IsSome, Some, length, map, option_map, true, vec_capacity, vec_len, ◌↔◌};
 ghost use Rattle.home_journal.specs.Disks.{LeavesThis};
-ghost use Rattle.home_journal.specs.Journals.{AddsStates, IsDamage, IsStateOf, JournalState, KnowsKept, LeavesFirst, LeavesOldOrSame, disk_of, kept_by};
+ghost use Rattle.home_journal.specs.Journals.{AddsStates, IsDamage, IsStateOf, JournalState, KnowsKept, LeavesFirst, LeavesOldOrSame, disk_of, states_kept};
 ghost use Rattle.home_journal.specs.KeptStates.{kept_states};
 ghost use Rattle.home_journal.specs.Slots.{body_size, state_bytes, with_shut_gate, with_slot};
 ghost use Rattle.home_types.specs.Limits.{most_devices, most_windows};
@@ -69,7 +69,7 @@ impl<Q: Disk> Journal<Q> {
         requires windows { most ≤ most_windows }
         ensures home { IfOk result (λ j. (j.kinds ≡ kinds.now.items) × (j.most ≡ most) × (j.kept ≤ most)) }
         ensures knows { Q.told ≡ true → IfOk result (λ j. KnowsKept kinds.now.items most (Q.seen disk) j.kept j.last) }
-        ensures same { Q.told ≡ true → IfOk result (λ j. kept_by Q.seen j ≡ kept_states kinds.now.items most (Q.seen disk)) }
+        ensures same { Q.told ≡ true → IfOk result (λ j. states_kept Q.seen j ≡ kept_states kinds.now.items most (Q.seen disk)) }
         ensures shut { Q.told ≡ true → IfOk result (λ j. Q.seen j.disk ≡ with_shut_gate (body_size (length kinds.now.items)) most (Q.seen disk)) }
         ensures damaged { Q.told ≡ true → IfErr result (λ e. IsDamage e.1 (kept_states kinds.now.items most (Q.seen disk)) (Q.seen disk) (Q.seen e.0)) }
         ensures failed { IfErr result (λ e. e.1 ≡ OpenFault.Failed → Q.faults disk < Q.faults e.0) }
@@ -161,7 +161,7 @@ impl<Q: Disk> Journal<Q> {
         requires home { IsStateOf self.kinds world.now.devices.items }
         ensures home { IfOk result (λ j. (j.kinds ≡ self.kinds) × (j.most ≡ self.most)) }
         ensures last { IfOk result (λ j. (j.kept ≡ self.kept + 1) × (j.last ≡ Some world.now.devices.items)) }
-        ensures kept { Q.told ≡ true → IfOk result (λ j. AddsStates (kept_by Q.seen self) (kept_by Q.seen j) (world.now.devices.items ∷ [])) }
+        ensures kept { Q.told ≡ true → IfOk result (λ j. AddsStates (states_kept Q.seen self) (states_kept Q.seen j) (world.now.devices.items ∷ [])) }
         ensures written { Q.told ≡ true → IfOk result (λ j. Q.seen j.disk ≡ with_slot
             (self.kept * (body_size (length self.kinds) + 1))
             (state_bytes (self.kept + 1) world.now.devices.items) (Q.seen self.disk)) }
@@ -203,7 +203,7 @@ impl<Q: Disk> Journal<Q> {
         requires room { self.kept + length worlds.now.items ≤ self.most }
         requires homes { All (λ w. IsStateOf self.kinds w.devices.items) worlds.now.items }
         ensures home { IfOk result (λ j. (j.kinds ≡ self.kinds) × (j.most ≡ self.most) × (j.kept ≡ self.kept + length worlds.now.items)) }
-        ensures kept { Q.told ≡ true → IfOk result (λ j. AddsStates (kept_by Q.seen self) (kept_by Q.seen j) (map (λ w. w.devices.items) worlds.now.items)) }
+        ensures kept { Q.told ≡ true → IfOk result (λ j. AddsStates (states_kept Q.seen self) (states_kept Q.seen j) (map (λ w. w.devices.items) worlds.now.items)) }
         // A crash at any moment of the call leaves what was kept, and the first of the new states.
         ensures any_moment { Q.told ≡ true → LeavesFirst Q.seen Q.moment Q.images_since self (disk_of result) (map (λ w. w.devices.items) worlds.now.items) }
         ensures later { IfOk result (λ j. Q.faults self.disk ≤ Q.faults j.disk) }

@@ -1,6 +1,6 @@
 //! A disk in memory, which fails from a call on that it is told, and which may crash.
 ghost use Rattle.std.specs.Prelude.{◌≡◌, ◌+◌, ◌-◌, ◌≤◌, ◌++◌, None, drop, if◌then◌else◌, length, max, min, take as prefix, vec_capacity, IfOk};
-ghost use Rattle.home_journal.specs.MemoryDisks.{after_call, after_sync, after_write, answer_of, called, faulted, fails_next, fresh_disk, images_of, synced, write_answer, written};
+ghost use Rattle.home_journal.specs.MemoryDisks.{after_plain_call, after_sync, disk_after_write, call_answer, disk_called, disk_faulted, next_call_fails, fresh_disk, images_of, synced, disk_write_answer, bytes_written};
 
 use crate::disks::Disk;
 use crate::written_ranges::WrittenRanges;
@@ -27,13 +27,13 @@ pub struct MemoryDisk {
 
 impl Model for MemoryDisk {
     ghost use Rattle.std.specs.Prelude.{◌≤◌, length, vec_capacity};
-    ghost use Rattle.home_journal.specs.MemoryDisks.{MayLeave, MemoryState, past_of};
+    ghost use Rattle.home_journal.specs.MemoryDisks.{CrashMayLeave, MemoryState, past_of};
 
     ghost Value = { MemoryState };
 
     ghost view = { λ m. record { stable = m.stable.items; current = m.current.items; ranges = m.ranges; past = past_of m.before; room = m.room; calls = m.calls; fails_from = m.fails_from; faults = m.faults } };
 
-    ghost invariant = { λ m. MayLeave m.stable.items m.ranges m.current.items × (length m.current.items ≤ m.room) × (length m.stable.items ≤ m.room) × (m.room ≤ vec_capacity m.current) × (m.room ≤ vec_capacity m.stable) };
+    ghost invariant = { λ m. CrashMayLeave m.stable.items m.ranges m.current.items × (length m.current.items ≤ m.room) × (length m.stable.items ≤ m.room) × (m.room ≤ vec_capacity m.current) × (m.room ≤ vec_capacity m.stable) };
 
     ghost size = { λ m. length m.past };
 
@@ -105,7 +105,7 @@ impl MemoryDisk {
     fn put(&mut self, at: usize, from: &[u8])
         requires at { at ≤ length self.old.current }
         requires room { at + length from.now ≤ self.old.room }
-        ensures { self.new ≡ written at from.now self.old }
+        ensures { self.new ≡ bytes_written at from.now self.old }
     {
         let before = Snapshot::of(&*self);
         self.before = Some(before);
@@ -125,8 +125,8 @@ impl MemoryDisk {
 
     // Counts a call, and tells whether it fails.
     fn call_fails(&mut self) -> bool
-        ensures fails { result ≡ fails_next self.old }
-        ensures counted { self.new ≡ called self.old }
+        ensures fails { result ≡ next_call_fails self.old }
+        ensures counted { self.new ≡ disk_called self.old }
     {
         self.calls = self.calls.saturating_add(1);
         match self.fails_from {
@@ -226,8 +226,8 @@ impl Disk for MemoryDisk {
     ghost only_now = { λ m c left. only_images m c left };
 
     fn len(&mut self) -> Result<u64, Failed>
-        ensures answer { result ≡ answer_of self.old (length self.old.current) }
-        ensures after { self.new ≡ after_call self.old }
+        ensures answer { result ≡ call_answer self.old (length self.old.current) }
+        ensures after { self.new ≡ after_plain_call self.old }
     {
         if self.call_fails() {
             self.faults.raise();
@@ -237,9 +237,9 @@ impl Disk for MemoryDisk {
     }
 
     fn read(&mut self, at: u64, into: &mut [u8]) -> Result<usize, Failed>
-        ensures answer { result ≡ answer_of self.old (min (length into.old) (length self.old.current - at)) }
+        ensures answer { result ≡ call_answer self.old (min (length into.old) (length self.old.current - at)) }
         ensures given { IfOk result (λ n. prefix n into.new ≡ prefix n (drop at self.old.current)) }
-        ensures after { self.new ≡ after_call self.old }
+        ensures after { self.new ≡ after_plain_call self.old }
     {
         if self.call_fails() {
             self.faults.raise();
@@ -250,8 +250,8 @@ impl Disk for MemoryDisk {
 
     fn write_at(&mut self, at: u64, from: &[u8]) -> Result<(), Failed>
         requires { at ≤ length self.old.current }
-        ensures answer { result ≡ write_answer self.old at (length from.now) }
-        ensures after { self.new ≡ after_write self.old at from.now }
+        ensures answer { result ≡ disk_write_answer self.old at (length from.now) }
+        ensures after { self.new ≡ disk_after_write self.old at from.now }
     {
         let fails = self.call_fails();
         let at = at as usize;
@@ -268,7 +268,7 @@ impl Disk for MemoryDisk {
     }
 
     fn sync(&mut self) -> Result<(), Failed>
-        ensures answer { result ≡ answer_of self.old tt }
+        ensures answer { result ≡ call_answer self.old tt }
         ensures after { self.new ≡ after_sync self.old }
         ensures stands { images_of self.old self.old.current }
     {

@@ -3,7 +3,7 @@ ghost use Rattle.std.specs.Prelude.{◌≡◌, ◌+◌, ◌*◌, ◌<◌, ◌^�
 ghost use Rattle.home_journal.specs.Disks.{Holds, LeavesOnly, LeavesThis, Torn};
 ghost use Rattle.home_journal.specs.Journals.{IsStateOf, KnowsKept, last_kept};
 ghost use Rattle.home_journal.specs.KeptStates.{kept_states};
-ghost use Rattle.home_journal.specs.SlotFiles.{IsBeforeOrAfter, IsFound, IsOldOrSame, IsSettled, Reads, slots_in};
+ghost use Rattle.home_journal.specs.SlotFiles.{IsBeforeOrAfter, IsFound, IsOldOrSame, IsSettled, ReadsBytes, slots_in};
 ghost use Rattle.home_journal.specs.Slots.{body_size, state_bytes, with_shut_gate, with_slot};
 ghost use Rattle.home_types.specs.Limits.{most_devices, most_windows};
 
@@ -55,7 +55,7 @@ pub(crate) fn prepare<Q: Disk>(
 fn load<Q: Disk>(disk: &mut Q, block: &mut [u8]) -> Result<usize, Failed>
     ensures fits { IfOk result (λ n. n ≤ length block.new) }
     ensures bytes { Q.told ≡ true → IfOk result (λ n. take n block.new ≡ take (length block.old) (Q.seen disk.old)) }
-    ensures reads { Q.told ≡ true → Reads Q.seen Q.images Q.moment Q.images_since disk.old disk.new }
+    ensures reads { Q.told ≡ true → ReadsBytes Q.seen Q.images Q.moment Q.images_since disk.old disk.new }
     ensures durable { Q.told ≡ true → OnOk result (LeavesThis (Q.seen disk.new) (Q.images disk.new)) }
     ensures later { Q.faults disk.old ≤ Q.faults disk.new }
     ensures failed { OnErr result (Q.faults disk.old < Q.faults disk.new) }
@@ -70,7 +70,7 @@ fn load<Q: Disk>(disk: &mut Q, block: &mut [u8]) -> Result<usize, Failed>
 
 // Syncs.
 fn sync_first<Q: Disk>(disk: &mut Q) -> Result<(), Failed>
-    ensures reads { Q.told ≡ true → Reads Q.seen Q.images Q.moment Q.images_since disk.old disk.new }
+    ensures reads { Q.told ≡ true → ReadsBytes Q.seen Q.images Q.moment Q.images_since disk.old disk.new }
     ensures durable { Q.told ≡ true → OnOk result (LeavesThis (Q.seen disk.new) (Q.images disk.new)) }
     ensures later { Q.faults disk.old ≤ Q.faults disk.new }
     ensures failed { OnErr result (Q.faults disk.old < Q.faults disk.new) }
@@ -80,7 +80,7 @@ fn sync_first<Q: Disk>(disk: &mut Q) -> Result<(), Failed>
 
 // How many bytes there are.
 fn length_of<Q: Disk>(disk: &mut Q) -> Result<u64, Failed>
-    ensures reads { Q.told ≡ true → Reads Q.seen Q.images Q.moment Q.images_since disk.old disk.new }
+    ensures reads { Q.told ≡ true → ReadsBytes Q.seen Q.images Q.moment Q.images_since disk.old disk.new }
     ensures size { Q.told ≡ true → IfOk result (λ n. n ≡ length (Q.seen disk.old)) }
     ensures later { Q.faults disk.old ≤ Q.faults disk.new }
     ensures failed { OnErr result (Q.faults disk.old < Q.faults disk.new) }
@@ -92,7 +92,7 @@ fn length_of<Q: Disk>(disk: &mut Q) -> Result<u64, Failed>
 fn front_of<Q: Disk>(disk: &mut Q, block: &mut [u8]) -> Result<usize, Failed>
     ensures fits { IfOk result (λ n. n ≤ length block.new) }
     ensures bytes { Q.told ≡ true → IfOk result (λ n. take n block.new ≡ take (length block.old) (Q.seen disk.old)) }
-    ensures reads { Q.told ≡ true → Reads Q.seen Q.images Q.moment Q.images_since disk.old disk.new }
+    ensures reads { Q.told ≡ true → ReadsBytes Q.seen Q.images Q.moment Q.images_since disk.old disk.new }
     ensures later { Q.faults disk.old ≤ Q.faults disk.new }
     ensures failed { OnErr result (Q.faults disk.old < Q.faults disk.new) }
 {

@@ -1,6 +1,6 @@
 //! A state of the home as the bytes of a slot.
 ghost use Rattle.std.specs.Prelude.{◌≡◌, ◌+◌, ◌<◌, ◌^◌, ◌≤◌, ◌++◌, [], ◌∷◌, All, IfOk, Some, None, false, length, true, vec_capacity};
-ghost use Rattle.home_journal.specs.Slots.{body_size, stand_bytes, stands_of, state_bytes, state_of};
+ghost use Rattle.home_journal.specs.Slots.{body_size, slot_state, stand_bytes, stands_of, state_bytes};
 ghost use Rattle.home_types.specs.Limits.{most_devices};
 
 use home_types::{Kind, List, NoMemory, Stand, World};
@@ -75,8 +75,8 @@ fn put(bytes: &mut Vec<u8>, more: &[u8])
 /// `home` then, which has as many devices as there are kinds.
 pub(crate) fn read_state(body: &[u8], number: u32, kinds: &[Kind], home: &mut World) -> bool
     requires devices { length home.old.devices.items ≡ length kinds.now }
-    ensures good { result ≡ true → state_of kinds.now number body.now ≡ Some home.new.devices.items }
-    ensures bad { result ≡ false → state_of kinds.now number body.now ≡ None }
+    ensures good { result ≡ true → slot_state kinds.now number body.now ≡ Some home.new.devices.items }
+    ensures bad { result ≡ false → slot_state kinds.now number body.now ≡ None }
     ensures devices { length home.new.devices.items ≡ length kinds.now }
 {
     let [a, b, c, d, e, f, stands @ ..] = body else {

@@ -2,7 +2,7 @@
 use Rattle.day_clock.specs.Times.{time_of}
 use Rattle.day_clock.specs.declared.times.When.{When}
 use Rattle.handed_devices.specs.declared.devices.HandedDevice.{HandedDevice}
-use Rattle.home_states.specs.LiveHomes.{IsBetween, LiveState}
+use Rattle.home_states.specs.LiveHomes.{IsBetweenWindows, LiveState}
 use Rattle.home_states.specs.declared.homes.Phase.TheVariants.{Between, InWindow, Moving}
 use Rattle.home_states.specs.declared.homes.Phase.{Phase}
 use Rattle.home_states.specs.declared.refusals.NotRestood.TheVariants.{Absent, InWindow as IsInWindow, NoValue}
@@ -19,7 +19,7 @@ use Rattle.std.specs.Prelude.{List, None, Option, Some, false, length, slice_get
 pub record HasBegunWindow (s : LiveState) (text : List ℕ) (probes k : ℕ) (t : LiveState) : Type 0 where
   pub at : When
   pub script : Script
-  pub between : IsBetween s
+  pub between : IsBetweenWindows s
   pub time : time_of text ≡ Some at
   pub begun : HasBegun s.script at probes k script
   pub is : t ≡ record s { script = script; is_draft = true; closed = None }

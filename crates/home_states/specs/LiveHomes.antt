@@ -41,8 +41,8 @@ IsBetweenIn (Between home) = ⊤
 IsBetweenIn (InWindow k hub) = ⊥
 IsBetweenIn Moving = ⊥
 
-abbrev pub IsBetween : LiveState → Type 0
-IsBetween s = IsBetweenIn s.phase
+abbrev pub IsBetweenWindows : LiveState → Type 0
+IsBetweenWindows s = IsBetweenIn s.phase
 
 -- a window is open
 abbrev pub IsOpenIn : Phase → Type 0
@@ -50,8 +50,8 @@ IsOpenIn (Between home) = ⊥
 IsOpenIn (InWindow k hub) = ⊤
 IsOpenIn Moving = ⊥
 
-abbrev pub IsOpen : LiveState → Type 0
-IsOpen s = IsOpenIn s.phase
+abbrev pub IsWindowOpen : LiveState → Type 0
+IsWindowOpen s = IsOpenIn s.phase
 
 -- the open window, where there is one
 abbrev pub hub_of : Phase → Option (OpenHub HandedDevice)

@@ -11,7 +11,7 @@ use Rattle.home_states.specs.declared.refusals.NotClosed.{NotClosed}
 use Rattle.home_states.specs.declared.refusals.NotOpened.TheVariants.{Absent, InWindow as IsInWindow, NoMemory, TooMany}
 use Rattle.home_states.specs.declared.refusals.NotOpened.{NotOpened}
 use Rattle.home_types.specs.declared.modes.Mode.{Mode}
-use Rattle.hub_core.specs.HubCalls.{IsClosed, IsOpened}
+use Rattle.hub_core.specs.HubCalls.{IsOpened, WindowIsClosed}
 use Rattle.hub_core.specs.Homes.{HomeState}
 use Rattle.legal_days.specs.LegalWindows.{history_of}
 use Rattle.hub_core.specs.OpenHubs.{OpenHub, configuration_of}
@@ -22,24 +22,24 @@ use Rattle.routine_reader.specs.declared.scripts.WindowText.{WindowText}
 use Rattle.std.specs.Prelude.{None, Some, false, length, slice_get, ℕ, ⊤, ◌^◌, ◌≡◌, ◌≤◌}
 
 -- the counts of a device whose calls are made elsewhere
-abbrev pub turns_of : HandedDevice → ℕ
-turns_of device = device.turns
+abbrev pub handed_turns : HandedDevice → ℕ
+handed_turns device = device.turns
 
-abbrev pub probes_of : HandedDevice → ℕ
-probes_of device = device.probes
+abbrev pub handed_probes : HandedDevice → ℕ
+handed_probes device = device.probes
 
 abbrev pub faults_of : HandedDevice → ℕ
 faults_of device = device.faults
 
 -- the window of the script with this number, on the home as it is
-abbrev pub setting_on : Script → Mode → ℕ → HomeState HandedDevice → Setting
-setting_on script mode k home = record { runs = script_runs script k; mode = mode; kinds = home.kinds; first = home.world }
+abbrev pub live_setting_on : Script → Mode → ℕ → HomeState HandedDevice → Setting
+live_setting_on script mode k home = record { runs = script_runs script k; mode = mode; kinds = home.kinds; first = home.world }
 
 -- that window was opened on the home, with the rounds of probes that the script says
 pub record IsOpenedOn (script : Script) (mode : Mode) (k : ℕ) (home : HomeState HandedDevice) (hub : OpenHub HandedDevice) : Type 0 where
   pub window : WindowText
   pub at : slice_get script.windows.items k ≡ Some window
-  pub opened : IsOpened turns_of probes_of faults_of (setting_on script mode k home) window.probes home hub
+  pub opened : IsOpened handed_turns handed_probes faults_of (live_setting_on script mode k home) window.probes home hub
 
 -- why it cannot be
 abbrev pub CannotOpen : Script → ℕ → HomeState HandedDevice → NotOpened → Type 0
@@ -71,7 +71,7 @@ pub record HasClosed (s t : LiveState) : Type 0 where
   pub home : HomeState HandedDevice
   pub closed : WindowRecord
   pub was : s.phase ≡ InWindow number hub
-  pub is_closed : IsClosed turns_of probes_of faults_of hub home closed
+  pub is_closed : WindowIsClosed handed_turns handed_probes faults_of hub home closed
   pub quiet : not_quiet (configuration_of hub) ≡ None
   pub sealed : is_weak hub.setting.mode ≡ false → BeginsWithSealed hub.setting (history_of closed) closed.order.items
   pub is : t ≡ record s { phase = Between home; closed = Some (record { number = number; closed = closed }) }

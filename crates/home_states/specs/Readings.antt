@@ -19,8 +19,8 @@ StandsIn (InWindow k hub) d stand = ⊥
 StandsIn Moving d stand = ⊥
 
 -- the device stands so, between two windows
-abbrev pub StandsAt : LiveState → ℕ → Stand → Type 0
-StandsAt s d stand = StandsIn s.phase d stand
+abbrev pub DeviceStandsAt : LiveState → ℕ → Stand → Type 0
+DeviceStandsAt s d stand = StandsIn s.phase d stand
 
 -- why it is not told
 abbrev pub NoStandOf : HomeState HandedDevice → ℕ → NotStanding → Type 0
@@ -35,28 +35,28 @@ MayNotStandIn Moving d why = ⊥
 abbrev pub MayNotStand : LiveState → ℕ → NotStanding → Type 0
 MayNotStand s d why = MayNotStandIn s.phase d why
 
-abbrev pub runs_in : Option WindowText → ℕ
-runs_in None = 0
-runs_in (Some window) = length window.runs.items
+abbrev pub run_count_in : Option WindowText → ℕ
+run_count_in None = 0
+run_count_in (Some window) = length window.runs.items
 
 -- how many runs the window of the script has
 abbrev pub run_count : LiveState → ℕ → ℕ
-run_count s window = runs_in (slice_get s.script.windows.items window)
+run_count s window = run_count_in (slice_get s.script.windows.items window)
 
 -- the names of the script, empty where there is no such thing
 abbrev pub name_of_device : Option DeviceText → List ℕ
 name_of_device None = []
 name_of_device (Some device) = device.name
 
-abbrev pub device_name : Script → ℕ → List ℕ
-device_name script d = name_of_device (slice_get script.devices.items d)
+abbrev pub script_device_name : Script → ℕ → List ℕ
+script_device_name script d = name_of_device (slice_get script.devices.items d)
 
 abbrev pub name_of_routine : Option RoutineText → List ℕ
 name_of_routine None = []
 name_of_routine (Some routine) = routine.name
 
-abbrev pub routine_name : Script → ℕ → List ℕ
-routine_name script routine = name_of_routine (slice_get script.routines.items routine)
+abbrev pub script_routine_name : Script → ℕ → List ℕ
+script_routine_name script routine = name_of_routine (slice_get script.routines.items routine)
 
 abbrev pub told_name : Option (List ℕ) → List ℕ
 told_name None = []

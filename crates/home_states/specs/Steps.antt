@@ -17,14 +17,14 @@ use Rattle.hub_core.specs.OpenHubs.{OpenHub, configuration_of}
 use Rattle.hub_core.specs.Steps.{not_quiet}
 use Rattle.hub_core.specs.declared.refusals.NotQuiet.{NotQuiet}
 use Rattle.hub_core.specs.declared.turns.Turn.{Turn}
-use Rattle.hub_table.specs.Answers.{IsAnswered, refusal}
-use Rattle.hub_table.specs.Tables.{Lent, held_by, taken_of}
+use Rattle.hub_table.specs.Answers.{HasComeBack, refusal}
+use Rattle.hub_table.specs.Tables.{SlipAndTask, lent_by, taken_of}
 use Rattle.hub_table.specs.declared.told.Taken.{Taken}
 use Rattle.lock_leasing.specs.Configurations.{read_of}
 use Rattle.std.specs.Prelude.{Option, Some, option_map, slice_get, ℕ, ◌≡◌}
 
 -- the window in which the live home was goes on as this hub, and nothing else is changed
-pub record GoesOn (s : LiveState) (hub : OpenHub HandedDevice) (next : OpenHub HandedDevice) (t : LiveState) : Type 0 where
+pub record WindowGoesOn (s : LiveState) (hub : OpenHub HandedDevice) (next : OpenHub HandedDevice) (t : LiveState) : Type 0 where
   pub number : ℕ
   pub was : s.phase ≡ InWindow number hub
   pub is : t ≡ record s { phase = InWindow number next }
@@ -35,7 +35,7 @@ pub record GoesOn (s : LiveState) (hub : OpenHub HandedDevice) (next : OpenHub H
 pub record HasTaken (s : LiveState) (r m : ℕ) (taken : Taken) (t : LiveState) : Type 0 where
   pub hub : OpenHub HandedDevice
   pub next : OpenHub HandedDevice
-  pub goes : GoesOn s hub next t
+  pub goes : WindowGoesOn s hub next t
   pub turn : Turn HandedDevice
   pub step : IsTurn hub r m turn next
   pub earliest : PlansEarliest (configuration_of hub) r turn
@@ -45,8 +45,8 @@ pub record HasTaken (s : LiveState) (r m : ℕ) (taken : Taken) (t : LiveState) 
 pub record HasAnswered (s : LiveState) (d ticket : ℕ) (told : Told) (m : ℕ) (made : Made) (t : LiveState) : Type 0 where
   pub hub : OpenHub HandedDevice
   pub next : OpenHub HandedDevice
-  pub goes : GoesOn s hub next t
-  pub answered : IsAnswered hub d ticket told m made next
+  pub goes : WindowGoesOn s hub next t
+  pub answered : HasComeBack hub d ticket told m made next
 
 -- why this is no answer to a call that is out
 abbrev pub IsNoAnswerIn : Phase → ℕ → ℕ → Told → NotAnswered → Type 0
@@ -59,13 +59,13 @@ abbrev pub IsNoAnswer : LiveState → ℕ → ℕ → Told → NotAnswered → T
 IsNoAnswer s d ticket told why = IsNoAnswerIn s.phase d ticket told why
 
 -- a probe of the device went out, with this slip and this task, or none may
-pub record HasProbed (s : LiveState) (d : ℕ) (probe : Option Lent) (t : LiveState) : Type 0 where
+pub record HasProbed (s : LiveState) (d : ℕ) (probe : Option SlipAndTask) (t : LiveState) : Type 0 where
   pub hub : OpenHub HandedDevice
   pub next : OpenHub HandedDevice
-  pub goes : GoesOn s hub next t
+  pub goes : WindowGoesOn s hub next t
   pub grip : Option (Gripped HandedDevice Ready)
   pub step : IsProbed hub d grip next
-  pub told : probe ≡ held_by grip
+  pub told : probe ≡ lent_by grip
 
 -- the run waits, at every moment, until another step frees it
 abbrev pub IsBlockedIn : Phase → ℕ → Type 0

@@ -25,8 +25,8 @@ entries_in (Between home) closed = closed_entries closed
 entries_in (InWindow k hub) closed = hub.history
 entries_in Moving closed = []
 
-abbrev pub entries_told : LiveState → List Kept
-entries_told s = entries_in s.phase s.closed
+abbrev pub window_entries_told : LiveState → List Kept
+window_entries_told s = entries_in s.phase s.closed
 
 -- the number of that window
 abbrev pub closed_number : Option ClosedWindow → Option ℕ
@@ -50,6 +50,6 @@ pub record IsEntryText (s : LiveState) (kept : Kept) (text : List ℕ) : Type 0 
 pub record HasToldEntry (s : LiveState) (at : ℕ) (t : LiveState) : Type 0 where
   pub kept : Kept
   pub text : List ℕ
-  pub entry : slice_get (entries_told s) at ≡ Some kept
+  pub entry : slice_get (window_entries_told s) at ≡ Some kept
   pub its : IsEntryText s kept text
   pub is : t ≡ record s { text = text }

@@ -1,6 +1,6 @@
 //! How a live home stands between its windows, and the names and numbers of its script.
 ghost use Rattle.std.specs.Prelude.{◌≡◌, IfErr, IfOk, length};
-ghost use Rattle.home_states.specs.Readings.{MayNotStand, StandsAt, device_name, routine_name, run_count, value_name};
+ghost use Rattle.home_states.specs.Readings.{DeviceStandsAt, MayNotStand, run_count, script_device_name, script_routine_name, value_name};
 
 use crate::homes::{LiveHome, Phase};
 use crate::refusals::NotStanding;
@@ -9,7 +9,7 @@ use home_types::{DeviceNo, Stand, Value};
 impl LiveHome {
     /// How the device stands between two windows. Refused in a window, and of a device that there is not.
     pub fn stand(&self, d: DeviceNo) -> Result<Stand, NotStanding>
-        ensures stands { IfOk result (λ stand. StandsAt self.now d.0 stand) }
+        ensures stands { IfOk result (λ stand. DeviceStandsAt self.now d.0 stand) }
         ensures refused { IfErr result (λ why. MayNotStand self.now d.0 why) }
     {
         match &self.phase {
@@ -55,7 +55,7 @@ impl LiveHome {
 
     /// The name of the device, empty where there is none.
     pub fn device_name(&self, d: u32) -> &str
-        ensures { result.now ≡ device_name self.now.script d }
+        ensures { result.now ≡ script_device_name self.now.script d }
     {
         match self.script.script().devices.get(d as u64) {
             Some(device) => device.name.as_str(),
@@ -65,7 +65,7 @@ impl LiveHome {
 
     /// The name of the routine, counted from 0, empty where there is none.
     pub fn routine_name(&self, routine: u32) -> &str
-        ensures { result.now ≡ routine_name self.now.script routine }
+        ensures { result.now ≡ script_routine_name self.now.script routine }
     {
         match self.script.script().routines.get(routine as u64) {
             Some(routine) => routine.name.as_str(),

@@ -1,6 +1,6 @@
 //! The steps of an open window, and what is asked of it.
 ghost use Rattle.std.specs.Prelude.{◌≡◌, IfErr, IfNone, IfOk, IfSome, IsTrue};
-ghost use Rattle.home_states.specs.LiveHomes.{IsBetween, hub_in};
+ghost use Rattle.home_states.specs.LiveHomes.{IsBetweenWindows, hub_in};
 ghost use Rattle.home_states.specs.Steps.{HasAnswered, HasProbed, HasTaken, IsBlockedRun, IsNoAnswer, left_to_do};
 ghost use Rattle.std.specs.Prelude.{None};
 
@@ -17,7 +17,7 @@ impl LiveHome {
     /// later. `None` where no window is open, and then nothing has changed. Takes no memory.
     pub fn take(&mut self, r: RunNo, moment: u64) -> Option<Taken>
         ensures taken { IfSome result (λ taken. HasTaken self.old r.0 moment taken self.new) }
-        ensures none { IfNone result (IsBetween self.old) }
+        ensures none { IfNone result (IsBetweenWindows self.old) }
         ensures same { IfNone result (self.new ≡ self.old) }
     {
         match &mut self.phase {
@@ -56,7 +56,7 @@ impl LiveHome {
     /// open, and then nothing has changed. Takes no memory.
     pub fn probe(&mut self, d: DeviceNo) -> Option<Option<(Slip, Task)>>
         ensures probed { IfSome result (λ probe. HasProbed self.old d.0 probe self.new) }
-        ensures none { IfNone result (IsBetween self.old) }
+        ensures none { IfNone result (IsBetweenWindows self.old) }
         ensures same { IfNone result (self.new ≡ self.old) }
     {
         match &mut self.phase {
@@ -69,7 +69,7 @@ impl LiveHome {
     /// Whether the run is known to wait, at every moment, until another step may free it. `None` where no window is open.
     pub fn is_blocked(&self, r: RunNo) -> Option<bool>
         ensures blocked { IfSome result (λ yes. IsTrue yes → IsBlockedRun self.now r.0) }
-        ensures none { IfNone result (IsBetween self.now) }
+        ensures none { IfNone result (IsBetweenWindows self.now) }
     {
         match &self.phase {
             Phase::InWindow(_, table) => Some(table.hub().is_blocked(r)),

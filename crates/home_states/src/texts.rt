@@ -1,7 +1,7 @@
 //! The texts that a live home makes: of the window closed last, of an entry, of the head of its record.
 ghost use Rattle.std.specs.Prelude.{◌≡◌, Err, IfErr, IfOk, None, length, slice_get};
 ghost use Rattle.day_report.specs.Days as said;
-ghost use Rattle.home_states.specs.Texts.{HasToldEntry, HasToldWindow, IsEntryText, entries_told};
+ghost use Rattle.home_states.specs.Texts.{HasToldEntry, HasToldWindow, IsEntryText, window_entries_told};
 
 use crate::homes::{LiveHome, Phase};
 use crate::refusals::NotTold;
@@ -63,7 +63,7 @@ impl LiveHome {
 
     /// How many entries the window that is open has so far, or the one closed last where none is open.
     pub fn entry_count(&self) -> u64
-        ensures { result ≡ length (entries_told self.now) }
+        ensures { result ≡ length (window_entries_told self.now) }
     {
         match &self.phase {
             Phase::InWindow(_, table) => table.hub().entry_count(),
@@ -77,7 +77,7 @@ impl LiveHome {
 
     /// The entry at this place, counted from 0, of the window that is open, or of the one closed last where none is.
     pub fn entry(&self, at: u64) -> Option<Kept>
-        ensures { result ≡ slice_get (entries_told self.now) at }
+        ensures { result ≡ slice_get (window_entries_told self.now) at }
     {
         match &self.phase {
             Phase::InWindow(_, table) => table.hub().entry(at),

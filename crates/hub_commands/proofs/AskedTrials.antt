@@ -1,7 +1,7 @@
 -- The number of a trial: from 1 to as many windows as a script may have.
 use Rattle.command_words.specs.CommandLines.{check_of, command_line_of, trial_of}
 use Rattle.command_words.specs.OptionGrammar.{options_by_words}
-use Rattle.command_words.specs.TrialNumbers.{is_numeral, number_of}
+use Rattle.command_words.specs.TrialNumbers.{is_short_numeral, trial_number}
 use Rattle.command_words.specs.declared.command_lines.CommandLine.TheVariants.{Keep, Replay, Run, Trial, Watch}
 use Rattle.command_words.specs.declared.command_lines.CommandLine.{CommandLine}
 use Rattle.command_words.specs.declared.command_lines.Options.{Options}
@@ -36,11 +36,11 @@ check_no_trial (word ∷ words) n is = absurd (cc)
 
 trial_within : (words : List (List ℕ)) (n : ℕ) → trial_of words ≡ Some (Trial n) → IsWithin n
 trial_within [] n is = absurd (cc)
-trial_within (word ∷ []) n is = by_number (number_of word) refl is
+trial_within (word ∷ []) n is = by_number (trial_number word) refl is
   where
-    by_number : (o : Option ℕ) → number_of word ≡ o → option_map Trial o ≡ Some (Trial n) → IsWithin n
+    by_number : (o : Option ℕ) → trial_number word ≡ o → option_map Trial o ≡ Some (Trial n) → IsWithin n
     by_number None none found = absurd (cc)
-    by_number (Some k) some found = let same : k ≡ n = cc in subst IsWithin same (number_within (is_numeral word) (digits_value 10 word) k some)
+    by_number (Some k) some found = let same : k ≡ n = cc in subst IsWithin same (number_within (is_short_numeral word) (digits_value 10 word) k some)
 trial_within (word ∷ next ∷ words) n is = absurd (cc)
 
 command_within : (run replay watch keep check trial : Bool) (words : List (List ℕ)) (n : ℕ)

@@ -9,7 +9,7 @@ use Rattle.legal_days.proofs.Lists.{at_place}
 use Rattle.legal_days.specs.LegalDays.{AreLeftFrom, IsLegalCutDayFrom, IsLegalDayFrom, new_day, one_more_where, setting_from, state_from, total}
 use Rattle.legal_days.specs.LegalWindows.{IsLegalWindow}
 use Rattle.hub_commands.proofs.Snocs.{length_more, sum_more}
-use Rattle.hub_commands.specs.Days.{Course, HaveCommitted, IsUnderWayOn, NoneHasFailedOn, WindowsArePlayedOn, new_course, script_of}
+use Rattle.hub_commands.specs.Days.{DayCourse, HaveCommitted, IsUnderWayOn, NoneHasFailedOn, WindowsArePlayedOn, new_course, script_of}
 use Rattle.hub_commands.specs.Played.{HasGoneOn, IsPlayed, setting_on}
 use Rattle.hub_core.proofs.calls.HubOpens.{get_front, get_last}
 use Rattle.routine_reader.specs.Rosters.{kinds_of, script_runs, start_home, start_stand}
@@ -23,21 +23,21 @@ use Rattle.std.proofs.lemmas.Option.{slice_get_within}
 use Rattle.std.specs.Prelude.{Bool, List, Option, Some, [], false, length, map, option_map, slice_get, slice_index_or, suc, true, unwrap_or, zero, ℕ, ◌+◌, ◌++◌, ◌∷◌, ◌<◌, ◌≡◌, ◌≤◌}
 
 -- a window more leaves the states before it
-state_before : (course : Course) (records : List WindowRecord) (closed : WindowRecord) (k : ℕ) → k ≤ length records → state_from course.begins (records ++ closed ∷ []) k ≡ state_from course.begins records k
+state_before : (course : DayCourse) (records : List WindowRecord) (closed : WindowRecord) (k : ℕ) → k ≤ length records → state_from course.begins (records ++ closed ∷ []) k ≡ state_from course.begins records k
 state_before course records closed zero within = refl
 state_before course records closed (suc k) within = ap (λ o. unwrap_or (option_map (λ c. c.last.devices.items) o) []) (get_front records closed k (omega (arith, within)))
 
 -- the state after it is its last one
-state_last : (course : Course) (records : List WindowRecord) (closed : WindowRecord) → state_from course.begins (records ++ closed ∷ []) (length (records ++ closed ∷ [])) ≡ closed.last.devices.items
+state_last : (course : DayCourse) (records : List WindowRecord) (closed : WindowRecord) → state_from course.begins (records ++ closed ∷ []) (length (records ++ closed ∷ [])) ≡ closed.last.devices.items
 state_last course records closed =
     ap (λ n. state_from course.begins (records ++ closed ∷ []) n) (length_more records closed)
     ∙ ap (λ o. unwrap_or (option_map (λ c. c.last.devices.items) o) []) (get_last records closed)
 
-setting_before : (course : Course) (mode : Mode) (records : List WindowRecord) (closed : WindowRecord) (k : ℕ) → k ≤ length records → setting_from course.begins mode (records ++ closed ∷ []) k ≡ setting_from course.begins mode records k
+setting_before : (course : DayCourse) (mode : Mode) (records : List WindowRecord) (closed : WindowRecord) (k : ℕ) → k ≤ length records → setting_from course.begins mode (records ++ closed ∷ []) k ≡ setting_from course.begins mode records k
 setting_before course mode records closed k within = ap (λ f. record { runs = script_runs (script_of course) k; mode = mode; kinds = kinds_of course.begins.script; first = f }) (state_before course records closed k within)
 
 -- what holds of each record in its setting holds of one more
-each_more : (P : Setting → ℕ → WindowRecord → Type 0) (course : Course) (mode : Mode) (records : List WindowRecord) (closed : WindowRecord)
+each_more : (P : Setting → ℕ → WindowRecord → Type 0) (course : DayCourse) (mode : Mode) (records : List WindowRecord) (closed : WindowRecord)
     → ((k : ℕ) (c : WindowRecord) → slice_get records k ≡ Some c → P (setting_from course.begins mode records k) k c)
     → P (setting_from course.begins mode records (length records)) (length records) closed
     → (k : ℕ) (c : WindowRecord) → slice_get (records ++ closed ∷ []) k ≡ Some c → P (setting_from course.begins mode (records ++ closed ∷ []) k) k c
@@ -50,7 +50,7 @@ each_more P course mode records closed each last k c at = elim (snoc_get records
 ]
 
 -- the setting on the home as it is
-setting_here : {D : Type 0} (course : Course) (mode : Mode) (records : List WindowRecord) (home : HomeState D) → home.kinds ≡ kinds_of course.begins.script → home.world ≡ state_from course.begins records (length records)
+setting_here : {D : Type 0} (course : DayCourse) (mode : Mode) (records : List WindowRecord) (home : HomeState D) → home.kinds ≡ kinds_of course.begins.script → home.world ≡ state_from course.begins records (length records)
     → setting_on (script_of course) mode (length records) home ≡ setting_from course.begins mode records (length records)
 setting_here course mode records home kinds world = λ i. record { runs = script_runs (script_of course) (length records); mode = mode; kinds = kinds i; first = world i }
 
@@ -73,14 +73,14 @@ none_again : (b : Bool) (n : ℕ) → b ≡ false → n ≡ 0 → one_more_where
 none_again false n not is = is
 none_again true n not is = absurd (cc)
 
-none_before : (course : Course) (records : List WindowRecord) (closed : WindowRecord) → NoneHasFailedOn course (records ++ closed ∷ []) → NoneHasFailedOn course records
+none_before : (course : DayCourse) (records : List WindowRecord) (closed : WindowRecord) → NoneHasFailedOn course (records ++ closed ∷ []) → NoneHasFailedOn course records
 none_before course records closed none d inside =
     let all = more_faults records closed d in
     let is = none_of (course.down d) (total (λ c. c.faults.items) (records ++ closed ∷ []) d) (none d inside) in
     none_again (course.down d) (total (λ c. c.faults.items) records d) is.0 (omega (arith, all, is.1))
 
 -- where no device has failed, each was up as the window was opened, and none fails in it
-none_fails : {D : Type 0} (works : Setting → WindowText → WindowRecord → (ℕ → ℕ) → Type 0) (tag : D → ℕ) (plan : D → Option (List (ℕ × ℕ))) (stands turns probes faults : D → ℕ) (course : Course) (mode : Mode) (home : HomeState D) (records : List WindowRecord) (closed : WindowRecord)
+none_fails : {D : Type 0} (works : Setting → WindowText → WindowRecord → (ℕ → ℕ) → Type 0) (tag : D → ℕ) (plan : D → Option (List (ℕ × ℕ))) (stands turns probes faults : D → ℕ) (course : DayCourse) (mode : Mode) (home : HomeState D) (records : List WindowRecord) (closed : WindowRecord)
     → IsUnderWayOn works tag plan stands turns probes faults course mode home records → NoneHasFailedOn course (records ++ closed ∷ [])
     → NoneFails (setting_on (script_of course) mode (length records) home) closed.faults.items
 none_fails works tag plan stands turns probes faults course mode home records closed day none = record {
@@ -89,7 +89,7 @@ none_fails works tag plan stands turns probes faults course mode home records cl
 }
 
 -- the windows with one more
-windows_more : {D : Type 0} (works : Setting → WindowText → WindowRecord → (ℕ → ℕ) → Type 0) (tag : D → ℕ) (plan : D → Option (List (ℕ × ℕ))) (stands turns probes faults : D → ℕ) (course : Course) (mode : Mode) (before after : HomeState D) (records : List WindowRecord) (closed : WindowRecord)
+windows_more : {D : Type 0} (works : Setting → WindowText → WindowRecord → (ℕ → ℕ) → Type 0) (tag : D → ℕ) (plan : D → Option (List (ℕ × ℕ))) (stands turns probes faults : D → ℕ) (course : DayCourse) (mode : Mode) (before after : HomeState D) (records : List WindowRecord) (closed : WindowRecord)
     → (day : IsUnderWayOn works tag plan stands turns probes faults course mode before records) → (is : IsPlayed works tag plan turns probes faults (script_of course) mode (length records) before after closed)
     → WindowsArePlayedOn works course mode (records ++ closed ∷ []) (day.takes ++ is.taken ∷ [])
 windows_more works tag plan stands turns probes faults course mode before after records closed day is = record {
@@ -124,7 +124,7 @@ windows_more works tag plan stands turns probes faults course mode before after 
     ]
 
 -- one window more
-goes_on : {D : Type 0} (works : Setting → WindowText → WindowRecord → (ℕ → ℕ) → Type 0) (tag : D → ℕ) (plan : D → Option (List (ℕ × ℕ))) (stands turns probes faults : D → ℕ) (course : Course) (mode : Mode) (before after : HomeState D) (records : List WindowRecord) (closed : WindowRecord)
+goes_on : {D : Type 0} (works : Setting → WindowText → WindowRecord → (ℕ → ℕ) → Type 0) (tag : D → ℕ) (plan : D → Option (List (ℕ × ℕ))) (stands turns probes faults : D → ℕ) (course : DayCourse) (mode : Mode) (before after : HomeState D) (records : List WindowRecord) (closed : WindowRecord)
     → IsUnderWayOn works tag plan stands turns probes faults course mode before records → HomeIsKept tag stands turns probes faults after
     → IsPlayed works tag plan turns probes faults (script_of course) mode (length records) before after closed
     → IsUnderWayOn works tag plan stands turns probes faults course mode after (records ++ closed ∷ [])
@@ -153,7 +153,7 @@ goes_on {D = D} works tag plan stands turns probes faults course mode before aft
     device_before d y at = at_place before.devices d (let within = slice_get_within after.devices d y at in omega (arith, within, is.size))
 
 -- no window is played yet
-pub no_window : (works : Setting → WindowText → WindowRecord → (ℕ → ℕ) → Type 0) (course : Course) (mode : Mode) → WindowsArePlayedOn works course mode [] []
+pub no_window : (works : Setting → WindowText → WindowRecord → (ℕ → ℕ) → Type 0) (course : DayCourse) (mode : Mode) → WindowsArePlayedOn works course mode [] []
 no_window works course mode = record { count = omega (arith); legal = λ k c at. absurd (cc); worked = record { count = refl; each = λ k w c taken w_at at taken_at. absurd (cc) }; ends = λ k c at. absurd (cc); commits = λ served none k c at. absurd (cc) }
 
 -- where a device starts
@@ -180,7 +180,7 @@ module _ {D : Type 0} (tag : D → ℕ) (plan : D → Option (List (ℕ × ℕ))
   new_unprobed d device at = let t = text_of d device at in (are.each d device t.0 at t.1).no_probes
 
 -- a home in which a course begins has played no window
-pub starts_on : {D : Type 0} (works : Setting → WindowText → WindowRecord → (ℕ → ℕ) → Type 0) (tag : D → ℕ) (plan : D → Option (List (ℕ × ℕ))) (stands turns probes faults : D → ℕ) (course : Course) (mode : Mode) (home : HomeState D)
+pub starts_on : {D : Type 0} (works : Setting → WindowText → WindowRecord → (ℕ → ℕ) → Type 0) (tag : D → ℕ) (plan : D → Option (List (ℕ × ℕ))) (stands turns probes faults : D → ℕ) (course : DayCourse) (mode : Mode) (home : HomeState D)
     → AreLeftFrom tag plan stands turns faults course.begins [] home.devices → ((d : ℕ) (device : D) → slice_get home.devices d ≡ Some device → probes device ≡ 0)
     → home.kinds ≡ kinds_of course.begins.script → home.world ≡ course.begins.first → length home.world ≡ length course.begins.script.devices.items → home.opened ≡ 0
     → ((d : ℕ) → d < length home.world → course.down d ≡ false → (stand_at course.begins.first d).up ≡ true)
@@ -210,24 +210,24 @@ starts works tag plan stands turns probes faults script mode home are kinds worl
     sized = ap (λ w. length w) world ∙ length-map script.devices.items start_stand
 
 -- its last window left the home as it is
-pub last_state : {D : Type 0} (works : Setting → WindowText → WindowRecord → (ℕ → ℕ) → Type 0) (tag : D → ℕ) (plan : D → Option (List (ℕ × ℕ))) (stands turns probes faults : D → ℕ) (course : Course) (mode : Mode) (home : HomeState D) (records more : List WindowRecord) (closed : WindowRecord)
+pub last_state : {D : Type 0} (works : Setting → WindowText → WindowRecord → (ℕ → ℕ) → Type 0) (tag : D → ℕ) (plan : D → Option (List (ℕ × ℕ))) (stands turns probes faults : D → ℕ) (course : DayCourse) (mode : Mode) (home : HomeState D) (records more : List WindowRecord) (closed : WindowRecord)
     → IsUnderWayOn works tag plan stands turns probes faults course mode home more → more ≡ records ++ closed ∷ [] → home.world ≡ closed.last.devices.items
 last_state works tag plan stands turns probes faults course mode home records more closed day all =
     day.world ∙ ap (λ rs. state_from course.begins rs (length rs)) all ∙ state_last course records closed
 
 -- a day whose windows were all played is legal
-pub day_is_legal : {D : Type 0} (works : Setting → WindowText → WindowRecord → (ℕ → ℕ) → Type 0) (tag : D → ℕ) (plan : D → Option (List (ℕ × ℕ))) (stands turns probes faults : D → ℕ) (course : Course) (mode : Mode) (home : HomeState D) (records : List WindowRecord)
+pub day_is_legal : {D : Type 0} (works : Setting → WindowText → WindowRecord → (ℕ → ℕ) → Type 0) (tag : D → ℕ) (plan : D → Option (List (ℕ × ℕ))) (stands turns probes faults : D → ℕ) (course : DayCourse) (mode : Mode) (home : HomeState D) (records : List WindowRecord)
     → IsUnderWayOn works tag plan stands turns probes faults course mode home records → length records ≡ length (script_of course).windows.items
     → IsLegalDayFrom tag plan stands turns faults course.begins mode records home.devices
 day_is_legal works tag plan stands turns probes faults course mode home records day all = record { count = all; legal = day.played.legal; left = day.left }
 
 -- a day that was cut short too
-pub cut_is_legal : {D : Type 0} (works : Setting → WindowText → WindowRecord → (ℕ → ℕ) → Type 0) (tag : D → ℕ) (plan : D → Option (List (ℕ × ℕ))) (stands turns probes faults : D → ℕ) (course : Course) (mode : Mode) (home : HomeState D) (records : List WindowRecord)
+pub cut_is_legal : {D : Type 0} (works : Setting → WindowText → WindowRecord → (ℕ → ℕ) → Type 0) (tag : D → ℕ) (plan : D → Option (List (ℕ × ℕ))) (stands turns probes faults : D → ℕ) (course : DayCourse) (mode : Mode) (home : HomeState D) (records : List WindowRecord)
     → IsUnderWayOn works tag plan stands turns probes faults course mode home records → IsLegalCutDayFrom tag plan stands turns faults course.begins mode records home.devices
 cut_is_legal works tag plan stands turns probes faults course mode home records day = record { count = day.played.count; legal = day.played.legal; left = day.left }
 
 -- the windows of a day under way with one window more
-pub gone_on : {D : Type 0} (works : Setting → WindowText → WindowRecord → (ℕ → ℕ) → Type 0) (tag : D → ℕ) (plan : D → Option (List (ℕ × ℕ))) (stands turns probes faults : D → ℕ) (course : Course) (mode : Mode) (k : ℕ) (before after : HomeState D) (records more : List WindowRecord) (closed : WindowRecord)
+pub gone_on : {D : Type 0} (works : Setting → WindowText → WindowRecord → (ℕ → ℕ) → Type 0) (tag : D → ℕ) (plan : D → Option (List (ℕ × ℕ))) (stands turns probes faults : D → ℕ) (course : DayCourse) (mode : Mode) (k : ℕ) (before after : HomeState D) (records more : List WindowRecord) (closed : WindowRecord)
     → IsUnderWayOn works tag plan stands turns probes faults course mode before records → HomeIsKept tag stands turns probes faults after → k ≡ length records
     → IsPlayed works tag plan turns probes faults (script_of course) mode k before after closed → more ≡ records ++ closed ∷ []
     → HasGoneOn works tag plan stands turns probes faults course mode records after more

@@ -14,7 +14,7 @@ use Rattle.home_types.specs.declared.kinds.Kind.{Kind}
 use Rattle.home_types.specs.declared.worlds.Stand.{Stand}
 use Rattle.hub_commands.proofs.KeptStates.{bad_within, none_kept}
 use Rattle.hub_commands.specs.Finishes.{InputIsRead, IsRead, IsUnwritten, Reads, Shown, Writes}
-use Rattle.hub_commands.specs.KeepCalls.{DayGoesOn, DayIsKept, IsOpened, IsUnkept, JournalIsOpened, KeepEnds, ScriptIsKept, opening_fault}
+use Rattle.hub_commands.specs.KeepCalls.{DayGoesOn, DayIsKept, IsJournalOpened, IsUnkept, JournalIsOpened, KeepEnds, ScriptIsKept, opening_fault}
 use Rattle.hub_commands.specs.KeptDays.{HasEndedBehind, IsDiskLeft, last_states, windows_of}
 use Rattle.hub_commands.specs.Ways.{IsReplayOf}
 use Rattle.hub_commands.specs.declared.faults.Fault.TheVariants.{Check, Cross, Damaged, Disk, Memory, Read, Script as Refuses, Words, Write}
@@ -80,7 +80,7 @@ module _ {D Q : Type 0} (shown : Shown D) (told : Bool) (seen : Q → List ℕ) 
         by_error Disk o = inl (no_day, unwritten, o)
         by_error (Damaged slot) o = (no_day, unwritten, o)
 
-    module _ (journal : JournalState Q) (opened : IsOpened told seen images moment since failures script disk journal) (durable : told ≡ true → LeavesThis (seen journal.disk) (images journal.disk)) where
+    module _ (journal : JournalState Q) (opened : IsJournalOpened told seen images moment since failures script disk journal) (durable : told ≡ true → LeavesThis (seen journal.disk) (images journal.disk)) where
       -- what the disk keeps, the journal keeps
       kept_there : told ≡ true → (homes : List (List Stand)) → kept_states kinds most (seen disk) ≡ Ok homes → kept_states kinds most (seen journal.disk) ≡ Ok homes
       kept_there true_told homes kept = (λ t. kept_states (sym opened.kinds t) (sym opened.most t) (seen journal.disk)) ∙ opened.same true_told ∙ kept

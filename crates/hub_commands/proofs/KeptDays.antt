@@ -4,7 +4,7 @@ use Rattle.history_book.specs.Settings.{Setting}
 use Rattle.history_book.specs.declared.records.WindowRecord.{WindowRecord}
 use Rattle.home_journal.proofs.Moments.{then_on, weaker}
 use Rattle.home_journal.specs.Disks.{LeavesOnly, LeavesThis}
-use Rattle.home_journal.specs.Journals.{AddsStates, JournalState, KeepsFirst, LeavesFirst, kept_by}
+use Rattle.home_journal.specs.Journals.{AddsStates, JournalState, KeepsFirst, LeavesFirst, states_kept}
 use Rattle.home_journal.specs.KeptStates.{kept_states}
 use Rattle.home_types.specs.Listed.{Listed}
 use Rattle.home_types.specs.declared.kinds.Kind.{Kind}
@@ -12,7 +12,7 @@ use Rattle.home_types.specs.declared.worlds.Stand.{Stand}
 use Rattle.hub_commands.proofs.DaysUnderWay.{cut_is_legal}
 use Rattle.hub_commands.proofs.KeptStates.{all_kept, first_kept, next_kept, states_more, surely_few}
 use Rattle.hub_commands.proofs.Snocs.{length_more}
-use Rattle.hub_commands.specs.Days.{Course, DevicesAreProbed, plain}
+use Rattle.hub_commands.specs.Days.{DayCourse, DevicesAreProbed, plain}
 use Rattle.hub_commands.specs.Finishes.{DayEndsOn, Shown, Writes}
 use Rattle.hub_commands.specs.Going.{IsGoingOn}
 use Rattle.hub_commands.specs.KeptDays.{HandsAllBack, HasEndedKept, IsDiskLeft, IsJournalSoFar, IsUnkeptOn, KeepsAtLeast, KeptDayEnds, last_states, windows_of}
@@ -30,7 +30,7 @@ use Rattle.std.proofs.lemmas.List.{length-drop, length-map}
 use Rattle.std.specs.Prelude.{Bool, List, None, Ok, Option, Some, [], length, true, ℕ, ◌+◌, ◌++◌, ◌-◌, ◌<◌, ◌∷◌, ◌≡◌, ◌≤◌, ◌⊎◌}
 
 -- what ends without a failing disk
-pub day_kept : {D : Type 0} (works : Setting → WindowText → WindowRecord → (ℕ → ℕ) → Type 0) (shown : Shown D) (course : Course) (options : Options) (sink : Writes) (day : Option (Day D)) (fault : Option Fault)
+pub day_kept : {D : Type 0} (works : Setting → WindowText → WindowRecord → (ℕ → ℕ) → Type 0) (shown : Shown D) (course : DayCourse) (options : Options) (sink : Writes) (day : Option (Day D)) (fault : Option Fault)
     → DayEndsOn works shown plain course options sink day fault → KeptDayEnds works shown course options sink day fault
 day_kept works shown course options sink day None ends = ends
 day_kept works shown course options sink day (Some (Refuses fault)) ends = ends
@@ -43,7 +43,7 @@ day_kept works shown course options sink day (Some (Cross window run follow)) en
 day_kept works shown course options sink day (Some Disk) ends = absurd ends
 day_kept works shown course options sink day (Some (Damaged slot)) ends = ends
 
-no_disk : {D : Type 0} (works : Setting → WindowText → WindowRecord → (ℕ → ℕ) → Type 0) (shown : Shown D) (course : Course) (options : Options) (sink : Writes) (day : Option (Day D)) (fault : Option Fault)
+no_disk : {D : Type 0} (works : Setting → WindowText → WindowRecord → (ℕ → ℕ) → Type 0) (shown : Shown D) (course : DayCourse) (options : Options) (sink : Writes) (day : Option (Day D)) (fault : Option Fault)
     → DayEndsOn works shown plain course options sink day fault → fault ≡ Some Disk → ⊥
 no_disk works shown course options sink day fault ends is = subst (λ (w : Option Fault). DayEndsOn works shown plain course options sink day w) is ends
 
@@ -84,7 +84,7 @@ module _ {Q : Type 0} (told : Bool) (seen : Q → List ℕ) (images : Q → List
     states_with : last_states records ++ state ∷ [] ≡ last_states more
     states_with = ap (λ s. last_states records ++ s ∷ []) is ∙ sym (states_more records closed) ∙ ap last_states (sym all)
 
-    kept_old : (homes : List (List Stand)) → kept_states kinds most (seen old.disk) ≡ Ok (homes ++ last_states records) → kept_by seen old ≡ Ok (homes ++ last_states records)
+    kept_old : (homes : List (List Stand)) → kept_states kinds most (seen old.disk) ≡ Ok (homes ++ last_states records) → states_kept seen old ≡ Ok (homes ++ last_states records)
     kept_old homes kept = (λ t. kept_states (so.kinds t) (so.most t) (seen old.disk)) ∙ kept
 
     -- while it is kept a crash leaves those before, and the new one or not
@@ -112,7 +112,7 @@ module _ {Q : Type 0} (told : Bool) (seen : Q → List ℕ) (images : Q → List
 
     -- the journal keeps one state more
     pub kept_more : (new : JournalState Q) → new.kinds ≡ old.kinds → new.most ≡ old.most → new.kept ≡ old.kept + 1 → failures old.disk ≤ failures new.disk
-        → (told ≡ true → AddsStates (kept_by seen old) (kept_by seen new) (state ∷ [])) → (told ≡ true → LeavesFirst seen moment since old new.disk (state ∷ []))
+        → (told ≡ true → AddsStates (states_kept seen old) (states_kept seen new) (state ∷ [])) → (told ≡ true → LeavesFirst seen moment since old new.disk (state ∷ []))
         → IsJournalSoFar told seen images moment since failures script before first more new
     kept_more new same_kinds same_most count later adds any = record {
       kinds = same_kinds ∙ so.kinds;
@@ -161,7 +161,7 @@ module _ {Q : Type 0} (told : Bool) (seen : Q → List ℕ) (images : Q → List
             );
       }
 
-  module _ {D : Type 0} (works : Setting → WindowText → WindowRecord → (ℕ → ℕ) → Type 0) (shown : Shown D) (course : Course) (options : Options) where
+  module _ {D : Type 0} (works : Setting → WindowText → WindowRecord → (ℕ → ℕ) → Type 0) (shown : Shown D) (course : DayCourse) (options : Options) where
     -- a day that has ended without a failing disk
     pub ended_kept : (sink : Writes) (first now : Q) (records : List WindowRecord) (journal : JournalState Q) (day : Option (Day D)) (fault : Option Fault)
         → IsJournalSoFar told seen images moment since failures script before first records journal → now ≡ journal.disk → (told ≡ true → LeavesThis (seen now) (images now))

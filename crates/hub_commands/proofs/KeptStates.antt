@@ -2,7 +2,7 @@
 use Rattle.history_book.specs.declared.records.WindowRecord.{WindowRecord}
 use Rattle.home_journal.specs.Journals.{KeepsFirst}
 use Rattle.home_journal.specs.KeptStates.{kept_states, states_from, with_first}
-use Rattle.home_journal.specs.Slots.{body_size, open_slots, state_of}
+use Rattle.home_journal.specs.Slots.{body_size, open_slots, slot_state}
 use Rattle.home_types.specs.declared.kinds.Kind.{Kind}
 use Rattle.home_types.specs.declared.worlds.Stand.{Stand}
 use Rattle.hub_commands.specs.KeptDays.{KeepsAtLeast, last_states, surely_kept}
@@ -64,7 +64,7 @@ few_open size (suc most) (gate ∷ rest) = by_gate (few_open size most (drop siz
 
 bad_from : (kinds : List Kind) (k : ℕ) (bodies : List (List ℕ)) (place : ℕ) → states_from kinds k bodies ≡ Err place → place < k + length bodies
 bad_from kinds k [] place is = absurd (cc)
-bad_from kinds k (body ∷ bodies) place is = by_first (state_of kinds (k + 1) body) (states_from kinds (k + 1) bodies) (bad_from kinds (k + 1) bodies) is
+bad_from kinds k (body ∷ bodies) place is = by_first (slot_state kinds (k + 1) body) (states_from kinds (k + 1) bodies) (bad_from kinds (k + 1) bodies) is
   where
     by_first : (o : Option (List Stand)) (rest : Result (List (List Stand)) ℕ) → ((p : ℕ) → rest ≡ Err p → p < (k + 1) + length bodies) → with_first k o rest ≡ Err place → place < k + suc (length bodies)
     by_first None rest behind found = let here : k ≡ place = cc in omega (arith, here)

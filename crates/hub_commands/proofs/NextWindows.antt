@@ -5,7 +5,7 @@ use Rattle.home_types.specs.Listed.{Listed}
 use Rattle.home_types.specs.declared.modes.Mode.{Mode}
 use Rattle.hub_commands.proofs.DaysUnderWay.{gone_on}
 use Rattle.hub_commands.proofs.PlayedWindows.{as_played}
-use Rattle.hub_commands.specs.Days.{Course, IsUnderWayOn, course_behind, script_of}
+use Rattle.hub_commands.specs.Days.{DayCourse, IsUnderWayOn, course_behind, script_of}
 use Rattle.hub_commands.specs.Finishes.{Shown}
 use Rattle.hub_commands.specs.Going.{NextIs, PlaysOneMore}
 use Rattle.hub_commands.specs.Played.{HasGoneOn, IsWorkedAs, NextIsOpened, setting_on}
@@ -64,7 +64,7 @@ pub next_kinds : {D : Type 0} (works : Setting → WindowText → WindowRecord �
 next_kinds works tag plan turns probes faults script mode k window before after hub closed is worked = worked.kinds ∙ ap (λ c. c.setting.kinds) is.opened.configuration
 
 -- the day has gone on by the window that was worked
-pub next_gone : {D : Type 0} (works : Setting → WindowText → WindowRecord → (ℕ → ℕ) → Type 0) (tag : D → ℕ) (plan : D → Option (List (ℕ × ℕ))) (stands turns probes faults : D → ℕ) (course : Course) (mode : Mode) (window : WindowText) (before after : HomeState D) (hub : OpenHub D) (records more : List WindowRecord) (closed : WindowRecord)
+pub next_gone : {D : Type 0} (works : Setting → WindowText → WindowRecord → (ℕ → ℕ) → Type 0) (tag : D → ℕ) (plan : D → Option (List (ℕ × ℕ))) (stands turns probes faults : D → ℕ) (course : DayCourse) (mode : Mode) (window : WindowText) (before after : HomeState D) (hub : OpenHub D) (records more : List WindowRecord) (closed : WindowRecord)
     → IsUnderWayOn works tag plan stands turns probes faults course mode before records → NextIsOpened tag turns probes faults (script_of course) mode (length records) before hub
     → slice_get (script_of course).windows.items (length records) ≡ Some window → IsWorkedAs works tag plan turns probes faults hub window after closed
     → HomeIsKept tag stands turns probes faults after → more ≡ records ++ closed ∷ []
@@ -77,7 +77,7 @@ next_gone works tag plan stands turns probes faults course mode window before af
     all
 
 -- what came of the next window behind so many of the script
-pub next_played : {D : Type 0} (works : Setting → WindowText → WindowRecord → (ℕ → ℕ) → Type 0) (shown : Shown D) (script : Script) (before : ℕ) (mode : Mode) (day : DayUnderWay D) (course : Course) (next : Result (DayUnderWay D) (Listed WindowRecord))
+pub next_played : {D : Type 0} (works : Setting → WindowText → WindowRecord → (ℕ → ℕ) → Type 0) (shown : Shown D) (script : Script) (before : ℕ) (mode : Mode) (day : DayUnderWay D) (course : DayCourse) (next : Result (DayUnderWay D) (Listed WindowRecord))
     → IsUnderWayOn works shown.tag shown.plan shown.stands shown.turns shown.probes shown.faults (course_behind script before course) mode day.home day.windows.items
     → IfOk next (λ played. PlaysOneMore works shown.tag shown.plan shown.stands shown.turns shown.probes shown.faults script before mode day played) → IfErr next (λ windows. windows.items ≡ day.windows.items)
     → NextIs works shown (course_behind script before course) mode day.windows.items next
@@ -85,7 +85,7 @@ next_played works shown script before mode day course (Ok next) under played sam
 next_played works shown script before mode day course (Err windows) under played same = same
 
 -- what came of it
-pub next_is : {D : Type 0} (works : Setting → WindowText → WindowRecord → (ℕ → ℕ) → Type 0) (shown : Shown D) (course : Course) (mode : Mode) (records : List WindowRecord) (next : Result (DayUnderWay D) (Listed WindowRecord))
+pub next_is : {D : Type 0} (works : Setting → WindowText → WindowRecord → (ℕ → ℕ) → Type 0) (shown : Shown D) (course : DayCourse) (mode : Mode) (records : List WindowRecord) (next : Result (DayUnderWay D) (Listed WindowRecord))
     → IfOk next (λ day. HasGoneOn works shown.tag shown.plan shown.stands shown.turns shown.probes shown.faults course mode records day.home day.windows.items) → IfErr next (λ windows. windows.items ≡ records)
     → NextIs works shown course mode records next
 next_is works shown course mode records (Ok day) gone same = gone

@@ -11,7 +11,7 @@ use Rattle.legal_days.specs.LegalDays.{IsLegalCutDayFrom, IsLegalDayFrom}
 use Rattle.hub_commands.proofs.DaysUnderWay.{cut_is_legal, day_is_legal, no_window}
 use Rattle.hub_commands.proofs.Snocs.{no_snoc, snoc_front}
 use Rattle.hub_commands.proofs.Texts.{appends_keeps, appends_more, due_whole, keeps_appends, part_more, part_wider, text_more, text_starts, text_whole, whole_first}
-use Rattle.hub_commands.specs.Days.{Course, DevicesAreProbed, IsUnderWayOn, WindowsArePlayedOn, plain, script_of, text_due_on, text_on}
+use Rattle.hub_commands.specs.Days.{DayCourse, DevicesAreProbed, IsUnderWayOn, WindowsArePlayedOn, plain, script_of, text_due_on, text_on}
 use Rattle.hub_commands.specs.Finishes.{AppendsFirst, DayEndsOn, IsCutOn, IsStarvedOn, IsWholeOn, IsWrittenAsClosedOn, Shown, written}
 use Rattle.hub_commands.specs.Going.{IsGoingOn}
 use Rattle.hub_commands.specs.Pieces.{PieceEnds, StopEnds}
@@ -27,7 +27,7 @@ use Rattle.std.specs.Io.KnownBytes.{Appends, Keeps}
 use Rattle.std.specs.Prelude.{Err, IfOk, List, None, Ok, Option, Result, Some, [], if◌then◌else◌, length, take, ℕ, ◌+◌, ◌++◌, ◌==◌, ◌∷◌, ◌≡◌}
 
 -- what follows the texts so far in the text that is due
-abbrev after_texts : Course → List WindowRecord → List ℕ
+abbrev after_texts : DayCourse → List WindowRecord → List ℕ
 after_texts course records = if length records == length (script_of course).windows.items then total_text records else []
 
 pub said : {M : Type 0} (piece : Result (List ℕ) M) (text bytes : List ℕ) → IfOk piece (λ b. b ≡ text) → piece ≡ Ok bytes → bytes ≡ text
@@ -39,23 +39,23 @@ keeps_same None = tt
 keeps_same (Some bytes) = refl
 
 -- these bytes begin with the text of the windows but the last
-abbrev pub LeadWith : Course → Options → List WindowRecord → List ℕ → Type 0
+abbrev pub LeadWith : DayCourse → Options → List WindowRecord → List ℕ → Type 0
 LeadWith course options records bytes = (before : List WindowRecord) (closed : WindowRecord) → records ≡ before ++ closed ∷ []
     → (rest : List ℕ) × (bytes ≡ text_on course options.mode options.trace before ++ rest)
 
 -- with no window there is none to write
-pub none_leads : (course : Course) (options : Options) (records : List WindowRecord) (bytes : List ℕ) → records ≡ [] → LeadWith course options records bytes
+pub none_leads : (course : DayCourse) (options : Options) (records : List WindowRecord) (bytes : List ℕ) → records ≡ [] → LeadWith course options records bytes
 none_leads course options records bytes none before closed is = absurd (no_snoc before closed (sym none ∙ is))
 
 -- the text of all windows does
-pub all_lead : (course : Course) (options : Options) (records : List WindowRecord) → LeadWith course options records (text_on course options.mode options.trace records)
+pub all_lead : (course : DayCourse) (options : Options) (records : List WindowRecord) → LeadWith course options records (text_on course options.mode options.trace records)
 all_lead course options records before closed is = (
   window_text course.begins.script (course.begins.before + length before) closed options.mode options.trace,
   ap (λ rs. text_on course options.mode options.trace rs) is ∙ text_more course options.mode options.trace before closed,
 )
 
 -- the text of the windows but the last does
-pub rest_lead : (course : Course) (options : Options) (earlier : List WindowRecord) (last : WindowRecord) (records : List WindowRecord) → records ≡ earlier ++ last ∷ []
+pub rest_lead : (course : DayCourse) (options : Options) (earlier : List WindowRecord) (last : WindowRecord) (records : List WindowRecord) → records ≡ earlier ++ last ∷ []
     → LeadWith course options records (text_on course options.mode options.trace earlier)
 rest_lead course options earlier last records all before closed is = (
   [],
@@ -63,20 +63,20 @@ rest_lead course options earlier last records all before closed is = (
 )
 
 -- so the sink that got these bytes, and any more, has each window but the last
-pub lead_written : (course : Course) (options : Options) (held holds : Option (List ℕ)) (f f_after : ℕ) (records : List WindowRecord) (bytes more : List ℕ)
+pub lead_written : (course : DayCourse) (options : Options) (held holds : Option (List ℕ)) (f f_after : ℕ) (records : List WindowRecord) (bytes more : List ℕ)
     → LeadWith course options records bytes → Appends held holds (bytes ++ more) → IsWrittenAsClosedOn course options (written held holds f f_after) records
 lead_written course options held holds f f_after records bytes more leads got before closed is =
     let own = leads before closed is in
     (own.0 ++ more, subst (λ t. Appends held holds t) (ap (λ t. t ++ more) own.1 ∙ append_assoc (text_on course options.mode options.trace before) own.0 more) got)
 
 -- the same where it got these bytes alone
-pub lead_whole : (course : Course) (options : Options) (held holds : Option (List ℕ)) (f f_after : ℕ) (records : List WindowRecord) (bytes : List ℕ)
+pub lead_whole : (course : DayCourse) (options : Options) (held holds : Option (List ℕ)) (f f_after : ℕ) (records : List WindowRecord) (bytes : List ℕ)
     → LeadWith course options records bytes → Appends held holds bytes → IsWrittenAsClosedOn course options (written held holds f f_after) records
 lead_whole course options held holds f f_after records bytes leads got =
     lead_written course options held holds f f_after records bytes [] leads (subst (λ t. Appends held holds t) (sym (append-nil bytes)) got)
 
 -- a piece was not written: the sink has all before it, and a first part of it
-stopped : {D M : Type 0} (works : Setting → WindowText → WindowRecord → (ℕ → ℕ) → Type 0) (shown : Shown D) (course : Course) (options : Options) (held mid holds : Option (List ℕ)) (f f_mid f_after : ℕ) (home : HomeState D) (windows : Listed WindowRecord) (before : List ℕ) (piece : Result (List ℕ) M) (fault : PieceFault) (day : Option (Day D)) (why : Option Fault)
+stopped : {D M : Type 0} (works : Setting → WindowText → WindowRecord → (ℕ → ℕ) → Type 0) (shown : Shown D) (course : DayCourse) (options : Options) (held mid holds : Option (List ℕ)) (f f_mid f_after : ℕ) (home : HomeState D) (windows : Listed WindowRecord) (before : List ℕ) (piece : Result (List ℕ) M) (fault : PieceFault) (day : Option (Day D)) (why : Option Fault)
     → IsUnderWayOn works shown.tag shown.plan shown.stands shown.turns shown.probes shown.faults course options.mode home windows.items
     → Appends held mid before → LeadWith course options windows.items before → f_mid ≡ f
     → PieceEnds (written mid holds f_mid f_after) piece (Err fault) → StopEnds windows home.devices fault day why
@@ -114,14 +114,14 @@ stopped works shown course options held mid holds f f_mid f_after home windows b
     subst (λ (w : Option Fault). DayEndsOn works shown plain course options (written held holds f f_after) day w) (sym stop.1) starved
 
 -- the home before its first window
-home_starts : {D : Type 0} (works : Setting → WindowText → WindowRecord → (ℕ → ℕ) → Type 0) (shown : Shown D) (course : Course) (mode : Mode) (home : HomeState D) (records : List WindowRecord)
+home_starts : {D : Type 0} (works : Setting → WindowText → WindowRecord → (ℕ → ℕ) → Type 0) (shown : Shown D) (course : DayCourse) (mode : Mode) (home : HomeState D) (records : List WindowRecord)
     → IsUnderWayOn works shown.tag shown.plan shown.stands shown.turns shown.probes shown.faults course mode home [] → records ≡ []
     → IsUnderWayOn works shown.tag shown.plan shown.stands shown.turns shown.probes shown.faults course mode home records
 home_starts works shown course mode home records starts none =
     subst (λ rs. IsUnderWayOn works shown.tag shown.plan shown.stands shown.turns shown.probes shown.faults course mode home rs) (sym none) starts
 
 -- the head is written, with the lines below it
-pub begun : {D M : Type 0} (works : Setting → WindowText → WindowRecord → (ℕ → ℕ) → Type 0) (shown : Shown D) (course : Course) (options : Options) (held holds : Option (List ℕ)) (f f_after : ℕ) (home : HomeState D) (records : List WindowRecord) (piece : Result (List ℕ) M)
+pub begun : {D M : Type 0} (works : Setting → WindowText → WindowRecord → (ℕ → ℕ) → Type 0) (shown : Shown D) (course : DayCourse) (options : Options) (held holds : Option (List ℕ)) (f f_after : ℕ) (home : HomeState D) (records : List WindowRecord) (piece : Result (List ℕ) M)
     → IsUnderWayOn works shown.tag shown.plan shown.stands shown.turns shown.probes shown.faults course options.mode home [] → records ≡ []
     → IfOk piece (λ b. b ≡ head_text options.mode ++ course.above) → PieceEnds (written held holds f f_after) piece (Ok tt)
     → IsGoingOn works shown course options (written held holds f f_after) home records
@@ -138,7 +138,7 @@ head_alone (Ok bytes) mode is = is ∙ sym (append-nil (head_text mode))
 head_alone (Err e) mode is = tt
 
 -- the head is not written
-pub head_stopped : {D M : Type 0} (works : Setting → WindowText → WindowRecord → (ℕ → ℕ) → Type 0) (shown : Shown D) (course : Course) (options : Options) (held holds : Option (List ℕ)) (f f_after : ℕ) (home : HomeState D) (windows : Listed WindowRecord) (piece : Result (List ℕ) M) (fault : PieceFault) (day : Option (Day D)) (why : Option Fault)
+pub head_stopped : {D M : Type 0} (works : Setting → WindowText → WindowRecord → (ℕ → ℕ) → Type 0) (shown : Shown D) (course : DayCourse) (options : Options) (held holds : Option (List ℕ)) (f f_after : ℕ) (home : HomeState D) (windows : Listed WindowRecord) (piece : Result (List ℕ) M) (fault : PieceFault) (day : Option (Day D)) (why : Option Fault)
     → IsUnderWayOn works shown.tag shown.plan shown.stands shown.turns shown.probes shown.faults course options.mode home [] → windows.items ≡ []
     → IfOk piece (λ b. b ≡ head_text options.mode ++ course.above) → PieceEnds (written held holds f f_after) piece (Err fault) → StopEnds windows home.devices fault day why
     → DayEndsOn works shown plain course options (written held holds f f_after) day why
@@ -154,7 +154,7 @@ head_stopped works shown course options held holds f f_after home windows piece 
     ))
 
 -- a window was played, and its lines are written
-pub goes_on : {D M : Type 0} (works : Setting → WindowText → WindowRecord → (ℕ → ℕ) → Type 0) (shown : Shown D) (course : Course) (options : Options) (held mid holds : Option (List ℕ)) (f f_mid f_after : ℕ) (home next : HomeState D) (records more : List WindowRecord) (piece : Result (List ℕ) M)
+pub goes_on : {D M : Type 0} (works : Setting → WindowText → WindowRecord → (ℕ → ℕ) → Type 0) (shown : Shown D) (course : DayCourse) (options : Options) (held mid holds : Option (List ℕ)) (f f_mid f_after : ℕ) (home next : HomeState D) (records more : List WindowRecord) (piece : Result (List ℕ) M)
     → IsGoingOn works shown course options (written held mid f f_mid) home records
     → HasGoneOn works shown.tag shown.plan shown.stands shown.turns shown.probes shown.faults course options.mode records next more
     → ((before : List WindowRecord) (closed : WindowRecord) → more ≡ before ++ closed ∷ [] → IfOk piece (λ lines. lines ≡ window_text course.begins.script (course.begins.before + length before) closed options.mode options.trace))
@@ -171,7 +171,7 @@ goes_on works shown course options held mid holds f f_mid f_after home next reco
     }
 
 -- its lines are not written
-pub lines_stopped : {D M : Type 0} (works : Setting → WindowText → WindowRecord → (ℕ → ℕ) → Type 0) (shown : Shown D) (course : Course) (options : Options) (held mid holds : Option (List ℕ)) (f f_mid f_after : ℕ) (home next : HomeState D) (records : List WindowRecord) (windows : Listed WindowRecord) (piece : Result (List ℕ) M) (fault : PieceFault) (day : Option (Day D)) (why : Option Fault)
+pub lines_stopped : {D M : Type 0} (works : Setting → WindowText → WindowRecord → (ℕ → ℕ) → Type 0) (shown : Shown D) (course : DayCourse) (options : Options) (held mid holds : Option (List ℕ)) (f f_mid f_after : ℕ) (home next : HomeState D) (records : List WindowRecord) (windows : Listed WindowRecord) (piece : Result (List ℕ) M) (fault : PieceFault) (day : Option (Day D)) (why : Option Fault)
     → IsGoingOn works shown course options (written held mid f f_mid) home records
     → HasGoneOn works shown.tag shown.plan shown.stands shown.turns shown.probes shown.faults course options.mode records next windows.items
     → ((before : List WindowRecord) (closed : WindowRecord) → windows.items ≡ before ++ closed ∷ [] → IfOk piece (λ lines. lines ≡ window_text course.begins.script (course.begins.before + length before) closed options.mode options.trace))
@@ -195,7 +195,7 @@ lines_stopped works shown course options held mid holds f f_mid f_after home nex
         (ap (λ rs. text_on course options.mode options.trace rs) gone.more ∙ text_more course options.mode options.trace records gone.closed)
 
 -- the total is not written
-pub total_stopped : {D M : Type 0} (works : Setting → WindowText → WindowRecord → (ℕ → ℕ) → Type 0) (shown : Shown D) (course : Course) (options : Options) (held mid holds : Option (List ℕ)) (f f_mid f_after : ℕ) (home : HomeState D) (windows : Listed WindowRecord) (piece : Result (List ℕ) M) (fault : PieceFault) (day : Option (Day D)) (why : Option Fault)
+pub total_stopped : {D M : Type 0} (works : Setting → WindowText → WindowRecord → (ℕ → ℕ) → Type 0) (shown : Shown D) (course : DayCourse) (options : Options) (held mid holds : Option (List ℕ)) (f f_mid f_after : ℕ) (home : HomeState D) (windows : Listed WindowRecord) (piece : Result (List ℕ) M) (fault : PieceFault) (day : Option (Day D)) (why : Option Fault)
     → IsGoingOn works shown course options (written held mid f f_mid) home windows.items
     → length windows.items ≡ length (script_of course).windows.items
     → IfOk piece (λ b. b ≡ total_text windows.items)
@@ -213,7 +213,7 @@ total_stopped works shown course options held mid holds f f_mid f_after home win
     ))
 
 -- all is written
-pub finished : {D M : Type 0} (works : Setting → WindowText → WindowRecord → (ℕ → ℕ) → Type 0) (shown : Shown D) (course : Course) (options : Options) (held mid holds : Option (List ℕ)) (f f_mid f_after : ℕ) (home : HomeState D) (windows : Listed WindowRecord) (devices : Listed D) (piece : Result (List ℕ) M)
+pub finished : {D M : Type 0} (works : Setting → WindowText → WindowRecord → (ℕ → ℕ) → Type 0) (shown : Shown D) (course : DayCourse) (options : Options) (held mid holds : Option (List ℕ)) (f f_mid f_after : ℕ) (home : HomeState D) (windows : Listed WindowRecord) (devices : Listed D) (piece : Result (List ℕ) M)
     → IsGoingOn works shown course options (written held mid f f_mid) home windows.items
     → length windows.items ≡ length (script_of course).windows.items
     → IfOk piece (λ b. b ≡ total_text windows.items)
@@ -236,7 +236,7 @@ finished works shown course options held mid holds f f_mid f_after home windows 
 }
 
 -- no memory for the next window
-pub starved : {D : Type 0} (works : Setting → WindowText → WindowRecord → (ℕ → ℕ) → Type 0) (shown : Shown D) (course : Course) (options : Options) (held holds : Option (List ℕ)) (f f_after : ℕ) (home : HomeState D) (records : List WindowRecord) (windows : Listed WindowRecord) (day : Option (Day D)) (why : Option Fault)
+pub starved : {D : Type 0} (works : Setting → WindowText → WindowRecord → (ℕ → ℕ) → Type 0) (shown : Shown D) (course : DayCourse) (options : Options) (held holds : Option (List ℕ)) (f f_after : ℕ) (home : HomeState D) (records : List WindowRecord) (windows : Listed WindowRecord) (day : Option (Day D)) (why : Option Fault)
     → IsGoingOn works shown course options (written held holds f f_after) home records → windows.items ≡ records
     → day ≡ Some (record { windows = windows; devices = None }) → why ≡ Some WantsMemory
     → DayEndsOn works shown plain course options (written held holds f f_after) day why
@@ -256,7 +256,7 @@ starved works shown course options held holds f f_after home records windows day
     subst (λ (w : Option Fault). DayEndsOn works shown plain course options (written held holds f f_after) day w) (sym because) ends
 
 -- no memory for the home
-pub unbuilt : {D : Type 0} (works : Setting → WindowText → WindowRecord → (ℕ → ℕ) → Type 0) (shown : Shown D) (course : Course) (options : Options) (held : Option (List ℕ)) (f : ℕ) (windows : Listed WindowRecord) (day : Option (Day D)) (why : Option Fault)
+pub unbuilt : {D : Type 0} (works : Setting → WindowText → WindowRecord → (ℕ → ℕ) → Type 0) (shown : Shown D) (course : DayCourse) (options : Options) (held : Option (List ℕ)) (f : ℕ) (windows : Listed WindowRecord) (day : Option (Day D)) (why : Option Fault)
     → windows.items ≡ [] → day ≡ Some (record { windows = windows; devices = None }) → why ≡ Some WantsMemory
     → DayEndsOn works shown plain course options (written held held f f) day why
 unbuilt works shown course options held f windows day why none given because =

@@ -2,7 +2,7 @@
 use Rattle.command_words.specs.declared.command_lines.Options.{Options}
 use Rattle.hub_commands.specs.Calls.{IsProbedInAll}
 use Rattle.hub_commands.specs.Days.{Closing}
-use Rattle.hub_commands.specs.Finishes.{DayEnds, IsRead, IsWhole, Reads, Shown, Writes}
+use Rattle.hub_commands.specs.Finishes.{DayEnds, DayIsWhole, IsRead, Reads, Shown, Writes}
 use Rattle.hub_commands.specs.Ways.{IsRunWithin}
 use Rattle.hub_commands.specs.declared.faults.Fault.{Fault}
 use Rattle.hub_commands.specs.declared.finishes.Day.{Day}
@@ -24,7 +24,7 @@ same_folds (t ∷ takes) (w ∷ windows) d n same each =
     ∙ ap (λ m. fold (λ a window. a + window.probes) (n + m) windows) (each zero w t refl refl)
 
 in_all : {D : Type 0} (earliest latest : ℕ) (shown : Shown D) (closing : Closing) (script : Script) (options : Options) (source : Reads) (sink : Writes) (day : Option (Day D))
-    → IsRead source script → IsWhole (IsRunWithin earliest latest) shown closing script options sink day → IsProbedInAll shown.probes source day
+    → IsRead source script → DayIsWhole (IsRunWithin earliest latest) shown closing script options sink day → IsProbedInAll shown.probes source day
 in_all earliest latest shown closing script options source sink day read whole = record {
   script = script;
   read = read;

@@ -17,7 +17,7 @@ use Rattle.hub_commands.specs.RoomDays.{RoomsAreLeft, RoomsAreUnderWay, Windows,
 use Rattle.hub_commands.specs.RoomDevices.{AreAllPlaced, HasDevicesOf, HasRoomFor, IsRoomed}
 use Rattle.hub_commands.specs.RoomGoing.{AreTold, IsFirstDay, IsRoomDay, IsWrittenSoFar, RoomGoesOn, RoomNextIs, RoomStopEnds, TellsLines, lines_from}
 use Rattle.hub_commands.specs.RoomPlays.{RoomsWent}
-use Rattle.hub_commands.specs.Statuses.{status_of}
+use Rattle.hub_commands.specs.Statuses.{status_for_fault}
 use Rattle.hub_commands.specs.declared.faults.Fault.TheVariants.{Memory as WantsMemory}
 use Rattle.hub_commands.specs.declared.pieces.PieceFault.{PieceFault}
 use Rattle.hub_commands.specs.declared.room_days.RoomDay.{RoomDay}
@@ -100,7 +100,7 @@ module _ {D : Type 0} (earliest latest : ℕ) (shown : Shown D) (script : Script
   }
 
   -- no memory for the homes
-  pub begin_unbuilt : (held : Option (List ℕ)) (f : ℕ) (finish : RoomFinish D) → finish.status ≡ status_of finish.fault → finish.windows.items ≡ [] → finish.devices ≡ None → finish.fault ≡ Some WantsMemory
+  pub begin_unbuilt : (held : Option (List ℕ)) (f : ℕ) (finish : RoomFinish D) → finish.status ≡ status_for_fault finish.fault → finish.windows.items ≡ [] → finish.devices ≡ None → finish.fault ≡ Some WantsMemory
       → RoomGoesOn earliest latest shown script mode (written held held f f) 0 (Err finish)
   begin_unbuilt held f finish status windows devices fault = (
     status,
@@ -118,7 +118,7 @@ module _ {D : Type 0} (earliest latest : ℕ) (shown : Shown D) (script : Script
 
   pub begin_stopped : {M : Type 0} (held holds : Option (List ℕ)) (f f_after : ℕ) (piece : Result (List ℕ) M) (fault : PieceFault) (day : RoomDay D) (finish : RoomFinish D) → IsFirstDay shown script day
       → IfOk piece (λ b. b ≡ head_text mode) → PieceEnds (written held holds f f_after) piece (Err fault)
-      → finish.status ≡ status_of finish.fault → finish.windows ≡ day.windows → RoomStopEnds rooms.room_of.items day.homes.items fault finish.devices finish.fault
+      → finish.status ≡ status_for_fault finish.fault → finish.windows ≡ day.windows → RoomStopEnds rooms.room_of.items day.homes.items fault finish.devices finish.fault
       → RoomGoesOn earliest latest shown script mode (written held holds f f_after) 0 (Err finish)
   begin_stopped held holds f f_after piece fault day finish first ok ended status windows stop = (
     status,
@@ -155,7 +155,7 @@ module _ {D : Type 0} (earliest latest : ℕ) (shown : Shown D) (script : Script
   -- no memory for it
   pub next_starved : (held holds : Option (List ℕ)) (f f_after : ℕ) (before : Windows) (windows : Listed (Listed RoomWindow)) (finish : RoomFinish D)
       → IsWrittenSoFar script mode (written held holds f f_after) before → RoomNextIs earliest latest shown script mode before (Err windows)
-      → finish.status ≡ status_of finish.fault → finish.windows ≡ windows → finish.devices ≡ None → finish.fault ≡ Some WantsMemory
+      → finish.status ≡ status_for_fault finish.fault → finish.windows ≡ windows → finish.devices ≡ None → finish.fault ≡ Some WantsMemory
       → RoomGoesOn earliest latest shown script mode (written held holds f f_after) (suc (length before)) (Err finish)
   next_starved held holds f f_after before windows finish so_far missed status same devices fault = (
     status,
@@ -196,7 +196,7 @@ module _ {D : Type 0} (earliest latest : ℕ) (shown : Shown D) (script : Script
           )
 
       pub next_stopped : (fault : PieceFault) (finish : RoomFinish D) → PieceEnds (written mid holds f_mid f_after) piece (Err fault)
-          → finish.status ≡ status_of finish.fault → finish.windows ≡ day.windows → RoomStopEnds rooms.room_of.items day.homes.items fault finish.devices finish.fault
+          → finish.status ≡ status_for_fault finish.fault → finish.windows ≡ day.windows → RoomStopEnds rooms.room_of.items day.homes.items fault finish.devices finish.fault
           → RoomGoesOn earliest latest shown script mode (written held holds f f_after) (suc (length before)) (Err finish)
       next_stopped fault finish ended status windows stop =
           let under_way = subst (λ ws. RoomsAreUnderWay earliest latest shown script mode day.homes.items ws) next.1 next.2.under_way in (

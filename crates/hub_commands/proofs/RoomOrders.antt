@@ -14,7 +14,7 @@ use Rattle.home_types.specs.HomeStates.{stand_at}
 use Rattle.home_types.specs.declared.worlds.Stand.{Stand}
 use Rattle.hub_commands.proofs.MergedLists.{HaveRoom, answered, each_item, record_at, same_order}
 use Rattle.hub_commands.proofs.OwnItems.{is_stray, none_strays}
-use Rattle.hub_commands.specs.RoomDays.{AgreesWithRooms, AreSplit, EachOrderAgrees, Windows, home_before, home_executed, records_of, room_count}
+use Rattle.hub_commands.specs.RoomDays.{AgreesWithRooms, AreSplit, EachOrderAgrees, Windows, home_executed, records_of, room_count, rooms_home_before}
 use Rattle.legal_days.proofs.Lists.{at_place}
 use Rattle.legal_days.specs.LegalDays.{RecordsAreLegal, setting_of, state_after}
 use Rattle.legal_days.specs.LegalWindows.{IsLegalWindow, IsSeriallyLegal, IsWeaklyLegal, history_of}
@@ -24,12 +24,12 @@ use Rattle.room_hubs.proofs.Merges.{whole}
 use Rattle.room_hubs.proofs.Parts.{none_passes, parts}
 use Rattle.room_hubs.proofs.RoomScripts.{own_kinds_are, own_runs_are, own_start_is}
 use Rattle.room_hubs.proofs.SoundRuns.{rooms_size, split_is, split_parts}
-use Rattle.room_hubs.specs.Merges.{HasOwnOrder, InStep, IsMerge, Merge, PartHome, RoomOrders, answers_of, home_order, joined_merge, no_room, order_in, own_order, room_in, room_order}
+use Rattle.room_hubs.specs.Merges.{HasOwnOrder, InStep, IsMerge, Merge, PartHome, RoomOrders, answers_of, home_order, joined_merge, no_room, order_of_room, own_order, room_in, room_order}
 use Rattle.room_hubs.specs.Numbers.{IsOwnDevice, IsOwnItem, IsOwnRun, Room, home_device, home_run, plain_room, room_home, room_kinds}
 use Rattle.room_hubs.specs.RoomScripts.{own_script}
 use Rattle.room_hubs.specs.Rooms.{rooms_of}
 use Rattle.room_hubs.specs.Splits.{room_at, runs_in}
-use Rattle.room_hubs.specs.ToldWindows.{RoomHome, joined_home, last_of}
+use Rattle.room_hubs.specs.ToldWindows.{RoomHome, joined_home, last_of_room}
 use Rattle.room_hubs.specs.declared.rosters.RoomWindow.{RoomWindow}
 use Rattle.routine_reader.specs.Rosters.{kinds_of, script_runs}
 use Rattle.routine_reader.specs.Scripts.{plain_script}
@@ -153,22 +153,22 @@ module _ (script : Script) (sound : IsSound (plain_script script)) (mode : Mode)
   -- ---- the home and its rooms at a window's start
 
   abbrev Starts : ℕ → Type 0
-  Starts w = (k : ℕ) → k < room_count script → room_home (At w k) (home_before script windows w) ≡ state_after (own_script script k) (records_of k windows) w
+  Starts w = (k : ℕ) → k < room_count script → room_home (At w k) (rooms_home_before script windows w) ≡ state_after (own_script script k) (records_of k windows) w
 
   first_size : (w k : ℕ) → Starts w → k < room_count script → length (Fixed k w).first ≡ length (At w k).devices
   first_size w k starts inside = sym (ap (λ l. length l) (starts k inside)) ∙ length-map (At w k).devices _
 
-  home_size : (w : ℕ) → w ≤ length windows → length (home_before script windows w) ≡ length RoomOf
+  home_size : (w : ℕ) → w ≤ length windows → length (rooms_home_before script windows w) ≡ length RoomOf
   home_size zero within = length-map script.devices.items _ ∙ sym (rooms_size script)
   home_size (suc w) within = by (at_place windows w (omega (arith, within)))
     where
-      by : (ws : Listed RoomWindow) × (slice_get windows w ≡ Some ws) → length (home_before script windows (suc w)) ≡ length RoomOf
-      by (ws, at) = ap (λ (o : Option (Listed RoomWindow)). length (unwrap_or (option_map (λ (x : Listed RoomWindow). joined_home RoomOf (map last_of x.items)) o) [])) at
+      by : (ws : Listed RoomWindow) × (slice_get windows w ≡ Some ws) → length (rooms_home_before script windows (suc w)) ≡ length RoomOf
+      by (ws, at) = ap (λ (o : Option (Listed RoomWindow)). length (unwrap_or (option_map (λ (x : Listed RoomWindow). joined_home RoomOf (map last_of_room x.items)) o) [])) at
           ∙ length-map (range_with_len 0 (length RoomOf)) _ ∙ length-range_with_len 0 (length RoomOf)
 
   module _ (w : ℕ) (ws : Listed RoomWindow) (at : slice_get windows w ≡ Some ws) (starts : Starts w) where
     abbrev Home : List Stand
-    Home = home_before script windows w
+    Home = rooms_home_before script windows w
 
     part : PartHome (At w) (script_runs script w) Home
     part = parts RoomOf (script_runs script w) Home (home_size w (let within = slice_get_within windows w ws at in omega (arith, within)))
@@ -180,7 +180,7 @@ module _ (script : Script) (sound : IsSound (plain_script script)) (mode : Mode)
     no_order : (k : ℕ) → length ws.items ≤ k → slice_index_or (orders_of ws) k (no_room, []) ≡ (no_room, [])
     no_order k past = get_or_past (orders_of ws) k (no_room, []) (omega (arith, past, length-map ws.items room_order))
 
-    module _ (merge : Merge) (own : (k : ℕ) → own_order k merge ≡ order_in (orders_of ws) k) where
+    module _ (merge : Merge) (own : (k : ℕ) → own_order k merge ≡ order_of_room (orders_of ws) k) where
       own_is_of : (k : ℕ) (window : RoomWindow) → slice_get ws.items k ≡ Some window → own_order k merge ≡ window.closed.order.items
       own_is_of k window here = own k ∙ ap (λ x. x.1) (order_is k window here)
 
@@ -264,18 +264,18 @@ module _ (script : Script) (sound : IsSound (plain_script script)) (mode : Mode)
   starts_at zero within k inside = sym (own_start_is script k 0)
   starts_at (suc w) within k inside = by (starts_at w (omega (arith, within))) (at_place windows w (omega (arith, within)))
     where
-      by : Starts w → (ws : Listed RoomWindow) × (slice_get windows w ≡ Some ws) → room_home (At (suc w) k) (home_before script windows (suc w)) ≡ state_after (own_script script k) (records_of k windows) (suc w)
+      by : Starts w → (ws : Listed RoomWindow) × (slice_get windows w ≡ Some ws) → room_home (At (suc w) k) (rooms_home_before script windows (suc w)) ≡ state_after (own_script script k) (records_of k windows) (suc w)
       by starts (ws, at) = by_window (at_place ws.items k (have_room k inside w ws at))
         where
-          by_window : (window : RoomWindow) × (slice_get ws.items k ≡ Some window) → room_home (At (suc w) k) (home_before script windows (suc w)) ≡ state_after (own_script script k) (records_of k windows) (suc w)
+          by_window : (window : RoomWindow) × (slice_get ws.items k ≡ Some window) → room_home (At (suc w) k) (rooms_home_before script windows (suc w)) ≡ state_after (own_script script k) (records_of k windows) (suc w)
           by_window (window, here) =
               let roster = (roster_is w k ws window at here).1 in
               let size = last_size w ws at starts (joined_merge 0 (orders_of ws)) (own_is (orders_of ws)) k window here in
-              let home : RoomHome = last_of window in
-              let there : slice_index_or (map last_of ws.items) k ([], []) ≡ home =
-              get_or-map last_of ws.items k window ([], []) (slice_get_within ws.items k window here) ∙ ap last_of (get_or_from_slice_get ws.items k window window here) in
-              ap (λ (o : Option (Listed RoomWindow)). room_home (At (suc w) k) (unwrap_or (option_map (λ (x : Listed RoomWindow). joined_home RoomOf (map last_of x.items)) o) [])) at
-              ∙ home_of_rooms RoomOf (map last_of ws.items) (At (suc w) k) k home refl there (ap (λ (x : Room). x.devices) roster) size
+              let home : RoomHome = last_of_room window in
+              let there : slice_index_or (map last_of_room ws.items) k ([], []) ≡ home =
+              get_or-map last_of_room ws.items k window ([], []) (slice_get_within ws.items k window here) ∙ ap last_of_room (get_or_from_slice_get ws.items k window window here) in
+              ap (λ (o : Option (Listed RoomWindow)). room_home (At (suc w) k) (unwrap_or (option_map (λ (x : Listed RoomWindow). joined_home RoomOf (map last_of_room x.items)) o) [])) at
+              ∙ home_of_rooms RoomOf (map last_of_room ws.items) (At (suc w) k) k home refl there (ap (λ (x : Room). x.devices) roster) size
               ∙ sym (ap (λ (o : Option WindowRecord). unwrap_or (option_map (λ (c : WindowRecord). c.last.devices.items) o) []) (record_at k windows w ws window (have_room k inside) at here))
 
   starts_there : (w : ℕ) (ws : Listed RoomWindow) → slice_get windows w ≡ Some ws → Starts w

@@ -23,7 +23,7 @@ use Rattle.hub_commands.specs.declared.pieces.PieceFault.TheVariants.{Memory, Si
 use Rattle.hub_commands.specs.declared.pieces.PieceFault.{PieceFault}
 use Rattle.hub_core.specs.Homes.{HomeState}
 use Rattle.room_hubs.specs.Rooms.{rooms_of}
-use Rattle.room_hubs.specs.ToldWindows.{IsToldOf, told_record}
+use Rattle.room_hubs.specs.ToldWindows.{IsToldOfRooms, told_record}
 use Rattle.room_hubs.specs.declared.rosters.RoomWindow.{RoomWindow}
 use Rattle.routine_reader.specs.declared.scripts.Script.{Script}
 use Rattle.std.proofs.Common.{ap, append-nil, append_assoc, arith, length, map, refl, subst, sym, ◌∙◌}
@@ -76,14 +76,14 @@ same_total a b same =
 
 -- ---- what was told of a window
 
-told_one : (script : Script) (mode : Mode) (ws : Listed RoomWindow) (last : WindowRecord) → IsToldOf (rooms_of script).room_of ws.items last → lines_from last ≡ lines_from (told_record (rooms_of script).room_of mode ws.items)
+told_one : (script : Script) (mode : Mode) (ws : Listed RoomWindow) (last : WindowRecord) → IsToldOfRooms (rooms_of script).room_of ws.items last → lines_from last ≡ lines_from (told_record (rooms_of script).room_of mode ws.items)
 told_one script mode ws last is = λ i. record { history = is.history i; order = is.order i; last = is.last i }
 
 told_snoc : (script : Script) (mode : Mode) (windows : Windows) (ws : Listed RoomWindow) → told_records script mode (windows ++ ws ∷ []) ≡ told_records script mode windows ++ told_record (rooms_of script).room_of mode ws.items ∷ []
 told_snoc script mode windows ws = map-append (λ (xs : Listed RoomWindow). told_record (rooms_of script).room_of mode xs.items) windows (ws ∷ [])
 
 -- one window more is told
-pub told_more : (script : Script) (mode : Mode) (windows : Windows) (ws : Listed RoomWindow) (told : List WindowRecord) (last : WindowRecord) → AreTold script mode windows told → IsToldOf (rooms_of script).room_of ws.items last
+pub told_more : (script : Script) (mode : Mode) (windows : Windows) (ws : Listed RoomWindow) (told : List WindowRecord) (last : WindowRecord) → AreTold script mode windows told → IsToldOfRooms (rooms_of script).room_of ws.items last
     → AreTold script mode (windows ++ ws ∷ []) (told ++ last ∷ [])
 told_more script mode windows ws told last are is =
     map-append lines_from told (last ∷ []) ∙ (λ i. are i ++ told_one script mode ws last is i ∷ [])
@@ -128,7 +128,7 @@ module _ (script : Script) (mode : Mode) where
       ∙ ap (λ n. So_far windows ++ window_text script n (One ws) mode false) (zero_more (length (Told windows)) ∙ told_size windows)
 
   -- the window's lines, as they were made
-  pub lines_are : {M : Type 0} (windows : Windows) (ws : Listed RoomWindow) (told : List WindowRecord) (last : WindowRecord) (lines : Result (List ℕ) M) (bytes : List ℕ) → AreTold script mode windows told → IsToldOf (rooms_of script).room_of ws.items last
+  pub lines_are : {M : Type 0} (windows : Windows) (ws : Listed RoomWindow) (told : List WindowRecord) (last : WindowRecord) (lines : Result (List ℕ) M) (bytes : List ℕ) → AreTold script mode windows told → IsToldOfRooms (rooms_of script).room_of ws.items last
       → IfOk lines (λ l. l ≡ window_text script (length told) last mode false) → lines ≡ Ok bytes → bytes ≡ window_text script (length windows) (One ws) mode false
   lines_are windows ws told last lines bytes are is made given =
       said lines (window_text script (length told) last mode false) bytes made given

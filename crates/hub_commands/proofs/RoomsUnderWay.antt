@@ -10,7 +10,7 @@ use Rattle.home_types.specs.declared.modes.Mode.{Mode}
 use Rattle.hub_commands.proofs.MergedLists.{HaveRoom, records_count}
 use Rattle.hub_commands.proofs.NextWindows.{next_gone}
 use Rattle.hub_commands.proofs.WorkedWays.{rounds_at, run_as}
-use Rattle.hub_commands.specs.Days.{IsUnderWay, new_course}
+use Rattle.hub_commands.specs.Days.{DayIsUnderWay, new_course}
 use Rattle.hub_commands.specs.Finishes.{Shown}
 use Rattle.hub_commands.specs.Played.{setting_on}
 use Rattle.hub_commands.specs.RoomDays.{RoomsAreUnderWay, Windows, records_of, room_count}
@@ -30,12 +30,12 @@ use Rattle.room_hubs.proofs.SoundRuns.{rooms_size, split_is, split_parts}
 use Rattle.room_hubs.specs.Numbers.{Room, plain_room, room_kinds}
 use Rattle.room_hubs.specs.RoomScripts.{own_script, own_window}
 use Rattle.room_hubs.specs.Rooms.{rooms_of}
-use Rattle.room_hubs.specs.Splits.{device_room, devices_in, room_at, split_of}
+use Rattle.room_hubs.specs.Splits.{device_room, devices_in, room_at, script_split}
 use Rattle.room_hubs.specs.declared.rosters.RoomRoster.{RoomRoster}
 use Rattle.room_hubs.specs.declared.rosters.RoomWindow.{RoomWindow}
 use Rattle.routine_reader.specs.Rosters.{kinds_of, script_runs}
 use Rattle.routine_reader.specs.Scripts.{plain_device, plain_routine, plain_script, plain_window}
-use Rattle.routine_reader.specs.Sound.{IsSound, IsSoundWindow, suits}
+use Rattle.routine_reader.specs.Sound.{IsSound, IsSoundWindow, suits_device}
 use Rattle.routine_reader.specs.declared.scripts.Script.{Script}
 use Rattle.routine_reader.specs.declared.scripts.WindowText.{WindowText}
 use Rattle.run_replay.proofs.Opening.{fresh_where}
@@ -63,7 +63,7 @@ maps_agree f g (x ∷ xs) [] size each = absurd (omega (arith, size))
 maps_agree f g (x ∷ xs) (y ∷ ys) size each = λ i. each 0 x y refl refl i ∷ maps_agree f g xs ys (omega (arith, size)) (λ k a b at_a at_b. each (suc k) a b at_a at_b) i
 
 -- the roster in this place is that of the room with its number
-pub at_roster : (script : Script) (w : ℕ) (rosters : List RoomRoster) → split_of script w ≡ Ok (map plain_room rosters) → (k : ℕ) (roster : RoomRoster) → slice_get rosters k ≡ Some roster
+pub at_roster : (script : Script) (w : ℕ) (rosters : List RoomRoster) → script_split script w ≡ Ok (map plain_room rosters) → (k : ℕ) (roster : RoomRoster) → slice_get rosters k ≡ Some roster
     → (k < room_count script) × (plain_room roster ≡ room_at (rooms_of script).room_of (script_runs script w) k)
 at_roster script w rosters split k roster at =
     let all = (split_is (rooms_of script) (script_runs script w) (map plain_room rosters) split).1 in
@@ -79,7 +79,7 @@ at_roster script w rosters split k roster at =
           ∙ ap room (get_or-range_with_len 0 n k 0 inside ∙ nothing_more k),
     )
 
-pub rosters_count : (script : Script) (w : ℕ) (rosters : List RoomRoster) → split_of script w ≡ Ok (map plain_room rosters) → length rosters ≡ room_count script
+pub rosters_count : (script : Script) (w : ℕ) (rosters : List RoomRoster) → script_split script w ≡ Ok (map plain_room rosters) → length rosters ≡ room_count script
 rosters_count script w rosters split =
     let all = ap (λ l. length l) (split_is (rooms_of script) (script_runs script w) (map plain_room rosters) split).1 in
     let room : ℕ → Room = room_at (rooms_of script).room_of (script_runs script w) in
@@ -87,7 +87,7 @@ rosters_count script w rosters split =
 
 -- ---- a room's window may be opened
 
-names_as : (kind : Kind) (job : Job) → suits kind job ≡ true → names_values_of kind job ≡ true
+names_as : (kind : Kind) (job : Job) → suits_device kind job ≡ true → names_values_of kind job ≡ true
 names_as kind (Set v) is = is
 names_as kind (Check v) is = is
 names_as kind Load is = is
@@ -101,7 +101,7 @@ own_size : (script : Script) (k : ℕ) → length (own_script script k).devices.
 own_size script k = length-map (devices_in (rooms_of script).room_of k) _
 
 pub may_open_room : {D : Type 0} (script : Script) → IsSound (plain_script script) → (mode : Mode) → IsTrue (is_mode mode) → (w : ℕ) (window : WindowText) → slice_get script.windows.items w ≡ Some window
-    → (all : List Room) → split_of script w ≡ Ok all → (k : ℕ) (home : HomeState D) (roster : RoomRoster) → plain_room roster ≡ room_at (rooms_of script).room_of (script_runs script w) k
+    → (all : List Room) → script_split script w ≡ Ok all → (k : ℕ) (home : HomeState D) (roster : RoomRoster) → plain_room roster ≡ room_at (rooms_of script).room_of (script_runs script w) k
     → home.kinds ≡ kinds_of (own_script script k) → length home.world ≡ length (own_script script k).devices.items → home.opened ≤ 288
     → MayOpen (setting_for home roster.roster mode) window.probes home.opened
 may_open_room script sound mode goes w window at all split k home roster is kinds world opened =
@@ -111,7 +111,7 @@ may_open_room script sound mode goes w window at all split k home roster is kind
       few_commands = own.few_commands;
       homed = λ r i c there. let c_is = own.homed r i c there in
           and_from (nat_lt c.device.0 (length home.world)) _ (lt-ltb c.device.0 (length home.world) (let low = c_is.0 in let n = own_size script k in omega (arith, low, world, n)))
-          (names_as (kind_at home.kinds c.device.0) c.job (ap (λ ks. suits (kind_at ks c.device.0) c.job) (kinds ∙ own_kinds_are script k w) ∙ c_is.1));
+          (names_as (kind_at home.kinds c.device.0) c.job (ap (λ ks. suits_device (kind_at ks c.device.0) c.job) (kinds ∙ own_kinds_are script k w) ∙ c_is.1));
       follows = λ r f there. let earlier = own.follows r f there in and_from (nat_lt 0 f.0) (nat_lt f.0 r) (lt-ltb 0 f.0 earlier.0) (lt-ltb f.0 r earlier.1);
       mode = goes;
       few_rounds = window_sound.probes;
@@ -132,7 +132,7 @@ may_open_room script sound mode goes w window at all split k home roster is kind
 
 -- each home of the day may have its next window opened with the rosters of the split
 pub may_all_open : {D : Type 0} (earliest latest : ℕ) (shown : Shown D) (script : Script) → IsSound (plain_script script) → (mode : Mode) → IsTrue (is_mode mode) → (w : ℕ) (window : WindowText) → slice_get script.windows.items w ≡ Some window
-    → (rosters : List RoomRoster) → split_of script w ≡ Ok (map plain_room rosters) → (homes : List (HomeState D)) (windows : Windows) → length windows ≡ w → RoomsAreUnderWay earliest latest shown script mode homes windows
+    → (rosters : List RoomRoster) → script_split script w ≡ Ok (map plain_room rosters) → (homes : List (HomeState D)) (windows : Windows) → length windows ≡ w → RoomsAreUnderWay earliest latest shown script mode homes windows
     → MayAllOpen mode window.probes rosters homes
 may_all_open earliest latest shown script sound mode goes w window at rosters split homes windows count day k roster home roster_at home_at =
     let is = day.each k home home_at in
@@ -141,13 +141,13 @@ may_all_open earliest latest shown script sound mode goes w window at rosters sp
     (let n = is.opened in let within = slice_get_within script.windows.items w window at in let few = sound.few_windows in let all = is.played.count in
     omega (arith, n, all, few, length-map script.windows.items plain_window, length-map script.windows.items (own_window script k)))
 
-pub same_count : {D : Type 0} (earliest latest : ℕ) (shown : Shown D) (script : Script) (mode : Mode) (w : ℕ) (rosters : List RoomRoster) (homes : List (HomeState D)) (windows : Windows) → split_of script w ≡ Ok (map plain_room rosters)
+pub same_count : {D : Type 0} (earliest latest : ℕ) (shown : Shown D) (script : Script) (mode : Mode) (w : ℕ) (rosters : List RoomRoster) (homes : List (HomeState D)) (windows : Windows) → script_split script w ≡ Ok (map plain_room rosters)
     → RoomsAreUnderWay earliest latest shown script mode homes windows → length rosters ≡ length homes
 same_count earliest latest shown script mode w rosters homes windows split day = rosters_count script w rosters split ∙ sym day.homed
 
 -- what came of the rooms' windows
 pub rooms_went : {D : Type 0} (shown : Shown D) (earliest latest : ℕ) (script : Script) (mode : Mode) (w rounds : ℕ) (rosters : List RoomRoster) (before after : List (HomeState D)) (hubs : List (RoomHub D)) (done : List (RoomDone D)) (windows : List RoomWindow)
-    → split_of script w ≡ Ok (map plain_room rosters) → AreOpened shown.turns shown.probes shown.faults mode rounds rosters before hubs
+    → script_split script w ≡ Ok (map plain_room rosters) → AreOpened shown.turns shown.probes shown.faults mode rounds rosters before hubs
     → AreRoomsWorked shown.tag shown.plan shown.turns shown.probes shown.faults earliest latest hubs done
     → AreTakenApart shown.tag shown.stands shown.turns shown.probes shown.faults done after windows
     → RoomsWent shown earliest latest script mode w rounds before after windows
@@ -204,7 +204,7 @@ rooms_gone_on {D = D} earliest latest shown script mode w window before after wi
   homed = went.homed ∙ day.homed;
   split = λ v xs xs_at. elim (snoc_get windows ws xs v xs_at) [
     | inl old ↦ day.split v xs old
-    | inr new ↦ (let P : ℕ × Listed RoomWindow → Type 0 = λ q. split_of script q.0 ≡ Ok (map (λ (x : RoomWindow). plain_room x.roster) q.1.items) in
+    | inr new ↦ (let P : ℕ × Listed RoomWindow → Type 0 = λ q. script_split script q.0 ≡ Ok (map (λ (x : RoomWindow). plain_room x.roster) q.1.items) in
         subst P (λ i. ((sym count ∙ sym new.0) i, new.1 i)) went.split)
   ];
   each = λ k y y_at.
@@ -222,7 +222,7 @@ rooms_gone_on {D = D} earliest latest shown script mode w window before after wi
             omega (arith, all, length-map xs.items (λ (x : RoomWindow). plain_room x.roster), length-map (range_with_len 0 (room_count script)) room, length-range_with_len 0 (room_count script))
 
     each : (k : ℕ) (y : HomeState D) → slice_get after k ≡ Some y → (x : HomeState D) × (slice_get before k ≡ Some x) → (win : RoomWindow) × (slice_get ws.items k ≡ Some win)
-        → IsUnderWay (IsRunWithin earliest latest) shown.tag shown.plan shown.stands shown.turns shown.probes shown.faults (own_script script k) mode y (records_of k (windows ++ ws ∷ []))
+        → DayIsUnderWay (IsRunWithin earliest latest) shown.tag shown.plan shown.stands shown.turns shown.probes shown.faults (own_script script k) mode y (records_of k (windows ++ ws ∷ []))
     each k y y_at (x, x_at) (win, win_at) =
         let is = day.each k x x_at in
         let room = went.each k x y win x_at y_at win_at in
@@ -235,7 +235,7 @@ rooms_gone_on {D = D} earliest latest shown script mode w window before after wi
         let gone = next_gone (IsRunWithin earliest latest) shown.tag shown.plan shown.stands shown.turns shown.probes shown.faults (new_course (own_script script k)) mode (own_window script k window) x y room.hub (records_of k windows) (records_of k windows ++ win.closed ∷ []) win.closed
         is (record { window = own_window script k window; at = own_at; opened = opened; numbered = numbered is }) own_at
         (run_as shown.tag shown.plan shown.turns shown.probes shown.faults earliest latest room.hub (own_window script k window) y win.closed room.opened.rounds_are room.worked) room.kept refl in
-        subst (λ rs. IsUnderWay (IsRunWithin earliest latest) shown.tag shown.plan shown.stands shown.turns shown.probes shown.faults (own_script script k) mode y rs) (sym (records_more k windows ws win win_at)) gone.under_way
+        subst (λ rs. DayIsUnderWay (IsRunWithin earliest latest) shown.tag shown.plan shown.stands shown.turns shown.probes shown.faults (own_script script k) mode y rs) (sym (records_more k windows ws win win_at)) gone.under_way
       where
         inside : k < room_count script
         inside = let within = slice_get_within before k x x_at in let n = day.homed in omega (arith, within, n)
@@ -247,7 +247,7 @@ rooms_gone_on {D = D} earliest latest shown script mode w window before after wi
         at_window = (at_roster script w (map (λ (z : RoomWindow). z.roster) ws.items) (went.split ∙ ap (λ l. Ok l) (sym (map_twice plain_room (λ (z : RoomWindow). z.roster) ws.items))) k win.roster
             (slice_get-map (λ (z : RoomWindow). z.roster) ws.items k ∙ ap (option_map (λ (z : RoomWindow). z.roster)) win_at)).1
 
-        numbered : IsUnderWay (IsRunWithin earliest latest) shown.tag shown.plan shown.stands shown.turns shown.probes shown.faults (own_script script k) mode x (records_of k windows) → AreNumbered shown.tag x.devices
+        numbered : DayIsUnderWay (IsRunWithin earliest latest) shown.tag shown.plan shown.stands shown.turns shown.probes shown.faults (own_script script k) mode x (records_of k windows) → AreNumbered shown.tag x.devices
         numbered is d device device_at =
             let within = slice_get_within x.devices d device device_at in
             let text = at_place (own_script script k).devices.items d (let size = is.left.size in omega (arith, within, size)) in

@@ -5,7 +5,7 @@ use Rattle.day_report.specs.Days.{day_text_from, head_text, total_text, window_t
 use Rattle.history_book.specs.declared.records.WindowRecord.{WindowRecord}
 use Rattle.home_types.specs.declared.modes.Mode.{Mode}
 use Rattle.hub_commands.specs.Boards.{board_text}
-use Rattle.hub_commands.specs.Days.{Course, boarded, plain, record_text_on, script_of, text_due, text_due_on, text_on, text_so_far}
+use Rattle.hub_commands.specs.Days.{DayCourse, boarded, plain, record_text_on, script_of, text_due, text_due_on, text_on, text_so_far}
 use Rattle.hub_commands.specs.Finishes.{AppendsFirst}
 use Rattle.routine_reader.specs.declared.scripts.Script.{Script}
 use Rattle.std.proofs.Common.{ap, append-nil, append_assoc, arith, refl, subst, sym, take-append-drop, ◌∙◌}
@@ -70,7 +70,7 @@ first_wider a b xs ys part =
     (length front, subst (λ zs. Appends a b zs) (sym (ap (take (length front)) all ∙ take-append_seam front rest)) part.1)
 
 -- the text with one window more
-pub text_more : (course : Course) (mode : Mode) (trace : Bool) (records : List WindowRecord) (closed : WindowRecord)
+pub text_more : (course : DayCourse) (mode : Mode) (trace : Bool) (records : List WindowRecord) (closed : WindowRecord)
     → text_on course mode trace (records ++ closed ∷ []) ≡ text_on course mode trace records ++ window_text course.begins.script (course.begins.before + length records) closed mode trace
 unfolding window_texts_from
 text_more course mode trace records closed =
@@ -81,17 +81,17 @@ text_more course mode trace records closed =
     ∙ sym (append_assoc (head_text mode) (course.above ++ flat_map f (enumerate_from before records)) (f (before + length records, closed)))
 
 -- before the first window it is the head, and the lines below it
-pub text_starts : (course : Course) (mode : Mode) (trace : Bool) → text_on course mode trace [] ≡ head_text mode ++ course.above
+pub text_starts : (course : DayCourse) (mode : Mode) (trace : Bool) → text_on course mode trace [] ≡ head_text mode ++ course.above
 unfolding window_texts_from
 text_starts course mode trace = ap (λ t. head_text mode ++ t) (append-nil course.above)
 
 -- with the total it is the text of the day
-pub text_whole : (course : Course) (mode : Mode) (trace : Bool) (records : List WindowRecord) → text_on course mode trace records ++ total_text records ≡ record_text_on plain course records mode trace
+pub text_whole : (course : DayCourse) (mode : Mode) (trace : Bool) (records : List WindowRecord) → text_on course mode trace records ++ total_text records ≡ record_text_on plain course records mode trace
 unfolding day_text_from
 text_whole course mode trace records = refl
 
 -- where all windows are there the text due has the total
-pub due_whole : (course : Course) (mode : Mode) (trace : Bool) (records : List WindowRecord) → length records ≡ length (script_of course).windows.items
+pub due_whole : (course : DayCourse) (mode : Mode) (trace : Bool) (records : List WindowRecord) → length records ≡ length (script_of course).windows.items
     → text_due_on plain course mode trace records ≡ text_on course mode trace records ++ total_text records
 due_whole course mode trace records all =
     let same : (length records == length (script_of course).windows.items) ≡ true = grind (arith, common_steps) in

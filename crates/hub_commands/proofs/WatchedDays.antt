@@ -9,7 +9,7 @@ use Rattle.hub_commands.proofs.PlayedDays.{all_lead, keeps_same, lead_written, u
 use Rattle.hub_commands.proofs.Texts.{appends_keeps, appends_more, board_due, board_there, due_boarded, due_whole, first_wider, part_more, part_wider, text_whole, whole_first}
 use Rattle.hub_commands.specs.Boards.{board_text}
 use Rattle.hub_commands.specs.Days.{boarded, new_course, plain, text_due, text_so_far}
-use Rattle.hub_commands.specs.Finishes.{AppendsFirst, DayEnds, IsCut, IsStarved, IsWhole, IsWrittenAsClosed, Shown, Writes, written}
+use Rattle.hub_commands.specs.Finishes.{AppendsFirst, DayEnds, DayIsWhole, IsCut, IsStarved, IsWrittenAsClosed, Shown, Writes, written}
 use Rattle.hub_commands.specs.LastLines.{LineEnds, LineIsWritten}
 use Rattle.hub_commands.specs.Watched.{IsPublished}
 use Rattle.hub_commands.specs.declared.faults.Fault.TheVariants.{Check, Cross, Damaged, Disk, Memory, Read, Script as Refuses, Words, Write}
@@ -64,7 +64,7 @@ module _ {D : Type 0} (works : Setting → WindowText → WindowRecord → (ℕ 
         calm = calm ∙ starved.calm;
       }
 
-  module _ (day after : Option (Day D)) (line : List ℕ) (whole : IsWhole works shown plain script options (written held mid f f_mid) day) (is : line ≡ board_text whole.day.windows.items) where
+  module _ (day after : Option (Day D)) (line : List ℕ) (whole : DayIsWhole works shown plain script options (written held mid f f_mid) day) (is : line ≡ board_text whole.day.windows.items) where
     abbrev records : List WindowRecord
     records = whole.day.windows.items
 

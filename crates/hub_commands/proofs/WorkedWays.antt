@@ -4,7 +4,7 @@ use Rattle.history_book.specs.Settings.{is_device}
 use Rattle.hub_commands.specs.Played.{IsWorkedAs}
 use Rattle.hub_commands.specs.Ways.{IsReplayOf, IsRunWithin}
 use Rattle.hub_core.specs.Homes.{HomeState}
-use Rattle.hub_core.specs.OpenHubs.{OpenHub, configuration_of, device_at}
+use Rattle.hub_core.specs.OpenHubs.{OpenHub, configuration_of, progress_at}
 use Rattle.hub_core.specs.Steps.{opened}
 use Rattle.hub_threads.specs.WorkedWindows.{IsWorked}
 use Rattle.routine_reader.specs.declared.scripts.WindowText.{WindowText}
@@ -47,7 +47,7 @@ replayed_as tag plan turns probes faults hub window picks home closed rounds sam
   numbered = is.numbered;
   plans = is.plans;
   turns_rose = is.turns_rose;
-  probes_rose = λ d device at. is.probes_rose d device at ∙ ap (λ n. (device_at hub.devices d).at_opening.probes + (n - is.play.configuration.probes d)) rounds;
+  probes_rose = λ d device at. is.probes_rose d device at ∙ ap (λ n. (progress_at hub.devices d).at_opening.probes + (n - is.play.configuration.probes d)) rounds;
   faults_rose = is.faults_rose;
 }
 
@@ -68,6 +68,6 @@ run_as tag plan turns probes faults earliest latest hub window home closed round
   numbered = is.numbered;
   plans = is.plans;
   turns_rose = is.turns_rose;
-  probes_rose = λ d device at. is.probes_rose d device at ∙ ap (λ n. (device_at hub.devices d).at_opening.probes + n) rounds;
+  probes_rose = λ d device at. is.probes_rose d device at ∙ ap (λ n. (progress_at hub.devices d).at_opening.probes + n) rounds;
   faults_rose = is.faults_rose;
 }

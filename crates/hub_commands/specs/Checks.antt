@@ -62,7 +62,7 @@ abbrev pub IsWithinCheckLimit : Reads → Type 0
 IsWithinCheckLimit source = TakesUpTo source.left source.rest (most_check_bytes + 1)
 
 -- the source gave all of its bytes without a fault, the script is the reading of those before the dividing line, and sound, and this is found of the record behind it
-pub record IsFound (source : Reads) (script : Script) (verdict : Verdict) : Type 0 where
+pub record VerdictIsFound (source : Reads) (script : Script) (verdict : Verdict) : Type 0 where
   pub ended : IsAtEnd source.rest
   pub within : IsWithinCheckLimit source
   pub reading : IfSome source.left (λ bytes. input_reading bytes ≡ Ok (plain_script script))
@@ -81,13 +81,13 @@ pub record ScriptIsRefused (source : Reads) (fault : ReadFault) : Type 0 where
 -- the record does not agree with its script at this place of this window
 pub record RecordDiffers (source : Reads) (window : ℕ) (place : Place) (name : List ℕ) : Type 0 where
   pub script : Script
-  pub found : IsFound source script (Differs window place)
+  pub found : VerdictIsFound source script (Differs window place)
   pub named : name ≡ place_name script place
 
 -- the record agrees with its script
 pub record RecordAgrees (source : Reads) : Type 0 where
   pub script : Script
-  pub found : IsFound source script Agrees
+  pub found : VerdictIsFound source script Agrees
 
 -- the source failed
 abbrev pub CheckInputFails : Reads → Type 0

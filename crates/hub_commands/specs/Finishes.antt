@@ -7,7 +7,7 @@ use Rattle.history_book.specs.declared.records.WindowRecord.{WindowRecord}
 use Rattle.home_types.specs.Limits.{most_script_bytes}
 use Rattle.home_types.specs.Listed.{Listed}
 use Rattle.home_types.specs.Numbers.{DeviceId}
-use Rattle.hub_commands.specs.Days.{Closing, Course, DevicesAreProbed, WindowsArePlayedOn, new_course, record_text_on, text_due_on, text_on}
+use Rattle.hub_commands.specs.Days.{Closing, DayCourse, DevicesAreProbed, WindowsArePlayedOn, new_course, record_text_on, text_due_on, text_on}
 use Rattle.hub_commands.specs.declared.faults.Fault.TheVariants.{Check, Cross, Damaged, Disk, Memory, Read, Script as Refuses, Words, Write}
 use Rattle.hub_commands.specs.declared.faults.Fault.{Fault}
 use Rattle.hub_commands.specs.declared.finishes.Day.{Day}
@@ -104,7 +104,7 @@ abbrev pub AppendsAtLeast : Option (List ℕ) → Option (List ℕ) → List ℕ
 AppendsAtLeast held holds bytes = (more : List ℕ) × Appends held holds (bytes ++ more)
 
 -- each window was written before the next one was played: the sink got at least the text of the windows but the last
-abbrev pub IsWrittenAsClosedOn : Course → Options → Writes → List WindowRecord → Type 0
+abbrev pub IsWrittenAsClosedOn : DayCourse → Options → Writes → List WindowRecord → Type 0
 IsWrittenAsClosedOn course options sink records = (before : List WindowRecord) (closed : WindowRecord) → records ≡ before ++ closed ∷ []
     → AppendsAtLeast sink.held sink.holds (text_on course options.mode options.trace before)
 
@@ -122,7 +122,7 @@ shown_by tag plan stands turns probes faults = record { tag = tag; plan = plan; 
 
 -- the day that is handed back is whole and legal in the mode of the words, each of its windows was worked in this way, in each every run has ended, and where runs are served as they come and no device fails each that has no must `check` has committed, and the sink got its text;
 -- outside the weak model the printed order of each window holds each committed run once, and the answers and the last state are those of its serial execution; under it no order is claimed; at the day's end each device that is up stands so
-pub record IsWholeOn {D : Type 0} (works : Setting → WindowText → WindowRecord → (DeviceId → ℕ) → Type 0) (shown : Shown D) (closing : Closing) (course : Course) (options : Options) (sink : Writes) (o : Option (Day D)) : Type 0 where
+pub record IsWholeOn {D : Type 0} (works : Setting → WindowText → WindowRecord → (DeviceId → ℕ) → Type 0) (shown : Shown D) (closing : Closing) (course : DayCourse) (options : Options) (sink : Writes) (o : Option (Day D)) : Type 0 where
   pub day : Day D
   pub given : o ≡ Some day
   pub devices : Listed D
@@ -135,7 +135,7 @@ pub record IsWholeOn {D : Type 0} (works : Setting → WindowText → WindowReco
   pub calm : sink.faults_after ≡ sink.faults
 
 -- the day was cut short where the sink failed: it is legal up to there, and the sink got a first part of its text, and not all
-pub record IsCutOn {D : Type 0} (works : Setting → WindowText → WindowRecord → (DeviceId → ℕ) → Type 0) (shown : Shown D) (closing : Closing) (course : Course) (options : Options) (sink : Writes) (o : Option (Day D)) : Type 0 where
+pub record IsCutOn {D : Type 0} (works : Setting → WindowText → WindowRecord → (DeviceId → ℕ) → Type 0) (shown : Shown D) (closing : Closing) (course : DayCourse) (options : Options) (sink : Writes) (o : Option (Day D)) : Type 0 where
   pub day : Day D
   pub given : o ≡ Some day
   pub devices : Listed D
@@ -149,7 +149,7 @@ pub record IsCutOn {D : Type 0} (works : Setting → WindowText → WindowRecord
   pub failed : sink.faults < sink.faults_after
 
 -- the day was cut short for want of memory: its windows are legal up to there, no device is handed back, and the sink got a first part of its text
-pub record IsStarvedOn {D : Type 0} (works : Setting → WindowText → WindowRecord → (DeviceId → ℕ) → Type 0) (closing : Closing) (course : Course) (options : Options) (sink : Writes) (o : Option (Day D)) : Type 0 where
+pub record IsStarvedOn {D : Type 0} (works : Setting → WindowText → WindowRecord → (DeviceId → ℕ) → Type 0) (closing : Closing) (course : DayCourse) (options : Options) (sink : Writes) (o : Option (Day D)) : Type 0 where
   pub day : Day D
   pub given : o ≡ Some day
   pub no_devices : day.devices ≡ None
@@ -160,7 +160,7 @@ pub record IsStarvedOn {D : Type 0} (works : Setting → WindowText → WindowRe
   pub calm : sink.faults_after ≡ sink.faults
 
 -- how a day of this course ends, with a record of this closing
-abbrev pub DayEndsOn : {D : Type 0} → (Setting → WindowText → WindowRecord → (DeviceId → ℕ) → Type 0) → Shown D → Closing → Course → Options → Writes → Option (Day D) → Option Fault → Type 0
+abbrev pub DayEndsOn : {D : Type 0} → (Setting → WindowText → WindowRecord → (DeviceId → ℕ) → Type 0) → Shown D → Closing → DayCourse → Options → Writes → Option (Day D) → Option Fault → Type 0
 DayEndsOn works shown closing course options sink day None = IsWholeOn works shown closing course options sink day
 DayEndsOn works shown closing course options sink day (Some (Refuses fault)) = ⊥
 DayEndsOn works shown closing course options sink day (Some Words) = ⊥
@@ -177,8 +177,8 @@ DayEndsOn works shown closing course options sink day (Some (Damaged slot)) = �
 abbrev pub IsWrittenAsClosed : Script → Options → Writes → List WindowRecord → Type 0
 IsWrittenAsClosed script options sink records = IsWrittenAsClosedOn (new_course script) options sink records
 
-abbrev pub IsWhole : {D : Type 0} → (Setting → WindowText → WindowRecord → (DeviceId → ℕ) → Type 0) → Shown D → Closing → Script → Options → Writes → Option (Day D) → Type 0
-IsWhole works shown closing script options sink o = IsWholeOn works shown closing (new_course script) options sink o
+abbrev pub DayIsWhole : {D : Type 0} → (Setting → WindowText → WindowRecord → (DeviceId → ℕ) → Type 0) → Shown D → Closing → Script → Options → Writes → Option (Day D) → Type 0
+DayIsWhole works shown closing script options sink o = IsWholeOn works shown closing (new_course script) options sink o
 
 abbrev pub IsCut : {D : Type 0} → (Setting → WindowText → WindowRecord → (DeviceId → ℕ) → Type 0) → Shown D → Closing → Script → Options → Writes → Option (Day D) → Type 0
 IsCut works shown closing script options sink o = IsCutOn works shown closing (new_course script) options sink o

@@ -2,7 +2,7 @@
 use Rattle.command_words.specs.declared.command_lines.CommandLine.TheVariants.{Keep}
 use Rattle.command_words.specs.declared.command_lines.CommandLine.{CommandLine}
 use Rattle.command_words.specs.declared.command_lines.Options.{Options}
-use Rattle.home_journal.specs.Journals.{JournalState, KnowsKept, LeavesOldOrSame, kept_by}
+use Rattle.home_journal.specs.Journals.{JournalState, KnowsKept, LeavesOldOrSame, states_kept}
 use Rattle.home_journal.specs.KeptStates.{kept_states}
 use Rattle.home_journal.specs.declared.journals.OpenFault.TheVariants.{Damaged as HasDamage, Failed, NoMemory}
 use Rattle.home_journal.specs.declared.journals.OpenFault.{OpenFault}
@@ -24,11 +24,11 @@ opening_fault Failed = Disk
 opening_fault (HasDamage place) = Damaged (min (place + 1) (2 ^ 32 - 1))
 
 -- the journal of the script's home was opened on the disk, and keeps what it kept
-pub record IsOpened {Q : Type 0} (told : Bool) (seen : Q → List ℕ) (images : Q → List ℕ → Type 0) (moment : Q → ℕ) (since : Q → ℕ → List ℕ → Type 0) (failures : Q → ℕ) (script : Script) (disk : Q) (journal : JournalState Q) : Type 0 where
+pub record IsJournalOpened {Q : Type 0} (told : Bool) (seen : Q → List ℕ) (images : Q → List ℕ → Type 0) (moment : Q → ℕ) (since : Q → ℕ → List ℕ → Type 0) (failures : Q → ℕ) (script : Script) (disk : Q) (journal : JournalState Q) : Type 0 where
   pub kinds : journal.kinds ≡ kinds_of script
   pub most : journal.most ≡ length script.windows.items
   pub knows : told ≡ true → KnowsKept (kinds_of script) (length script.windows.items) (seen disk) journal.kept journal.last
-  pub same : told ≡ true → kept_by seen journal ≡ kept_states (kinds_of script) (length script.windows.items) (seen disk)
+  pub same : told ≡ true → states_kept seen journal ≡ kept_states (kinds_of script) (length script.windows.items) (seen disk)
   pub later : failures disk ≤ failures journal.disk
   pub any_moment : told ≡ true → LeavesOldOrSame seen images moment since (kinds_of script) (length script.windows.items) disk journal.disk
 
@@ -47,7 +47,7 @@ pub record JournalIsDamaged {Q : Type 0} (told : Bool) (seen : Q → List ℕ) (
 
 -- what came of the opening
 abbrev pub JournalIsOpened : {Q : Type 0} → Bool → (Q → List ℕ) → (Q → List ℕ → Type 0) → (Q → ℕ) → (Q → ℕ → List ℕ → Type 0) → (Q → ℕ) → Script → Q → Result (JournalState Q) (Q × Fault) → Type 0
-JournalIsOpened told seen images moment since failures script disk (Ok journal) = IsOpened told seen images moment since failures script disk journal
+JournalIsOpened told seen images moment since failures script disk (Ok journal) = IsJournalOpened told seen images moment since failures script disk journal
 JournalIsOpened told seen images moment since failures script disk (Err (now, Refuses fault)) = ⊥
 JournalIsOpened told seen images moment since failures script disk (Err (now, Words)) = ⊥
 JournalIsOpened told seen images moment since failures script disk (Err (now, Read)) = ⊥

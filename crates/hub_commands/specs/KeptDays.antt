@@ -11,11 +11,11 @@ use Rattle.home_types.specs.Listed.{Listed}
 use Rattle.home_types.specs.Numbers.{DeviceId}
 use Rattle.home_types.specs.declared.kinds.Kind.{Kind}
 use Rattle.home_types.specs.declared.worlds.Stand.{Stand}
-use Rattle.hub_commands.specs.Days.{Course, DevicesAreProbed, WindowsArePlayedOn, course_behind, plain, text_on}
+use Rattle.hub_commands.specs.Days.{DayCourse, DevicesAreProbed, WindowsArePlayedOn, course_behind, plain, text_on}
 use Rattle.hub_commands.specs.Finishes.{IsCutOn, IsStarvedOn, IsWholeOn, Shown, Writes, written}
-use Rattle.hub_commands.specs.Going.{GoesOn, IsGoingOn}
+use Rattle.hub_commands.specs.Going.{GoesOnOrEnds, IsGoingOn}
 use Rattle.hub_commands.specs.Played.{HasGoneOn}
-use Rattle.hub_commands.specs.Statuses.{status_of}
+use Rattle.hub_commands.specs.Statuses.{status_for_fault}
 use Rattle.hub_commands.specs.declared.faults.Fault.TheVariants.{Check, Cross, Damaged, Disk, Memory, Read, Script as Refuses, Words, Write}
 use Rattle.hub_commands.specs.declared.faults.Fault.{Fault}
 use Rattle.hub_commands.specs.declared.finishes.Day.{Day}
@@ -36,7 +36,7 @@ abbrev pub last_states : List WindowRecord → List (List Stand)
 last_states records = map (λ closed. closed.last.devices.items) records
 
 -- the course behind so many kept states
-abbrev pub kept_course : ℕ → Beginning → Course
+abbrev pub kept_course : ℕ → Beginning → DayCourse
 kept_course kept begins = record { begins = begins; down = λ d. if (stand_at begins.first d).up then false else true; above = kept_line kept }
 
 -- the windows of the day that is handed back, if any
@@ -63,7 +63,7 @@ pub record HomeGoesOn {D : Type 0} (tag : D → ℕ) (plan : D → Option (List 
 pub record BeginsBehind {D : Type 0} (works : Setting → WindowText → WindowRecord → (DeviceId → ℕ) → Type 0) (shown : Shown D) (script : Script) (kept : ℕ) (last : Option (List Stand)) (options : Options) (sink : Writes) (result : Result (DayUnderWay D) (Finish D)) : Type 0 where
   pub begins : Beginning
   pub goes_on : GoesOnBehind script kept last begins
-  pub begun : GoesOn works shown (kept_course kept begins) options sink 0 result
+  pub begun : GoesOnOrEnds works shown (kept_course kept begins) options sink 0 result
 
 -- all devices and windows are handed back
 abbrev pub HandsAllBack : {D : Type 0} → List D → Listed WindowRecord → Option (Day D) → Type 0
@@ -72,7 +72,7 @@ HandsAllBack {D} items windows day = (devices : Listed D) × (devices.items ≡ 
 -- How such a day ends
 
 -- the disk failed as the state of the day's last window was to be kept: the day is legal up to there, and the sink got the texts of the windows before that one
-pub record IsUnkeptOn {D : Type 0} (works : Setting → WindowText → WindowRecord → (DeviceId → ℕ) → Type 0) (shown : Shown D) (course : Course) (options : Options) (sink : Writes) (o : Option (Day D)) : Type 0 where
+pub record IsUnkeptOn {D : Type 0} (works : Setting → WindowText → WindowRecord → (DeviceId → ℕ) → Type 0) (shown : Shown D) (course : DayCourse) (options : Options) (sink : Writes) (o : Option (Day D)) : Type 0 where
   pub day : Day D
   pub given : o ≡ Some day
   pub devices : Listed D
@@ -88,7 +88,7 @@ pub record IsUnkeptOn {D : Type 0} (works : Setting → WindowText → WindowRec
   pub calm : sink.faults_after ≡ sink.faults
 
 -- how a day of this course ends that is kept
-abbrev pub KeptDayEnds : {D : Type 0} → (Setting → WindowText → WindowRecord → (DeviceId → ℕ) → Type 0) → Shown D → Course → Options → Writes → Option (Day D) → Option Fault → Type 0
+abbrev pub KeptDayEnds : {D : Type 0} → (Setting → WindowText → WindowRecord → (DeviceId → ℕ) → Type 0) → Shown D → DayCourse → Options → Writes → Option (Day D) → Option Fault → Type 0
 KeptDayEnds works shown course options sink day None = IsWholeOn works shown plain course options sink day
 KeptDayEnds works shown course options sink day (Some (Refuses fault)) = ⊥
 KeptDayEnds works shown course options sink day (Some Words) = ⊥
@@ -130,7 +130,7 @@ DiskIsLeft seen images moment since script first now records fault =
 
 -- the day of this course has ended, and this disk is handed back
 pub record HasEndedKept {D Q : Type 0} (works : Setting → WindowText → WindowRecord → (DeviceId → ℕ) → Type 0) (shown : Shown D) (told : Bool) (seen : Q → List ℕ) (images : Q → List ℕ → Type 0) (moment : Q → ℕ) (since : Q → ℕ → List ℕ → Type 0) (failures : Q → ℕ)
-    (script : Script) (course : Course) (options : Options) (sink : Writes) (first now : Q) (day : Option (Day D)) (fault : Option Fault) : Type 0 where
+    (script : Script) (course : DayCourse) (options : Options) (sink : Writes) (first now : Q) (day : Option (Day D)) (fault : Option Fault) : Type 0 where
   pub ends : KeptDayEnds works shown course options sink day fault
   pub later : failures first ≤ failures now
   pub failed : fault ≡ Some Disk → failures first < failures now
@@ -151,22 +151,22 @@ pub record IsJournalSoFar {Q : Type 0} (told : Bool) (seen : Q → List ℕ) (im
 
 -- on such a course these windows were played and written, too
 pub record IsKeptSoFar {D Q : Type 0} (works : Setting → WindowText → WindowRecord → (DeviceId → ℕ) → Type 0) (shown : Shown D) (told : Bool) (seen : Q → List ℕ) (images : Q → List ℕ → Type 0) (moment : Q → ℕ) (since : Q → ℕ → List ℕ → Type 0) (failures : Q → ℕ)
-    (script : Script) (before : ℕ) (course : Course) (options : Options) (sink : Writes) (first : Q) (home : HomeState D) (records : List WindowRecord) (journal : JournalState Q) : Type 0 where
+    (script : Script) (before : ℕ) (course : DayCourse) (options : Options) (sink : Writes) (first : Q) (home : HomeState D) (records : List WindowRecord) (journal : JournalState Q) : Type 0 where
   pub going : IsGoingOn works shown (course_behind script before course) options sink home records
   pub on_disk : IsJournalSoFar told seen images moment since failures script before first records journal
 
 -- the day goes on with so many windows, or it has ended
 abbrev pub KeepsOn : {D Q : Type 0} → (Setting → WindowText → WindowRecord → (DeviceId → ℕ) → Type 0) → Shown D → Bool → (Q → List ℕ) → (Q → List ℕ → Type 0) → (Q → ℕ) → (Q → ℕ → List ℕ → Type 0) → (Q → ℕ)
-    → Script → ℕ → Course → Options → Writes → Q → ℕ → Result (KeptDay D Q) (Finish D × Q) → Type 0
+    → Script → ℕ → DayCourse → Options → Writes → Q → ℕ → Result (KeptDay D Q) (Finish D × Q) → Type 0
 KeepsOn works shown told seen images moment since failures script before course options sink first count (Ok kept) =
     (length kept.day.windows.items ≡ count) × IsKeptSoFar works shown told seen images moment since failures script before course options sink first kept.day.home kept.day.windows.items kept.journal
 KeepsOn works shown told seen images moment since failures script before course options sink first count (Err ended) =
-    (ended.0.status ≡ status_of ended.0.fault) × HasEndedKept works shown told seen images moment since failures script (course_behind script before course) options sink first ended.1 ended.0.day ended.0.fault
+    (ended.0.status ≡ status_for_fault ended.0.fault) × HasEndedKept works shown told seen images moment since failures script (course_behind script before course) options sink first ended.1 ended.0.day ended.0.fault
 
 -- the state in which the next window left the home was kept, and its lines were written, on any course behind so many windows of the script, whatever the sink held and the disk kept as the day began
 abbrev pub HasKept : {D Q : Type 0} → (Setting → WindowText → WindowRecord → (DeviceId → ℕ) → Type 0) → Shown D → Bool → (Q → List ℕ) → (Q → List ℕ → Type 0) → (Q → ℕ) → (Q → ℕ → List ℕ → Type 0) → (Q → ℕ)
     → Script → ℕ → Options → Writes → KeptDay D Q → Result (KeptDay D Q) (Finish D × Q) → Type 0
-HasKept {D} {Q} works shown told seen images moment since failures script before options sink next result = (course : Course) (held : Option (List ℕ)) (f : ℕ) (first : Q) (home : HomeState D) (records : List WindowRecord)
+HasKept {D} {Q} works shown told seen images moment since failures script before options sink next result = (course : DayCourse) (held : Option (List ℕ)) (f : ℕ) (first : Q) (home : HomeState D) (records : List WindowRecord)
     → IsKeptSoFar works shown told seen images moment since failures script before course options (written held sink.held f sink.faults) first home records next.journal
     → HasGoneOn works shown.tag shown.plan shown.stands shown.turns shown.probes shown.faults (course_behind script before course) options.mode records next.day.home next.day.windows.items
     → KeepsOn works shown told seen images moment since failures script before course options (written held sink.holds f sink.faults_after) first (suc (length records)) result
@@ -174,7 +174,7 @@ HasKept {D} {Q} works shown told seen images moment since failures script before
 -- the next window was played, kept and written, on any such course
 abbrev pub HasKeptNext : {D Q : Type 0} → (Setting → WindowText → WindowRecord → (DeviceId → ℕ) → Type 0) → Shown D → Bool → (Q → List ℕ) → (Q → List ℕ → Type 0) → (Q → ℕ) → (Q → ℕ → List ℕ → Type 0) → (Q → ℕ)
     → Script → ℕ → Options → Writes → KeptDay D Q → Result (KeptDay D Q) (Finish D × Q) → Type 0
-HasKeptNext {D} {Q} works shown told seen images moment since failures script before options sink kept result = (course : Course) (held : Option (List ℕ)) (f : ℕ) (first : Q)
+HasKeptNext {D} {Q} works shown told seen images moment since failures script before options sink kept result = (course : DayCourse) (held : Option (List ℕ)) (f : ℕ) (first : Q)
     → IsKeptSoFar works shown told seen images moment since failures script before course options (written held sink.held f sink.faults) first kept.day.home kept.day.windows.items kept.journal
     → KeepsOn works shown told seen images moment since failures script before course options (written held sink.holds f sink.faults_after) first (suc (length kept.day.windows.items)) result
 

@@ -9,8 +9,8 @@ use Rattle.hub_core.specs.HubCalls.{IsOpened, NoneFails, RunsHaveEnded}
 use Rattle.home_types.specs.declared.modes.Mode.{Mode}
 use Rattle.hub_core.specs.Homes.{HomeState}
 use Rattle.legal_days.specs.LegalWindows.{IsLegalWindow}
-use Rattle.hub_core.specs.OpenHubs.{OpenHub, device_at}
-use Rattle.hub_commands.specs.Days.{Course, IsPlayedOn, IsUnderWayOn}
+use Rattle.hub_core.specs.OpenHubs.{OpenHub, progress_at}
+use Rattle.hub_commands.specs.Days.{DayCourse, IsPlayedOn, IsUnderWayOn}
 use Rattle.routine_reader.specs.Rosters.{script_runs}
 use Rattle.routine_reader.specs.declared.scripts.Script.{Script}
 use Rattle.routine_reader.specs.declared.scripts.WindowText.{WindowText}
@@ -41,9 +41,9 @@ pub record IsWorkedAs {D : Type 0} (works : Setting → WindowText → WindowRec
   pub size : length home.devices ≡ length s.places
   pub numbered : AreNumbered tag home.devices
   pub plans : (d : DeviceId) (before after : D) → slice_get s.places d ≡ Some (Home before) → slice_get home.devices d ≡ Some after → plan after ≡ plan before
-  pub turns_rose : (d : DeviceId) (device : D) → slice_get home.devices d ≡ Some device → turns device ≡ (device_at s.devices d).at_opening.turns + slice_index_or closed.turns.items d 0
-  pub probes_rose : (d : DeviceId) (device : D) → slice_get home.devices d ≡ Some device → probes device ≡ (device_at s.devices d).at_opening.probes + taken d
-  pub faults_rose : (d : DeviceId) (device : D) → slice_get home.devices d ≡ Some device → faults device ≡ (device_at s.devices d).at_opening.faults + slice_index_or closed.faults.items d 0
+  pub turns_rose : (d : DeviceId) (device : D) → slice_get home.devices d ≡ Some device → turns device ≡ (progress_at s.devices d).at_opening.turns + slice_index_or closed.turns.items d 0
+  pub probes_rose : (d : DeviceId) (device : D) → slice_get home.devices d ≡ Some device → probes device ≡ (progress_at s.devices d).at_opening.probes + taken d
+  pub faults_rose : (d : DeviceId) (device : D) → slice_get home.devices d ≡ Some device → faults device ≡ (progress_at s.devices d).at_opening.faults + slice_index_or closed.faults.items d 0
 
 -- the script's window of this number was played on the home in this way, and left another with this record
 pub record IsPlayed {D : Type 0} (works : Setting → WindowText → WindowRecord → (DeviceId → ℕ) → Type 0) (tag : D → ℕ) (plan : D → Option (List (ℕ × ℕ))) (turns probes faults : D → ℕ) (script : Script) (mode : Mode) (k : ℕ) (before after : HomeState D) (closed : WindowRecord) : Type 0 where
@@ -63,7 +63,7 @@ pub record IsPlayed {D : Type 0} (works : Setting → WindowText → WindowRecor
       → IsPlayedOn tag plan turns probes faults (slice_index_or closed.turns.items d 0) (slice_index_or closed.faults.items d 0) (taken d) x y
 
 -- the day has gone on by one window
-pub record HasGoneOn {D : Type 0} (works : Setting → WindowText → WindowRecord → (DeviceId → ℕ) → Type 0) (tag : D → ℕ) (plan : D → Option (List (ℕ × ℕ))) (stands turns probes faults : D → ℕ) (course : Course) (mode : Mode) (before : List WindowRecord) (home : HomeState D) (records : List WindowRecord) : Type 0 where
+pub record HasGoneOn {D : Type 0} (works : Setting → WindowText → WindowRecord → (DeviceId → ℕ) → Type 0) (tag : D → ℕ) (plan : D → Option (List (ℕ × ℕ))) (stands turns probes faults : D → ℕ) (course : DayCourse) (mode : Mode) (before : List WindowRecord) (home : HomeState D) (records : List WindowRecord) : Type 0 where
   pub closed : WindowRecord
   pub more : records ≡ before ++ closed ∷ []
   pub under_way : IsUnderWayOn works tag plan stands turns probes faults course mode home records

@@ -10,7 +10,7 @@ use Rattle.hub_commands.specs.Finishes.{AppendsFirst, AppendsAtLeast, InputFails
 use Rattle.hub_commands.specs.RoomDays.{RoomsAreLeft, RoomsArePlayed, Windows, told_records}
 use Rattle.hub_commands.specs.declared.faults.Fault.TheVariants.{Check, Cross, Damaged, Disk, Memory, Read, Script as Refuses, Words, Write}
 use Rattle.hub_commands.specs.declared.faults.Fault.{Fault}
-use Rattle.room_hubs.specs.Splits.{split_of}
+use Rattle.room_hubs.specs.Splits.{script_split}
 use Rattle.room_hubs.specs.declared.rosters.RoomWindow.{RoomWindow}
 use Rattle.room_hubs.specs.declared.splits.SplitFault.TheVariants.{CrossFollow, CrossRoom, NoMemory}
 use Rattle.room_hubs.specs.declared.splits.SplitFault.{SplitFault}
@@ -68,7 +68,7 @@ crossing run follow = if follow then CrossFollow run else CrossRoom run
 
 -- the first windows of the script, so many, can be split
 abbrev pub SplitBefore : Script → ℕ → Type 0
-SplitBefore script n = (w : ℕ) → w < n → IsOk (split_of script w)
+SplitBefore script n = (w : ℕ) → w < n → IsOk (script_split script w)
 
 -- the window with this number, from 1, is the first one that the split refuses, and so
 pub record IsFirstRefused (script : Script) (window : ℕ) (run : RunNo) (follow : Bool) : Type 0 where
@@ -76,7 +76,7 @@ pub record IsFirstRefused (script : Script) (window : ℕ) (run : RunNo) (follow
   pub from_one : window ≡ number + 1
   pub there : number < length script.windows.items
   pub before : SplitBefore script number
-  pub refused : split_of script number ≡ Err (crossing run follow)
+  pub refused : script_split script number ≡ Err (crossing run follow)
 
 -- the fault of a window with this number, from 0, whose split is refused so
 abbrev pub IsSplitFault : ℕ → SplitFault → Fault → Type 0

@@ -9,18 +9,18 @@ use Rattle.home_types.specs.declared.items.Item.{Item}
 use Rattle.home_types.specs.declared.modes.Mode.{Mode}
 use Rattle.home_types.specs.declared.worlds.Stand.{Stand}
 use Rattle.command_rules.specs.Serial.{SerialRun, serial_execution}
-use Rattle.hub_commands.specs.Days.{DevicesAreProbed, IsUnderWay, WindowsArePlayed}
+use Rattle.hub_commands.specs.Days.{DayIsUnderWay, DevicesAreProbed, WindowsArePlayed}
 use Rattle.hub_commands.specs.Finishes.{Shown}
 use Rattle.hub_commands.specs.Ways.{IsRunWithin}
 use Rattle.hub_core.specs.Homes.{HomeState}
 use Rattle.legal_days.specs.LegalDays.{DevicesAreLeft, setting_of}
 use Rattle.legal_days.specs.LegalWindows.{history_of}
-use Rattle.room_hubs.specs.Merges.{Merge, answers_of, home_order, joined_order, order_in, own_order, room_in, room_order}
+use Rattle.room_hubs.specs.Merges.{Merge, answers_of, home_order, joined_order, order_of_room, own_order, room_in, room_order}
 use Rattle.room_hubs.specs.Numbers.{IsOwnDevice, home_device, home_run, plain_room}
 use Rattle.room_hubs.specs.RoomScripts.{own_script}
 use Rattle.room_hubs.specs.Rooms.{rooms_of}
-use Rattle.room_hubs.specs.Splits.{devices_in, split_of}
-use Rattle.room_hubs.specs.ToldWindows.{joined_home, last_of, told_record}
+use Rattle.room_hubs.specs.Splits.{devices_in, script_split}
+use Rattle.room_hubs.specs.ToldWindows.{joined_home, last_of_room, told_record}
 use Rattle.room_hubs.specs.declared.rosters.RoomWindow.{RoomWindow}
 use Rattle.routine_reader.specs.Rosters.{kinds_of, script_runs, start_home}
 use Rattle.routine_reader.specs.declared.scripts.Script.{Script}
@@ -39,7 +39,7 @@ room_count script = length (rooms_of script).names
 
 -- each room's window has the roster that the split gives it
 abbrev pub AreSplit : Script → Windows → Type 0
-AreSplit script windows = (w : ℕ) (ws : Listed RoomWindow) → slice_get windows w ≡ Some ws → split_of script w ≡ Ok (map (λ x. plain_room x.roster) ws.items)
+AreSplit script windows = (w : ℕ) (ws : Listed RoomWindow) → slice_get windows w ≡ Some ws → script_split script w ≡ Ok (map (λ x. plain_room x.roster) ws.items)
 
 -- the homes of the rooms after these windows
 pub record RoomsAreUnderWay {D : Type 0} (earliest latest : Moment) (shown : Shown D) (script : Script) (mode : Mode) (homes : List (HomeState D)) (windows : Windows) : Type 0 where
@@ -47,18 +47,18 @@ pub record RoomsAreUnderWay {D : Type 0} (earliest latest : Moment) (shown : Sho
   pub homed : length homes ≡ room_count script
   pub split : AreSplit script windows
   pub each : (k : ℕ) (home : HomeState D) → slice_get homes k ≡ Some home
-      → IsUnderWay (IsRunWithin earliest latest) shown.tag shown.plan shown.stands shown.turns shown.probes shown.faults (own_script script k) mode home (records_of k windows)
+      → DayIsUnderWay (IsRunWithin earliest latest) shown.tag shown.plan shown.stands shown.turns shown.probes shown.faults (own_script script k) mode home (records_of k windows)
 
 -- The serial execution of the home
 
 -- the state of the home at a window's start: every device up at its start, or as the rooms left it
-abbrev pub home_before : Script → Windows → ℕ → List Stand
-home_before script windows zero = start_home script
-home_before script windows (suc w) = unwrap_or (option_map (λ (ws : Listed RoomWindow). joined_home (rooms_of script).room_of (map last_of ws.items)) (slice_get windows w)) []
+abbrev pub rooms_home_before : Script → Windows → ℕ → List Stand
+rooms_home_before script windows zero = start_home script
+rooms_home_before script windows (suc w) = unwrap_or (option_map (λ (ws : Listed RoomWindow). joined_home (rooms_of script).room_of (map last_of_room ws.items)) (slice_get windows w)) []
 
 -- the order executed from there, over the runs of the home
 abbrev pub home_executed : Script → Windows → ℕ → List Item → SerialRun
-home_executed script windows w order = serial_execution (script_runs script w) (kinds_of script) (home_before script windows w) order
+home_executed script windows w order = serial_execution (script_runs script w) (kinds_of script) (rooms_home_before script windows w) order
 
 -- the order of a window of the home agrees with its rooms: it is not refused, each committed run answers as in its room, and each device is left as in its room
 pub record AgreesWithRooms (script : Script) (mode : Mode) (windows : Windows) (w : ℕ) (ws : List RoomWindow) (order : List Item) : Type 0 where
@@ -73,7 +73,7 @@ pub record AgreesWithRooms (script : Script) (mode : Mode) (windows : Windows) (
 -- so does the joined order of each window, and every merge of its rooms' orders that keeps the order of each room
 pub record EachOrderAgrees (script : Script) (mode : Mode) (windows : Windows) : Type 0 where
   pub joined : (w : ℕ) (ws : Listed RoomWindow) → slice_get windows w ≡ Some ws → AgreesWithRooms script mode windows w ws.items (joined_order (map room_order ws.items))
-  pub merged : (w : ℕ) (ws : Listed RoomWindow) → slice_get windows w ≡ Some ws → (merge : Merge) → ((k : ℕ) → own_order k merge ≡ order_in (map room_order ws.items) k)
+  pub merged : (w : ℕ) (ws : Listed RoomWindow) → slice_get windows w ≡ Some ws → (merge : Merge) → ((k : ℕ) → own_order k merge ≡ order_of_room (map room_order ws.items) k)
       → AgreesWithRooms script mode windows w ws.items (home_order (room_in (map room_order ws.items)) merge)
 
 -- Rooms, one by one

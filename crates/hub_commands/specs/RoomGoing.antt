@@ -12,7 +12,7 @@ use Rattle.hub_commands.specs.Finishes.{Shown, Writes, written}
 use Rattle.hub_commands.specs.RoomCalls.{RoomDayEnds}
 use Rattle.hub_commands.specs.RoomDays.{RoomsArePlayed, RoomsAreUnderWay, Windows, room_count, told_records}
 use Rattle.hub_commands.specs.RoomDevices.{AreAllPlaced, HasRoomFor}
-use Rattle.hub_commands.specs.Statuses.{status_of}
+use Rattle.hub_commands.specs.Statuses.{status_for_fault}
 use Rattle.hub_commands.specs.declared.faults.Fault.TheVariants.{Memory as WantsMemory, Write}
 use Rattle.hub_commands.specs.declared.faults.Fault.{Fault}
 use Rattle.hub_commands.specs.declared.pieces.PieceFault.TheVariants.{Memory, Sink}
@@ -22,7 +22,7 @@ use Rattle.hub_commands.specs.declared.room_finishes.RoomFinish.{RoomFinish}
 use Rattle.hub_core.specs.Homes.{AreNew, HomeState}
 use Rattle.room_hubs.specs.RoomScripts.{room_devices}
 use Rattle.room_hubs.specs.Rooms.{rooms_of}
-use Rattle.room_hubs.specs.ToldWindows.{IsToldOf}
+use Rattle.room_hubs.specs.ToldWindows.{IsToldOfRooms}
 use Rattle.room_hubs.specs.declared.rosters.RoomWindow.{RoomWindow}
 use Rattle.routine_reader.specs.Rosters.{start_stand}
 use Rattle.routine_reader.specs.declared.scripts.DeviceText.{DeviceText}
@@ -70,7 +70,7 @@ abbrev pub RoomGoesOn : {D : Type 0} → Moment → Moment → Shown D → Scrip
 RoomGoesOn earliest latest shown script mode sink count (Ok day) =
     (length day.windows.items ≡ count) × IsRoomDay earliest latest shown script mode day.windows.items day × IsWrittenSoFar script mode sink day.windows.items
 RoomGoesOn earliest latest shown script mode sink count (Err finish) =
-    (finish.status ≡ status_of finish.fault) × RoomDayEnds earliest latest shown script mode sink finish.windows.items finish.devices finish.fault
+    (finish.status ≡ status_for_fault finish.fault) × RoomDayEnds earliest latest shown script mode sink finish.windows.items finish.devices finish.fault
 
 -- what came of the next window was written, whatever the sink held as the day began
 abbrev pub RoomHasWritten : {D : Type 0} → Moment → Moment → Shown D → Script → Mode → Writes → Result (RoomDay D) (Listed (Listed RoomWindow)) → Result (RoomDay D) (RoomFinish D) → Type 0
@@ -116,6 +116,6 @@ RoomHasEnded earliest latest shown script mode sink last finish = (held : Option
 -- the window is told behind those before it, and these are its lines
 pub record TellsLines (script : Script) (room_of : List ℕ) (mode : Mode) (ws : List RoomWindow) (told more : List WindowRecord) (lines : List ℕ) : Type 0 where
   pub last : WindowRecord
-  pub tells : IsToldOf room_of ws last
+  pub tells : IsToldOfRooms room_of ws last
   pub more_is : more ≡ told ++ last ∷ []
   pub lines_are : lines ≡ window_text script (length told) last mode false

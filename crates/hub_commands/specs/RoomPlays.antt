@@ -10,7 +10,7 @@ use Rattle.hub_threads.specs.WorkedWindows.{IsWorked}
 use Rattle.hub_threads.specs.declared.rooms.RoomDone.{RoomDone}
 use Rattle.hub_threads.specs.declared.rooms.RoomHub.{RoomHub}
 use Rattle.room_hubs.specs.Numbers.{plain_room}
-use Rattle.room_hubs.specs.Splits.{split_of}
+use Rattle.room_hubs.specs.Splits.{script_split}
 use Rattle.room_hubs.specs.declared.rosters.RoomRoster.{RoomRoster}
 use Rattle.room_hubs.specs.declared.rosters.RoomWindow.{RoomWindow}
 use Rattle.routine_reader.specs.declared.scripts.Script.{Script}
@@ -46,7 +46,7 @@ pub record RoomWent {D : Type 0} (shown : Shown D) (earliest latest : Moment) (m
 
 -- the script's window of this number was worked in every room, with so many rounds of probes
 pub record RoomsWent {D : Type 0} (shown : Shown D) (earliest latest : Moment) (script : Script) (mode : Mode) (number rounds : ℕ) (before after : List (HomeState D)) (windows : List RoomWindow) : Type 0 where
-  pub split : split_of script number ≡ Ok (map (λ x. plain_room x.roster) windows)
+  pub split : script_split script number ≡ Ok (map (λ x. plain_room x.roster) windows)
   pub homed : length after ≡ length before
   pub count : length windows ≡ length before
   pub each : (k : ℕ) (x y : HomeState D) (window : RoomWindow) → slice_get before k ≡ Some x → slice_get after k ≡ Some y → slice_get windows k ≡ Some window

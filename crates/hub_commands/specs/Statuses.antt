@@ -15,6 +15,6 @@ fault_status Disk = 9
 fault_status (Damaged slot) = 10
 
 -- 0 where there is no fault
-abbrev pub status_of : Option Fault → ℕ
-status_of None = 0
-status_of (Some fault) = fault_status fault
+abbrev pub status_for_fault : Option Fault → ℕ
+status_for_fault None = 0
+status_for_fault (Some fault) = fault_status fault

@@ -2,7 +2,7 @@
 ghost use Rattle.std.specs.Prelude.{◌≡◌, IfOk, None};
 ghost use Rattle.hub_commands.specs.Checks.{CheckEnds, InputIsJudged, IsJudged, place_name};
 ghost use Rattle.hub_commands.specs.Finishes.{read_off, written};
-ghost use Rattle.hub_commands.specs.Statuses.{status_of};
+ghost use Rattle.hub_commands.specs.Statuses.{status_for_fault};
 ghost use Rattle.routine_reader.specs.Scripts.{plain_script};
 ghost use Rattle.routine_reader.specs.Sound.{IsSound};
 
@@ -84,7 +84,7 @@ pub fn check_input<S: Source, K: Sink, Dev: Device>(
     source: &mut S,
     sink: &mut K,
 ) -> Finish<Dev>
-    ensures status { result.status ≡ status_of result.fault }
+    ensures status { result.status ≡ status_for_fault result.fault }
     ensures no_day { result.day ≡ None }
     ensures ends { CheckEnds
         (read_off (S.left source.old) (S.left source.new) (S.faults source.old) (S.faults source.new))

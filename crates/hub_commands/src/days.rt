@@ -4,10 +4,10 @@ ghost use Rattle.day_report.specs.Days.{head_text, window_text as window_lines_o
 ghost use Rattle.home_types.specs.Limits.{most_windows};
 ghost use Rattle.hub_commands.specs.Days.{new_course};
 ghost use Rattle.hub_commands.specs.Finishes.{shown_by, written};
-ghost use Rattle.hub_commands.specs.Going.{GoesOn, HandsBack, HasBegun, HasEnded, HasWritten, KeepsWindows, windows_in};
+ghost use Rattle.hub_commands.specs.Going.{DayHasBegun, GoesOnOrEnds, HandsBack, HasEnded, HasWritten, KeepsWindows, windows_in};
 ghost use Rattle.hub_commands.specs.LastLines.{LineIsWritten};
 ghost use Rattle.hub_commands.specs.Pieces.{StopEnds};
-ghost use Rattle.hub_commands.specs.Statuses.{status_of};
+ghost use Rattle.hub_commands.specs.Statuses.{status_for_fault};
 ghost use Rattle.hub_commands.specs.Trials.{HasStarved};
 ghost use Rattle.routine_reader.specs.Scripts.{plain_script};
 ghost use Rattle.routine_reader.specs.Sound.{IsSound};
@@ -31,7 +31,7 @@ use std::alloc::Global;
 pub fn refuse<Dev: Device>(fault: Fault) -> Finish<Dev>
     ensures fault { result.fault ≡ Some fault }
     ensures day { result.day ≡ None }
-    ensures status { result.status ≡ status_of result.fault }
+    ensures status { result.status ≡ status_for_fault result.fault }
 {
     Finish {
         status: fault.status(),
@@ -44,7 +44,7 @@ pub fn refuse<Dev: Device>(fault: Fault) -> Finish<Dev>
 pub fn end_without_devices<Dev: Device>(windows: List<WindowRecord>, fault: Fault) -> Finish<Dev>
     ensures fault { result.fault ≡ Some fault }
     ensures day { result.day ≡ Some (record { windows = windows; devices = None }) }
-    ensures status { result.status ≡ status_of result.fault }
+    ensures status { result.status ≡ status_for_fault result.fault }
 {
     Finish {
         status: fault.status(),
@@ -58,7 +58,7 @@ pub fn end_without_devices<Dev: Device>(windows: List<WindowRecord>, fault: Faul
 
 /// Ends a call for want of memory, with the windows of its day, if there is one.
 pub fn starve<Dev: Device>(day: Option<Day<Dev>>) -> Finish<Dev>
-    ensures status { result.status ≡ status_of result.fault }
+    ensures status { result.status ≡ status_for_fault result.fault }
     ensures starved { HasStarved day result.day result.fault }
 {
     match day {
@@ -70,7 +70,7 @@ pub fn starve<Dev: Device>(day: Option<Day<Dev>>) -> Finish<Dev>
 /// Ends a day on which a piece of the record was not written: with its devices where the sink failed, and without them
 /// where memory was wanted.
 fn stop<Dev: Device>(day: DayUnderWay<Dev>, fault: PieceFault) -> Finish<Dev>
-    ensures status { result.status ≡ status_of result.fault }
+    ensures status { result.status ≡ status_for_fault result.fault }
     ensures ends { StopEnds day.windows day.home.devices fault result.day result.fault }
 {
     let DayUnderWay { home, windows } = day;
@@ -124,7 +124,7 @@ pub fn begin_on<W: Way, D: Device, K: Sink>(
     head: Result<Bytes, NoMemory>,
     sink: &mut K,
 ) -> Result<DayUnderWay<D>, Finish<D>>
-    ensures begun { HasBegun (W.works _way.now)
+    ensures begun { DayHasBegun (W.works _way.now)
         (shown_by D.tag D.plan D.stands D.turns D.probes D.faults) options
         (written (K.holds sink.old) (K.holds sink.new) (K.faults sink.old) (K.faults sink.new))
         home head result }
@@ -150,7 +150,7 @@ pub fn begin<W: Way, K: Sink, B: Bench>(
     bench: &mut B,
 ) -> Result<DayUnderWay<B::Dev>, Finish<B::Dev>>
     requires sound { IsSound (plain_script script.now) }
-    ensures goes_on { GoesOn (W.works way.now)
+    ensures goes_on { GoesOnOrEnds (W.works way.now)
         (shown_by B.Dev.tag B.Dev.plan B.Dev.stands B.Dev.turns B.Dev.probes B.Dev.faults)
         (new_course script.now) options
         (written (K.holds sink.old) (K.holds sink.new) (K.faults sink.old) (K.faults sink.new))
@@ -207,7 +207,7 @@ pub fn end<W: Way, D: Device, K: Sink>(
     day: DayUnderWay<D>,
     sink: &mut K,
 ) -> Finish<D>
-    ensures status { result.status ≡ status_of result.fault }
+    ensures status { result.status ≡ status_for_fault result.fault }
     ensures ends { HasEnded (W.works _way.now)
         (shown_by D.tag D.plan D.stands D.turns D.probes D.faults) options
         (written (K.holds sink.old) (K.holds sink.new) (K.faults sink.old) (K.faults sink.new))
@@ -235,7 +235,7 @@ pub fn end_with_line<Dev: Device, K: Sink>(
     line: Result<Bytes, NoMemory>,
     day: Option<Day<Dev>>,
 ) -> Finish<Dev>
-    ensures status { result.status ≡ status_of result.fault }
+    ensures status { result.status ≡ status_for_fault result.fault }
     ensures ends { (bytes : _) → IfOk line (λ b. b ≡ bytes) → LineIsWritten bytes
         (written (K.holds sink.old) (K.holds sink.new) (K.faults sink.old) (K.faults sink.new))
         day result.day result.fault }

@@ -1,7 +1,7 @@
 //! How the input of a check is divided into a script and a record.
 ghost use Rattle.std.specs.Prelude.{◌≡◌, ◌==◌, ◌<◌, ◌≤◌, ◌∷◌, drop, length, take};
 ghost use Rattle.std.specs.List.{position};
-ghost use Rattle.hub_commands.specs.Divisions.{division_of, is_divider, lines_of};
+ghost use Rattle.hub_commands.specs.Divisions.{division_of, is_divider, lines_with_feeds};
 
 /// The place of the first line feed, from 0.
 fn line_feed(text: &[u8]) -> Option<usize>
@@ -15,7 +15,7 @@ fn line_length(text: &[u8]) -> usize
     requires { 0 < length text.now }
     ensures some { 0 < result }
     ensures within { result ≤ length text.now }
-    ensures first { lines_of text.now ≡ take result text.now ∷ lines_of (drop result text.now) }
+    ensures first { lines_with_feeds text.now ≡ take result text.now ∷ lines_with_feeds (drop result text.now) }
 {
     match line_feed(text) {
         Some(at) => at + 1,

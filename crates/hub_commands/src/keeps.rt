@@ -3,7 +3,7 @@ ghost use Rattle.std.specs.Prelude.{◌≡◌, Err, IfOk, IsTrue, None, Some, ma
 ghost use Rattle.hub_commands.specs.CommandsTaken.{keep_line_of};
 ghost use Rattle.hub_commands.specs.Finishes.{read_off, shown_by, written};
 ghost use Rattle.hub_commands.specs.KeepCalls.{JournalIsOpened, KeepEnds, ScriptIsKept, opening_fault};
-ghost use Rattle.hub_commands.specs.Statuses.{status_of};
+ghost use Rattle.hub_commands.specs.Statuses.{status_for_fault};
 ghost use Rattle.hub_core.specs.Openings.{is_mode};
 ghost use Rattle.routine_reader.specs.Scripts.{plain_script};
 ghost use Rattle.routine_reader.specs.Sound.{IsSound};
@@ -74,7 +74,7 @@ fn keep_script<K: Sink, B: Bench, Q: Disk>(
 ) -> (Finish<B::Dev>, Q)
     requires sound { IsSound (plain_script script.now) }
     requires goes { IsTrue (is_mode options.mode) }
-    ensures status { result.0.status ≡ status_of result.0.fault }
+    ensures status { result.0.status ≡ status_for_fault result.0.fault }
     ensures ends { ScriptIsKept
         (shown_by B.Dev.tag B.Dev.plan B.Dev.stands B.Dev.turns B.Dev.probes B.Dev.faults)
         Q.told Q.seen Q.images Q.moment Q.images_since Q.faults
@@ -105,7 +105,7 @@ pub fn keep_command<S: Source, K: Sink, B: Bench, Q: Disk>(
     bench: &mut B,
     disk: Q,
 ) -> (Finish<B::Dev>, Q)
-    ensures status { result.0.status ≡ status_of result.0.fault }
+    ensures status { result.0.status ≡ status_for_fault result.0.fault }
     ensures ends { KeepEnds
         (shown_by B.Dev.tag B.Dev.plan B.Dev.stands B.Dev.turns B.Dev.probes B.Dev.faults)
         Q.told Q.seen Q.images Q.moment Q.images_since Q.faults

@@ -5,7 +5,7 @@ ghost use Rattle.home_types.specs.Limits.{most_windows};
 ghost use Rattle.hub_commands.specs.Finishes.{shown_by, written};
 ghost use Rattle.hub_commands.specs.Going.{KeepsWindows};
 ghost use Rattle.hub_commands.specs.KeptDays.{BeginsBehind, HandsAllBack, HasEndedBehind, HasKept, HasKeptNext, HomeGoesOn};
-ghost use Rattle.hub_commands.specs.Statuses.{status_of};
+ghost use Rattle.hub_commands.specs.Statuses.{status_for_fault};
 ghost use Rattle.hub_commands.specs.Ways.{IsReplayOf};
 ghost use Rattle.hub_core.specs.Openings.{is_mode};
 ghost use Rattle.routine_reader.specs.Rosters.{kinds_of};
@@ -92,7 +92,7 @@ fn begin_behind<K: Sink, B: Bench, Q: Disk>(
 
 /// Ends a day whose last window may not be kept, since the disk failed: its text is not written.
 fn end_unkept<Dev: Device>(day: DayUnderWay<Dev>) -> Finish<Dev>
-    ensures status { result.status ≡ status_of result.fault }
+    ensures status { result.status ≡ status_for_fault result.fault }
     ensures fault { result.fault ≡ Some Fault.Disk }
     ensures ends { HandsAllBack day.home.devices day.windows result.day }
 {
@@ -190,7 +190,7 @@ pub fn keep_day<K: Sink, B: Bench, Q: Disk>(
     requires goes { IsTrue (is_mode options.mode) }
     requires kinds { journal.kinds ≡ kinds_of script.now }
     requires most { journal.most ≡ length script.now.windows.items }
-    ensures status { result.0.status ≡ status_of result.0.fault }
+    ensures status { result.0.status ≡ status_for_fault result.0.fault }
     ensures ends { HasEndedBehind IsReplayOf
         (shown_by B.Dev.tag B.Dev.plan B.Dev.stands B.Dev.turns B.Dev.probes B.Dev.faults)
         Q.told Q.seen Q.images Q.moment Q.images_since Q.faults

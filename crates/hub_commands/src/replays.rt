@@ -5,7 +5,7 @@ ghost use Rattle.hub_commands.specs.Days.{plain};
 ghost use Rattle.hub_commands.specs.Finishes.{DayEnds, shown_by, written};
 ghost use Rattle.hub_commands.specs.Going.{PlaysOneMore};
 ghost use Rattle.hub_commands.specs.Played.{IsWorkedAs};
-ghost use Rattle.hub_commands.specs.Statuses.{status_of};
+ghost use Rattle.hub_commands.specs.Statuses.{status_for_fault};
 ghost use Rattle.hub_commands.specs.Ways.{IsReplayOf};
 ghost use Rattle.hub_core.specs.OpenHubs.{configuration_of};
 ghost use Rattle.hub_core.specs.Openings.{is_mode};
@@ -93,7 +93,7 @@ pub fn replay_day<K: Sink, B: Bench>(
 ) -> Finish<B::Dev>
     requires sound { IsSound (plain_script script.now) }
     requires goes { IsTrue (is_mode options.mode) }
-    ensures status { result.status ≡ status_of result.fault }
+    ensures status { result.status ≡ status_for_fault result.fault }
     ensures ends { DayEnds IsReplayOf
         (shown_by B.Dev.tag B.Dev.plan B.Dev.stands B.Dev.turns B.Dev.probes B.Dev.faults)
         plain script.now options

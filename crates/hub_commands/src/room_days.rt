@@ -4,14 +4,14 @@ ghost use Rattle.hub_commands.specs.Finishes.{shown_by, written};
 ghost use Rattle.hub_commands.specs.RoomCalls.{RoomDayEnds, SplitBefore};
 ghost use Rattle.hub_commands.specs.RoomDevices.{HasDevicesOf, HasRoomFor, IsRoomed};
 ghost use Rattle.hub_commands.specs.RoomGoing.{AreNewHomes, HasRoomForWindows, IsFirstDay, IsNewHome, IsNextRoomDay, IsRoomDay, IsWrittenSoFar, RoomGoesOn, RoomHasEnded, RoomHasWritten, RoomNextIs, RoomStopEnds, TellsLines};
-ghost use Rattle.hub_commands.specs.Statuses.{status_of};
+ghost use Rattle.hub_commands.specs.Statuses.{status_for_fault};
 ghost use Rattle.history_book.specs.Settings.{is_weak};
 ghost use Rattle.hub_core.specs.Openings.{is_mode};
 ghost use Rattle.day_report.specs.Days.{window_text as window_lines_of};
 ghost use Rattle.room_hubs.specs.Merges.{HasOwnOrder, room_order};
 ghost use Rattle.room_hubs.specs.RoomScripts.{room_devices};
 ghost use Rattle.room_hubs.specs.Rooms.{plain_rooms, rooms_of};
-ghost use Rattle.room_hubs.specs.ToldWindows.{IsToldOf};
+ghost use Rattle.room_hubs.specs.ToldWindows.{IsToldOfRooms};
 ghost use Rattle.routine_reader.specs.Scripts.{plain_script};
 ghost use Rattle.routine_reader.specs.Sound.{IsSound};
 ghost use Rattle.std.specs.Prelude.{◌≡◌, ◌<◌, ◌≤◌, ◌++◌, ◌∷◌, [], All, Err, IfErr, IfOk, IsTrue, None, Ok, OnOk, Some, false, length};
@@ -48,7 +48,7 @@ struct RoomDay<Dev: Device> {
 
 /// Ends the call before a window was closed.
 pub fn refuse_rooms<Dev: Device>(alloc: Global, fault: Fault) -> RoomFinish<Dev>
-    ensures status { result.status ≡ status_of result.fault }
+    ensures status { result.status ≡ status_for_fault result.fault }
     ensures fault { result.fault ≡ Some fault }
     ensures windows { result.windows.items ≡ [] }
     ensures devices { result.devices ≡ None }
@@ -61,7 +61,7 @@ fn end_without_devices<Dev: Device>(
     windows: List<List<RoomWindow>>,
     fault: Fault,
 ) -> RoomFinish<Dev>
-    ensures status { result.status ≡ status_of result.fault }
+    ensures status { result.status ≡ status_for_fault result.fault }
     ensures fault { result.fault ≡ Some fault }
     ensures windows { result.windows ≡ windows }
     ensures devices { result.devices ≡ None }
@@ -80,7 +80,7 @@ fn stop<Dev: Device>(rooms: &Rooms, day: RoomDay<Dev>, fault: PieceFault) -> Roo
     requires room { HasRoomFor (length day.homes.items) (length rooms.now.room_of.items) day.room }
     requires rooms { IsRoomed rooms.now.room_of.items (length day.homes.items) }
     requires devices { HasDevicesOf rooms.now.room_of.items day.homes.items }
-    ensures status { result.status ≡ status_of result.fault }
+    ensures status { result.status ≡ status_for_fault result.fault }
     ensures windows { result.windows ≡ day.windows }
     ensures ends { RoomStopEnds rooms.now.room_of.items day.homes.items fault result.devices result.fault }
 {
@@ -279,7 +279,7 @@ fn tell_last(
     requires devices { length rooms.now.room_of.items ≤ most_devices }
     requires own { All (λ ws. All (λ window. HasOwnOrder (room_order window)) ws.items) windows.now.items }
     ensures { (before : _) (ws : _) → windows.now.items ≡ before ++ ws ∷ [] → OnOk result
-        ((last : _) × IsToldOf rooms.now.room_of.items ws.items last
+        ((last : _) × IsToldOfRooms rooms.now.room_of.items ws.items last
         × (told.new.items ≡ told.old.items ++ last ∷ [])) }
 {
     let number = windows.len() as usize - 1;
@@ -376,7 +376,7 @@ fn end<Dev: Device, K: Sink, C: Clock>(
         (shown_by Dev.tag Dev.plan Dev.stands Dev.turns Dev.probes Dev.faults)
         script.now mode day.windows.items day }
     requires all { length day.windows.items ≡ length script.now.windows.items }
-    ensures status { result.status ≡ status_of result.fault }
+    ensures status { result.status ≡ status_for_fault result.fault }
     ensures ends { RoomHasEnded (C.earliest _clock.now) (C.latest _clock.now)
         (shown_by Dev.tag Dev.plan Dev.stands Dev.turns Dev.probes Dev.faults) script.now mode
         (written (K.holds sink.old) (K.holds sink.new) (K.faults sink.old) (K.faults sink.new))
@@ -419,7 +419,7 @@ where
     requires goes { IsTrue (is_mode mode) }
     requires strong { is_weak mode ≡ false }
     requires splits { SplitBefore script.now (length script.now.windows.items) }
-    ensures status { result.status ≡ status_of result.fault }
+    ensures status { result.status ≡ status_for_fault result.fault }
     ensures ends { RoomDayEnds (C.earliest clock.now) (C.latest clock.now)
         (shown_by B.Dev.tag B.Dev.plan B.Dev.stands B.Dev.turns B.Dev.probes B.Dev.faults) script.now mode
         (written (K.holds sink.old) (K.holds sink.new) (K.faults sink.old) (K.faults sink.new))

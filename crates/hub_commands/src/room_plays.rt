@@ -5,7 +5,7 @@ ghost use Rattle.hub_commands.specs.RoomPlays.{AreOpened, AreTakenApart, IsRoomO
 ghost use Rattle.hub_core.specs.Homes.{setting_for};
 ghost use Rattle.hub_core.specs.Openings.{MayOpen, is_mode};
 ghost use Rattle.room_hubs.specs.Rooms.{plain_rooms, rooms_of};
-ghost use Rattle.room_hubs.specs.Splits.{split_of};
+ghost use Rattle.room_hubs.specs.Splits.{script_split};
 ghost use Rattle.routine_reader.specs.Scripts.{plain_script};
 ghost use Rattle.routine_reader.specs.Sound.{IsSound};
 ghost use Rattle.std.specs.Prelude.{◌≡◌, ◌<◌, ◌≤◌, [], IfOk, IsOk, IsTrue, Some, length, reverse, slice_get};
@@ -178,7 +178,7 @@ pub fn work_rooms<R: Threads + Wait + Sync, Dev: Device + Send, C: Clock + Sync>
     requires rooms { plain_rooms rooms.now ≡ rooms_of script.now }
     requires goes { IsTrue (is_mode mode) }
     requires there { number < length script.now.windows.items }
-    requires splits { IsOk (split_of script.now number) }
+    requires splits { IsOk (script_split script.now number) }
     requires under_way { (windows : Windows) × (length windows ≡ number) × RoomsAreUnderWay (C.earliest clock.now) (C.latest clock.now)
         (shown_by Dev.tag Dev.plan Dev.stands Dev.turns Dev.probes Dev.faults)
         script.now mode homes.items windows }

@@ -2,9 +2,9 @@
 ghost use Rattle.command_words.specs.RoomWords.{room_mode_of};
 ghost use Rattle.hub_commands.specs.Finishes.{read_off, shown_by, written};
 ghost use Rattle.hub_commands.specs.RoomCalls.{IsFirstRefused, IsSplitFault, RoomCallEnds, SplitBefore, SplitsEnd};
-ghost use Rattle.hub_commands.specs.Statuses.{status_of};
+ghost use Rattle.hub_commands.specs.Statuses.{status_for_fault};
 ghost use Rattle.room_hubs.specs.Rooms.{plain_rooms, rooms_of};
-ghost use Rattle.room_hubs.specs.Splits.{split_of};
+ghost use Rattle.room_hubs.specs.Splits.{script_split};
 ghost use Rattle.routine_reader.specs.Scripts.{plain_script};
 ghost use Rattle.routine_reader.specs.Sound.{IsSound};
 ghost use Rattle.std.specs.Prelude.{◌≡◌, ◌<◌, ◌≢◌, ◌+◌, ◌^◌, Err, IfErr, IfOk, length, map, string_bytes};
@@ -97,7 +97,7 @@ pub fn room_command<R: Threads + Wait + Sync, S: Source, K: Sink, B: Bench, C: C
 ) -> RoomFinish<B::Dev>
 where
     B::Dev: Send,
-    ensures status { result.status ≡ status_of result.fault }
+    ensures status { result.status ≡ status_for_fault result.fault }
     ensures ends { RoomCallEnds (C.earliest clock.now) (C.latest clock.now)
         (shown_by B.Dev.tag B.Dev.plan B.Dev.stands B.Dev.turns B.Dev.probes B.Dev.faults)
         (room_mode_of (map string_bytes words.now))

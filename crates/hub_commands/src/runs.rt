@@ -2,12 +2,12 @@
 ghost use Rattle.std.specs.Prelude.{◌≡◌, ◌<◌, [], Err, IfErr, IfOk, IsTrue, None, Some, false, length, map, string_bytes};
 ghost use Rattle.hub_commands.specs.CommandsTaken.{run_line_of};
 ghost use Rattle.hub_commands.specs.Boards.{IsToldOf};
-ghost use Rattle.hub_commands.specs.Days.{IsUnderWay, new_course, plain};
+ghost use Rattle.hub_commands.specs.Days.{DayIsUnderWay, new_course, plain};
 ghost use Rattle.hub_commands.specs.Calls.{CallEnds, IsProbedInAll};
 ghost use Rattle.hub_commands.specs.Finishes.{DayEnds, read_off, shown_by, written};
 ghost use Rattle.hub_commands.specs.Going.{IsToldOfDay};
 ghost use Rattle.hub_commands.specs.Played.{HasGoneOn, IsWorkedAs};
-ghost use Rattle.hub_commands.specs.Statuses.{status_of};
+ghost use Rattle.hub_commands.specs.Statuses.{status_for_fault};
 ghost use Rattle.hub_commands.specs.Ways.{IsRunWithin};
 ghost use Rattle.hub_core.specs.OpenHubs.{configuration_of};
 ghost use Rattle.hub_core.specs.Openings.{is_mode};
@@ -71,7 +71,7 @@ fn run_next<R: Threads + Wait + Sync, D: Device + Send, C: Clock + Sync>(
     requires sound { IsSound (plain_script script.now) }
     requires goes { IsTrue (is_mode mode) }
     requires next { length day.windows.items < length script.now.windows.items }
-    requires under_way { IsUnderWay (IsRunWithin (C.earliest clock.now) (C.latest clock.now))
+    requires under_way { DayIsUnderWay (IsRunWithin (C.earliest clock.now) (C.latest clock.now))
         D.tag D.plan D.stands D.turns D.probes D.faults
         script.now mode day.home day.windows.items }
     ensures played { IfOk result (λ next.
@@ -110,7 +110,7 @@ where
     requires goes { IsTrue (is_mode options.mode) }
     requires stands { O.stands onlooker.old }
     requires new { IsToldOf (O.told onlooker.old) [] }
-    ensures status { result.status ≡ status_of result.fault }
+    ensures status { result.status ≡ status_for_fault result.fault }
     ensures ends { DayEnds (IsRunWithin (C.earliest clock.now) (C.latest clock.now))
         (shown_by B.Dev.tag B.Dev.plan B.Dev.stands B.Dev.turns B.Dev.probes B.Dev.faults)
         plain script.now options
@@ -171,7 +171,7 @@ pub fn run_command<R: Threads + Wait + Sync, S: Source, K: Sink, B: Bench, C: Cl
 ) -> Finish<B::Dev>
 where
     B::Dev: Send,
-    ensures status { result.status ≡ status_of result.fault }
+    ensures status { result.status ≡ status_for_fault result.fault }
     ensures ends { CallEnds (IsRunWithin (C.earliest clock.now) (C.latest clock.now))
         (shown_by B.Dev.tag B.Dev.plan B.Dev.stands B.Dev.turns B.Dev.probes B.Dev.faults)
         (run_line_of (map string_bytes words.now))

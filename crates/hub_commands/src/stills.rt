@@ -4,7 +4,7 @@ ghost use Rattle.hub_commands.specs.Calls.{AsksFor, CallEnds};
 ghost use Rattle.hub_commands.specs.CommandsTaken.{still_line_of};
 ghost use Rattle.hub_commands.specs.Days.{plain};
 ghost use Rattle.hub_commands.specs.Finishes.{read_off, shown_by, written};
-ghost use Rattle.hub_commands.specs.Statuses.{status_of};
+ghost use Rattle.hub_commands.specs.Statuses.{status_for_fault};
 ghost use Rattle.hub_commands.specs.Ways.{IsReplayOf};
 ghost use Rattle.hub_core.specs.Openings.{is_mode};
 
@@ -29,7 +29,7 @@ fn replay_input<S: Source, K: Sink, B: Bench>(
     bench: &mut B,
 ) -> Finish<B::Dev>
     requires goes { IsTrue (is_mode options.mode) }
-    ensures status { result.status ≡ status_of result.fault }
+    ensures status { result.status ≡ status_for_fault result.fault }
     ensures ends { (line : _) → AsksFor plain line options → CallEnds IsReplayOf
         (shown_by B.Dev.tag B.Dev.plan B.Dev.stands B.Dev.turns B.Dev.probes B.Dev.faults)
         line
@@ -62,7 +62,7 @@ pub fn still_command<S: Source, K: Sink, B: Bench>(
     sink: &mut K,
     bench: &mut B,
 ) -> Finish<B::Dev>
-    ensures status { result.status ≡ status_of result.fault }
+    ensures status { result.status ≡ status_for_fault result.fault }
     ensures ends { CallEnds IsReplayOf
         (shown_by B.Dev.tag B.Dev.plan B.Dev.stands B.Dev.turns B.Dev.probes B.Dev.faults)
         (still_line_of (map string_bytes words.now))

@@ -3,7 +3,7 @@ ghost use Rattle.std.specs.Prelude.{◌≡◌, ◌≤◌, [], None, Some, false,
 ghost use Rattle.day_report.specs.Days.{day_text};
 ghost use Rattle.home_types.specs.Limits.{most_windows};
 ghost use Rattle.hub_commands.specs.Finishes.{shown_by, written};
-ghost use Rattle.hub_commands.specs.Statuses.{status_of};
+ghost use Rattle.hub_commands.specs.Statuses.{status_for_fault};
 ghost use Rattle.hub_commands.specs.Trials.{HasJudged, TrialEnds, agreeing, finding, trial_mode};
 ghost use Rattle.legal_days.specs.LegalDays.{RecordsAreLegal};
 ghost use Rattle.order_checker.specs.declared.verdicts.Verdict.TheVariants.{Agrees};
@@ -62,7 +62,7 @@ fn judge_day<K: Sink, Dev: Device>(
     requires count { length day.windows.items ≡ length script.now.windows.items }
     requires legal { RecordsAreLegal script.now trial_mode day.windows.items }
     requires text { text.now ≡ day_text script.now day.windows.items trial_mode false }
-    ensures status { result.status ≡ status_of result.fault }
+    ensures status { result.status ≡ status_for_fault result.fault }
     ensures agrees { finding script.now day ≡ Agrees }
     ensures judged { HasJudged number script.now
         (written (K.holds sink.old) (K.holds sink.new) (K.faults sink.old) (K.faults sink.new))
@@ -89,7 +89,7 @@ fn play_script<K: Sink, B: Bench>(
     requires sound { IsSound (plain_script script.now) }
     requires made { plain_script script.now ≡ trial_script number }
     requires empty { text.held ≡ [] }
-    ensures status { result.status ≡ status_of result.fault }
+    ensures status { result.status ≡ status_for_fault result.fault }
     ensures ends { TrialEnds
         (shown_by B.Dev.tag B.Dev.plan B.Dev.stands B.Dev.turns B.Dev.probes B.Dev.faults) number
         (written (K.holds sink.old) (K.holds sink.new) (K.faults sink.old) (K.faults sink.new))
@@ -114,7 +114,7 @@ pub fn play_trial<K: Sink, B: Bench>(
 ) -> Finish<B::Dev>
     requires least { 1 ≤ number }
     requires most { number ≤ most_windows }
-    ensures status { result.status ≡ status_of result.fault }
+    ensures status { result.status ≡ status_for_fault result.fault }
     ensures ends { TrialEnds
         (shown_by B.Dev.tag B.Dev.plan B.Dev.stands B.Dev.turns B.Dev.probes B.Dev.faults) number
         (written (K.holds sink.old) (K.holds sink.new) (K.faults sink.old) (K.faults sink.new))

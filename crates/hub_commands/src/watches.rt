@@ -7,7 +7,7 @@ ghost use Rattle.hub_commands.specs.Days.{boarded, plain};
 ghost use Rattle.hub_commands.specs.Finishes.{DayEnds, IsUnwritten, read_off, shown_by, written};
 ghost use Rattle.hub_commands.specs.Going.{HandsBack};
 ghost use Rattle.hub_commands.specs.LastLines.{LineEnds};
-ghost use Rattle.hub_commands.specs.Statuses.{status_of};
+ghost use Rattle.hub_commands.specs.Statuses.{status_for_fault};
 ghost use Rattle.hub_commands.specs.Watched.{IsPublished};
 ghost use Rattle.hub_commands.specs.Ways.{IsRunWithin};
 ghost use Rattle.hub_core.specs.Openings.{is_mode};
@@ -49,7 +49,7 @@ where
     requires goes { IsTrue (is_mode options.mode) }
     requires stands { IsPosting posting.old.board.now posting.old.publisher posting.old.last }
     requires empty { posting.old.publisher.list ≡ [] }
-    ensures status { result.status ≡ status_of result.fault }
+    ensures status { result.status ≡ status_for_fault result.fault }
     ensures ends { DayEnds (IsRunWithin (C.earliest clock.now) (C.latest clock.now))
         (shown_by B.Dev.tag B.Dev.plan B.Dev.stands B.Dev.turns B.Dev.probes B.Dev.faults)
         plain script.now options
@@ -85,7 +85,7 @@ where
     requires stands { IsPosting posting.old.board.now posting.old.publisher posting.old.last }
     requires empty { posting.old.publisher.list ≡ [] }
     requires watcher { watcher.old.board ≡ board.now }
-    ensures status { result.0.status ≡ status_of result.0.fault }
+    ensures status { result.0.status ≡ status_for_fault result.0.fault }
     ensures ends { DayEnds (IsRunWithin (C.earliest clock.now) (C.latest clock.now))
         (shown_by B.Dev.tag B.Dev.plan B.Dev.stands B.Dev.turns B.Dev.probes B.Dev.faults)
         plain script.now options
@@ -115,8 +115,8 @@ fn end_watched<Dev: Device, K: Sink>(
     finish: Finish<Dev>,
     sink: &mut K,
 ) -> Finish<Dev>
-    requires status { finish.status ≡ status_of finish.fault }
-    ensures status { result.status ≡ status_of result.fault }
+    requires status { finish.status ≡ status_for_fault finish.fault }
+    ensures status { result.status ≡ status_for_fault result.fault }
     ensures ends { LineEnds (board_line seen)
         (written (K.holds sink.old) (K.holds sink.new) (K.faults sink.old) (K.faults sink.new))
         finish.day finish.fault result.day result.fault }
@@ -143,7 +143,7 @@ where
     B::Dev: Send,
     requires sound { IsSound (plain_script script.now) }
     requires goes { IsTrue (is_mode options.mode) }
-    ensures status { result.0.status ≡ status_of result.0.fault }
+    ensures status { result.0.status ≡ status_for_fault result.0.fault }
     ensures ends { DayEnds (IsRunWithin (C.earliest clock.now) (C.latest clock.now))
         (shown_by B.Dev.tag B.Dev.plan B.Dev.stands B.Dev.turns B.Dev.probes B.Dev.faults)
         boarded script.now options
@@ -206,7 +206,7 @@ pub fn watch_command<R: Threads + Wait + Sync, S: Source, K: Sink, B: Bench, C: 
 ) -> (Finish<B::Dev>, Option<Publisher>)
 where
     B::Dev: Send,
-    ensures status { result.0.status ≡ status_of result.0.fault }
+    ensures status { result.0.status ≡ status_for_fault result.0.fault }
     ensures ends { CallEnds (IsRunWithin (C.earliest clock.now) (C.latest clock.now))
         (shown_by B.Dev.tag B.Dev.plan B.Dev.stands B.Dev.turns B.Dev.probes B.Dev.faults)
         (watch_line_of (map string_bytes words.now))
@@ -253,7 +253,7 @@ pub fn watch_command_telling<
 ) -> (Finish<B::Dev>, Option<Publisher>)
 where
     B::Dev: Send,
-    ensures status { result.0.status ≡ status_of result.0.fault }
+    ensures status { result.0.status ≡ status_for_fault result.0.fault }
     ensures ends { CallEnds (IsRunWithin (C.earliest clock.now) (C.latest clock.now))
         (shown_by B.Dev.tag B.Dev.plan B.Dev.stands B.Dev.turns B.Dev.probes B.Dev.faults)
         (watch_line_of (map string_bytes words.now))

@@ -1,5 +1,5 @@
 -- A window of a sound script may be opened in every mode.
-use Rattle.command_rules.specs.Rosters.{Run, commands_of, followed_by, run_at, runs_of}
+use Rattle.command_rules.specs.Rosters.{Run, commands_of, followed_by, run_in_roster, runs_of}
 use Rattle.command_rules.specs.declared.rosters.Roster.{Roster}
 use Rattle.home_types.specs.Kinds.{kind_at}
 use Rattle.home_types.specs.declared.commands.Command.{Command}
@@ -11,9 +11,9 @@ use Rattle.home_types.specs.declared.numbers.RunNo.{RunNo}
 use Rattle.hub_core.specs.Homes.{HomeIsKept, HomeState, setting_for}
 use Rattle.hub_core.specs.Openings.{MayOpen, is_mode, names_values_of}
 use Rattle.routine_reader.proofs.RosterLemmas.{runs-there}
-use Rattle.routine_reader.specs.Rosters.{kinds_of, routine_at, run_of_text, script_runs}
+use Rattle.routine_reader.specs.Rosters.{kinds_of, routine_commands, run_of_text, script_runs}
 use Rattle.routine_reader.specs.Scripts.{plain_device, plain_routine, plain_script, plain_window}
-use Rattle.routine_reader.specs.Sound.{IsSound, IsSoundCommand, IsSoundRoutine, IsSoundRun, IsSoundWindow, device_kinds, suits}
+use Rattle.routine_reader.specs.Sound.{IsSound, IsSoundCommand, IsSoundRoutine, IsSoundRun, IsSoundWindow, device_kinds, suits_device}
 use Rattle.routine_reader.specs.declared.scripts.DeviceText.{DeviceText}
 use Rattle.routine_reader.specs.declared.scripts.RoutineText.{RoutineText}
 use Rattle.routine_reader.specs.declared.scripts.RunText.{RunText}
@@ -48,7 +48,7 @@ record AreSound (script : Script) (commands : List Command) : Type 0 where
 none_is_sound : (script : Script) → AreSound script []
 none_is_sound script = record { few = omega arith; each = λ k c at. absurd (cc) }
 
-routine_is_sound : (script : Script) (i : ℕ) → IsSound (plain_script script) → AreSound script (routine_at script i)
+routine_is_sound : (script : Script) (i : ℕ) → IsSound (plain_script script) → AreSound script (routine_commands script i)
 routine_is_sound script i sound = by_text (slice_get script.routines.items i) refl
   where
     by_text : (o : Option RoutineText) → slice_get script.routines.items i ≡ o → AreSound script (unwrap_or (option_map (λ t. t.routine.commands.items) o) [])
@@ -63,9 +63,9 @@ abbrev runs_in : Script → WindowText → List Run
 runs_in script window = map (run_of_text script) window.runs.items
 
 run_is_sound : (script : Script) (window : WindowText) (r : ℕ) → IsSound (plain_script script) → AreSound script (commands_of (runs_in script window) r)
-run_is_sound script window r sound = by_run (run_at (runs_in script window) r) (λ run at. there r run at)
+run_is_sound script window r sound = by_run (run_in_roster (runs_in script window) r) (λ run at. there r run at)
   where
-    there : (r : ℕ) (run : Run) → run_at (runs_in script window) r ≡ Some run → AreSound script run.commands
+    there : (r : ℕ) (run : Run) → run_in_roster (runs_in script window) r ≡ Some run → AreSound script run.commands
     there zero run at = absurd (cc)
     there (suc i) run at = seen_there (run_of_text script) (λ run. AreSound script run.commands) window.runs.items i run (λ k text is. routine_is_sound script text.routine sound) at
 
@@ -95,7 +95,7 @@ same_kinds : (devices : List DeviceText) → device_kinds (map plain_device devi
 same_kinds [] = refl
 same_kinds (d ∷ devices) = ap (λ ks. d.kind ∷ ks) (same_kinds devices)
 
-names_as : (kind : Kind) (job : Job) → suits kind job ≡ true → names_values_of kind job ≡ true
+names_as : (kind : Kind) (job : Job) → suits_device kind job ≡ true → names_values_of kind job ≡ true
 names_as kind (Set v) is = is
 names_as kind (Check v) is = is
 names_as kind Load is = is
@@ -123,7 +123,7 @@ may_open tag stands turns probes faults script mode k window home roster is =
       few_runs = let n = length-map window.runs.items (run_of_text script) in omega (arith, n, window_sound.few_runs);
       few_commands = λ r. (run_is_sound script window r is.sound).few;
       homed = λ r k c there. let command = (run_is_sound script window r is.sound).each k c there in
-          and_from (nat_lt c.device.0 (length home.world)) _ (within c.device.0 command.device) (names_as (kind_at home.kinds c.device.0) c.job (ap (λ ks. suits (kind_at ks c.device.0) c.job) (is.kinds ∙ sym (same_kinds script.devices.items)) ∙ command.value));
+          and_from (nat_lt c.device.0 (length home.world)) _ (within c.device.0 command.device) (names_as (kind_at home.kinds c.device.0) c.job (ap (λ ks. suits_device (kind_at ks c.device.0) c.job) (is.kinds ∙ sym (same_kinds script.devices.items)) ∙ command.value));
       follows = λ r f there. let earlier = follows_earlier script window r f window_sound.runs there in and_from (nat_lt 0 f.0) (nat_lt f.0 r) (lt-ltb 0 f.0 earlier.0) (lt-ltb f.0 r earlier.1);
       mode = is.goes;
       few_rounds = window_sound.probes;

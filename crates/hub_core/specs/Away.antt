@@ -10,7 +10,7 @@ use Rattle.device_gate.specs.declared.slips.Told.{Told}
 use Rattle.device_states.specs.Devices.{HasRoom}
 use Rattle.home_types.specs.Numbers.{ActorId, DeviceId}
 use Rattle.home_types.specs.declared.numbers.DeviceNo.{DeviceNo}
-use Rattle.hub_core.specs.OpenHubs.{device_at}
+use Rattle.hub_core.specs.OpenHubs.{progress_at}
 use Rattle.hub_core.specs.declared.away.Away.{Away}
 use Rattle.hub_core.specs.declared.known.DeviceProgress.{DeviceProgress}
 use Rattle.hub_core.specs.declared.known.Events.{Events}
@@ -65,12 +65,12 @@ pub record MayComeHome {D : Type 0} (a : Away D) (grip : Gripped D Done) : Type 
   pub kept : IsKept a.gate.places grip.slip grip.task
   pub known : grip.slip.device.0 < length a.known.items
   pub maker : grip.slip.maker ≤ length a.hands.items
-  pub few_fell : (device_at a.known.items grip.slip.device.0).events.fell + 1 < 4294967296
-  pub few_rose : (device_at a.known.items grip.slip.device.0).events.rose + 1 < 4294967296
+  pub few_fell : (progress_at a.known.items grip.slip.device.0).events.fell + 1 < 4294967296
+  pub few_rose : (progress_at a.known.items grip.slip.device.0).events.rose + 1 < 4294967296
 
 -- the device of the grip is home again
 pub record IsHomeAgain {D : Type 0} (a : Away D) (grip : Gripped D Done) (b : Away D) : Type 0 where
   pub places : b.gate.places ≡ slice_set a.gate.places grip.slip.device.0 (Home grip.device)
   pub tickets : b.gate.tickets ≡ a.gate.tickets
-  pub known : b.known.items ≡ slice_set a.known.items grip.slip.device.0 (known_after grip.task grip.stage.told (device_at a.known.items grip.slip.device.0))
+  pub known : b.known.items ≡ slice_set a.known.items grip.slip.device.0 (known_after grip.task grip.stage.told (progress_at a.known.items grip.slip.device.0))
   pub hands : b.hands.items ≡ with_hand a.hands.items grip.slip.maker None

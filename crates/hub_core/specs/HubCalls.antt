@@ -25,7 +25,7 @@ use Rattle.hub_core.specs.HubSteps.{Carried, Chose, Give, GiveProbe, Gave, HubSt
 use Rattle.legal_days.specs.JustifiedAborts.{IsJustified}
 use Rattle.legal_days.specs.LegalWindows.{IsLegalWindow, history_of, weakly_allowed}
 use Rattle.hub_core.specs.MustChecks.{has_must_check}
-use Rattle.hub_core.specs.OpenHubs.{OpenHub, configuration_of, device_at, state_of}
+use Rattle.hub_core.specs.OpenHubs.{OpenHub, configuration_of, hub_state_of, progress_at}
 use Rattle.hub_core.specs.Steps.{Absent as IsAbsent, Choice, HandsOut, Moves, Over as IsOver, Waits, choice_of, opened}
 use Rattle.hub_core.specs.declared.turns.Turn.TheVariants.{Absent, Go, Moved, Over, Wait}
 use Rattle.hub_core.specs.declared.turns.Turn.{Turn}
@@ -42,7 +42,7 @@ pub record SameWindow {D : Type 0} (s t : OpenHub D) : Type 0 where
   pub setting : t.setting ≡ s.setting
   pub rounds : t.rounds ≡ s.rounds
   pub opened : t.opened ≡ s.opened
-  pub at_opening : (d : DeviceId) → (device_at t.devices d).at_opening ≡ (device_at s.devices d).at_opening
+  pub at_opening : (d : DeviceId) → (progress_at t.devices d).at_opening ≡ (progress_at s.devices d).at_opening
 
 -- the entries stand in the first places: one in the second only behind one in the first, and one in the third only behind one in the second
 pub record IsPacked (made : Made) : Type 0 where
@@ -51,7 +51,7 @@ pub record IsPacked (made : Made) : Type 0 where
 
 -- the step of the run answers so and hands no device out
 pub record Answers {D : Type 0} (s : OpenHub D) (r : RunId) (m : Moment) (choice : Choice) (t : OpenHub D) : Type 0 where
-  pub step : (slip : Slip) → HubStep (state_of s) (Take r m slip) (Chose choice) (state_of t)
+  pub step : (slip : Slip) → HubStep (hub_state_of s) (Take r m slip) (Chose choice) (hub_state_of t)
   pub places : t.places ≡ s.places
   pub tickets : t.tickets ≡ s.tickets
 
@@ -59,12 +59,12 @@ pub record Answers {D : Type 0} (s : OpenHub D) (r : RunId) (m : Moment) (choice
 pub record IsNextGrip {D : Type 0} (s : OpenHub D) (grip : Gripped D Ready) (t : OpenHub D) : Type 0 where
   pub ticket : grip.slip.ticket ≡ s.tickets + 1
   pub tickets : t.tickets ≡ s.tickets + 1
-  pub stood : grip.slip.stood ≡ (device_at s.devices grip.slip.device.0).held
+  pub stood : grip.slip.stood ≡ (progress_at s.devices grip.slip.device.0).held
 
 -- the step of the run hands this device out, for what it needs it
-pub record GoesOut {D : Type 0} (s : OpenHub D) (r : RunId) (m : Moment) (grip : Gripped D Ready) (t : OpenHub D) : Type 0 where
+pub record DeviceGoesOut {D : Type 0} (s : OpenHub D) (r : RunId) (m : Moment) (grip : Gripped D Ready) (t : OpenHub D) : Type 0 where
   pub purpose : Purpose
-  pub step : HubStep (state_of s) (Take r m grip.slip) (Chose (HandsOut grip.slip.device.0 purpose)) (state_of t)
+  pub step : HubStep (hub_state_of s) (Take r m grip.slip) (Chose (HandsOut grip.slip.device.0 purpose)) (hub_state_of t)
   pub task : grip.task ≡ task_of (configuration_of s) r purpose
   pub home : slice_get s.places grip.slip.device.0 ≡ Some (Home grip.device)
   pub places : t.places ≡ slice_set s.places grip.slip.device.0 (Out grip.slip grip.task)
@@ -72,7 +72,7 @@ pub record GoesOut {D : Type 0} (s : OpenHub D) (r : RunId) (m : Moment) (grip :
 
 -- what the step of a run answers, and the hub after it: where the run waits, or is none of the window, its last moment alone may be another
 abbrev pub IsTurn : {D : Type 0} → OpenHub D → RunId → Moment → Turn D → OpenHub D → Type 0
-IsTurn s r m (Go grip) t = GoesOut s r m grip t
+IsTurn s r m (Go grip) t = DeviceGoesOut s r m grip t
 IsTurn s r m (Moved made) t = Answers s r m (Moves (entries_made made)) t × IsPacked made
 IsTurn s r m (Wait why) t = Answers s r m (Waits why) t × (t ≡ record s { moment = max s.moment m })
 IsTurn s r m (Over end made) t = Answers s r m (IsOver end (entries_made made)) t × IsPacked made
@@ -94,30 +94,30 @@ carried_by grip = record { slip = grip.slip; task = grip.task }
 -- a grip that comes back is taken in: the step back, and the device is home again; or it is refused and nothing changes
 abbrev pub IsGiven : {D : Type 0} → OpenHub D → Gripped D Done → Moment → Result Made (Gripped D Done × Stranger) → OpenHub D → Type 0
 IsGiven s grip m (Ok made) t =
-    HubStep (state_of s) (Give (carried_by grip) grip.stage.told m) (Returned (Gave (entries_made made))) (state_of t)
+    HubStep (hub_state_of s) (Give (carried_by grip) grip.stage.told m) (Returned (Gave (entries_made made))) (hub_state_of t)
     × (t.places ≡ slice_set s.places grip.slip.device.0 (Home grip.device))
     × (t.tickets ≡ s.tickets) × IsPacked made
 IsGiven s grip m (Err refused) t =
-    HubStep (state_of s) (Give (carried_by grip) grip.stage.told m) (Returned (Refused refused.1)) (state_of t)
+    HubStep (hub_state_of s) (Give (carried_by grip) grip.stage.told m) (Returned (Refused refused.1)) (hub_state_of t)
     × (refused.0 ≡ grip) × (t ≡ s)
 
 -- a probe of the device goes out, or none may
 abbrev pub IsProbed : {D : Type 0} → OpenHub D → DeviceId → Option (Gripped D Ready) → OpenHub D → Type 0
 IsProbed s d (Some grip) t =
-    HubStep (state_of s) (TakeProbe d grip.slip) (Probed (Some grip.task)) (state_of t)
+    HubStep (hub_state_of s) (TakeProbe d grip.slip) (Probed (Some grip.task)) (hub_state_of t)
     × (slice_get s.places d ≡ Some (Home grip.device))
     × (t.places ≡ slice_set s.places d (Out grip.slip grip.task))
     × IsNextGrip s grip t
-IsProbed s d None t = ((slip : Slip) → HubStep (state_of s) (TakeProbe d slip) (Probed None) (state_of t)) × (t ≡ s)
+IsProbed s d None t = ((slip : Slip) → HubStep (hub_state_of s) (TakeProbe d slip) (Probed None) (hub_state_of t)) × (t ≡ s)
 
 -- the same for the detector's grip
 abbrev pub IsProbeGiven : {D : Type 0} → OpenHub D → Gripped D Done → Result Made (Gripped D Done × Stranger) → OpenHub D → Type 0
 IsProbeGiven s grip (Ok made) t =
-    HubStep (state_of s) (GiveProbe (carried_by grip) grip.stage.told) (Returned (Gave (entries_made made))) (state_of t)
+    HubStep (hub_state_of s) (GiveProbe (carried_by grip) grip.stage.told) (Returned (Gave (entries_made made))) (hub_state_of t)
     × (t.places ≡ slice_set s.places grip.slip.device.0 (Home grip.device))
     × (t.tickets ≡ s.tickets) × IsPacked made
 IsProbeGiven s grip (Err refused) t =
-    HubStep (state_of s) (GiveProbe (carried_by grip) grip.stage.told) (Returned (Refused refused.1)) (state_of t)
+    HubStep (hub_state_of s) (GiveProbe (carried_by grip) grip.stage.told) (Returned (Refused refused.1)) (hub_state_of t)
     × (refused.0 ≡ grip) × (t ≡ s)
 
 -- the window was opened on this home: with an empty history, each device home, no ticket given, and the counts of each device as it has them
@@ -127,9 +127,9 @@ pub record IsOpened {D : Type 0} (turns probes faults : D → ℕ) (w : Setting)
   pub rounds_are : hub.rounds ≡ rounds
   pub windows : hub.opened ≡ home.opened
   pub tickets : hub.tickets ≡ 0
-  pub turns_then : (d : DeviceId) (device : D) → slice_get home.devices d ≡ Some device → (device_at hub.devices d).at_opening.turns ≡ turns device
-  pub probes_then : (d : DeviceId) (device : D) → slice_get home.devices d ≡ Some device → (device_at hub.devices d).at_opening.probes ≡ probes device
-  pub faults_then : (d : DeviceId) (device : D) → slice_get home.devices d ≡ Some device → (device_at hub.devices d).at_opening.faults ≡ faults device
+  pub turns_then : (d : DeviceId) (device : D) → slice_get home.devices d ≡ Some device → (progress_at hub.devices d).at_opening.turns ≡ turns device
+  pub probes_then : (d : DeviceId) (device : D) → slice_get home.devices d ≡ Some device → (progress_at hub.devices d).at_opening.probes ≡ probes device
+  pub faults_then : (d : DeviceId) (device : D) → slice_get home.devices d ≡ Some device → (progress_at hub.devices d).at_opening.faults ≡ faults device
 
 -- no device fails in the window: each is up as it opens, and its faults do not rise
 pub record NoneFails (w : Setting) (faults : List ℕ) : Type 0 where
@@ -142,7 +142,7 @@ pub record RunsHaveEnded (w : Setting) (closed : WindowRecord) : Type 0 where
   pub commits : w.mode.scheduler ≡ Fcfs → NoneFails w closed.faults.items → (r : RunId) → is_run w.runs r ≡ true → has_must_check w.runs r ≡ false → ((reading w (history_of closed)).run r).ended ≡ Some Committed
 
 -- the window was closed with this record, and leaves this home: its devices are those of the hub, and their counts rose as the record says, the probes by those that were taken
-pub record IsClosed {D : Type 0} (turns probes faults : D → ℕ) (s : OpenHub D) (home : HomeState D) (closed : WindowRecord) : Type 0 where
+pub record WindowIsClosed {D : Type 0} (turns probes faults : D → ℕ) (s : OpenHub D) (home : HomeState D) (closed : WindowRecord) : Type 0 where
   pub legal : IsLegalWindow s.setting closed
   pub history : closed.history.items ≡ s.history
   pub kinds : home.kinds ≡ s.setting.kinds
@@ -152,9 +152,9 @@ pub record IsClosed {D : Type 0} (turns probes faults : D → ℕ) (s : OpenHub 
   pub ends : RunsHaveEnded s.setting closed
   -- where no device fails, each is up
   pub up : NoneFails s.setting closed.faults.items → (d : DeviceId) → d < length home.world → (stand_at home.world d).up ≡ true
-  pub turns_rose : (d : DeviceId) (device : D) → slice_get home.devices d ≡ Some device → turns device ≡ (device_at s.devices d).at_opening.turns + slice_index_or closed.turns.items d 0
-  pub probes_rose : (d : DeviceId) (device : D) → slice_get home.devices d ≡ Some device → probes device ≡ (device_at s.devices d).at_opening.probes + (s.rounds - (device_at s.devices d).probes_left)
-  pub faults_rose : (d : DeviceId) (device : D) → slice_get home.devices d ≡ Some device → faults device ≡ (device_at s.devices d).at_opening.faults + slice_index_or closed.faults.items d 0
+  pub turns_rose : (d : DeviceId) (device : D) → slice_get home.devices d ≡ Some device → turns device ≡ (progress_at s.devices d).at_opening.turns + slice_index_or closed.turns.items d 0
+  pub probes_rose : (d : DeviceId) (device : D) → slice_get home.devices d ≡ Some device → probes device ≡ (progress_at s.devices d).at_opening.probes + (s.rounds - (progress_at s.devices d).probes_left)
+  pub faults_rose : (d : DeviceId) (device : D) → slice_get home.devices d ≡ Some device → faults device ≡ (progress_at s.devices d).at_opening.faults + slice_index_or closed.faults.items d 0
 
 -- What a hub tells
 
@@ -181,16 +181,16 @@ DevicesStand {D} stands s = (d : DeviceId) (device : D) → slice_get s.places d
 
 -- how many probes of the device were taken
 abbrev pub probes_taken : {D : Type 0} → OpenHub D → DeviceId → ℕ
-probes_taken s d = s.rounds - (device_at s.devices d).probes_left
+probes_taken s d = s.rounds - (progress_at s.devices d).probes_left
 
 -- how often it has failed up to now at least: its faults at the opening, and the failures that the history tells of
 abbrev pub faults_told : {D : Type 0} → OpenHub D → DeviceId → ℕ
-faults_told s d = (device_at s.devices d).at_opening.faults + told_falls (entries_of s.history) d
+faults_told s d = (progress_at s.devices d).at_opening.faults + told_falls (entries_of s.history) d
 
 -- the calls of a device that is home rose since the opening by those that the history tells of, its probes by those that were taken, and its faults by its failures at least, and at most by these and its probes
 pub record CallsAreTold {D : Type 0} (turns probes faults : D → ℕ) (s : OpenHub D) : Type 0 where
-  pub turns_rose : (d : DeviceId) (device : D) → slice_get s.places d ≡ Some (Home device) → turns device ≡ (device_at s.devices d).at_opening.turns + told_calls s.setting.runs (entries_of s.history) d
-  pub probes_rose : (d : DeviceId) (device : D) → slice_get s.places d ≡ Some (Home device) → probes device ≡ (device_at s.devices d).at_opening.probes + probes_taken s d
+  pub turns_rose : (d : DeviceId) (device : D) → slice_get s.places d ≡ Some (Home device) → turns device ≡ (progress_at s.devices d).at_opening.turns + told_calls s.setting.runs (entries_of s.history) d
+  pub probes_rose : (d : DeviceId) (device : D) → slice_get s.places d ≡ Some (Home device) → probes device ≡ (progress_at s.devices d).at_opening.probes + probes_taken s d
   pub falls_told : (d : DeviceId) (device : D) → slice_get s.places d ≡ Some (Home device) → faults_told s d ≤ faults device
   pub few_faults : (d : DeviceId) (device : D) → slice_get s.places d ≡ Some (Home device) → faults device ≤ faults_told s d + probes_taken s d
 

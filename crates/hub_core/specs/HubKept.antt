@@ -31,15 +31,15 @@ use Rattle.std.specs.Prelude.{Bool, IsTrue, List, None, Some, [], false, if◌th
 use Rattle.window_order.specs.OrderKept.{OrderIsKept}
 
 -- the item is a run that was placed after this number of entries
-abbrev pub is_later : Reading → ℕ → Item → Bool
-is_later n stamp (Ran r) = nat_lt stamp (stamp_of n r.0)
-is_later n stamp (Failed d k) = true
-is_later n stamp (Back d k) = true
+abbrev pub is_placed_later : Reading → ℕ → Item → Bool
+is_placed_later n stamp (Ran r) = nat_lt stamp (stamp_of n r.0)
+is_placed_later n stamp (Failed d k) = true
+is_placed_later n stamp (Back d k) = true
 
 -- each run of the line was placed before the runs behind it
 abbrev pub placed_in_order : Reading → List Item → Bool
 placed_in_order n [] = true
-placed_in_order n (Ran r ∷ is) = list_all (is_later n (stamp_of n r.0)) is && placed_in_order n is
+placed_in_order n (Ran r ∷ is) = list_all (is_placed_later n (stamp_of n r.0)) is && placed_in_order n is
 placed_in_order n (Failed d k ∷ is) = placed_in_order n is
 placed_in_order n (Back d k ∷ is) = placed_in_order n is
 

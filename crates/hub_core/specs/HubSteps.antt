@@ -60,7 +60,7 @@ stranger s told = record { kept = option_map (λ c. c.slip) (s.carried told.slip
 
 -- what a call answers, and the hub after it
 
-pub record Taken : Type 0 where
+pub record RunTaken : Type 0 where
   pub choice : Choice
   pub next : HubState
 
@@ -70,7 +70,7 @@ pub data GiveAnswer : Type 0 where
   -- it is not the one that is out
   Refused : Stranger → GiveAnswer
 
-pub record Given : Type 0 where
+pub record RunGiven : Type 0 where
   pub answer : GiveAnswer
   pub next : HubState
 
@@ -90,7 +90,7 @@ carried_after s r (Waits why) slip = s.carried
 carried_after s r (HandsOut d purpose) slip = carrying s r d purpose slip
 
 -- the step of a run; a device that goes out leaves with the slip that is written for it
-abbrev pub take : HubState → RunId → Moment → Slip → Taken
+abbrev pub take : HubState → RunId → Moment → Slip → RunTaken
 take s r m slip =
     record {
       choice = choice_of s.configuration r m;
@@ -110,16 +110,16 @@ abbrev pub entries_back : Configuration → Carried → Told → List Entry
 entries_back c told result = unwrap_or (option_map (λ grip. give_entries c.setting (read_of c) told.slip.device.0 grip result) (c.grips told.slip.device.0)) []
 
 -- a grip comes back; one that is not the one which is out is refused, and nothing changes
-abbrev pub give_if : Bool → HubState → Configuration → Carried → Told → Given
+abbrev pub give_if : Bool → HubState → Configuration → Carried → Told → RunGiven
 give_if true s c told result = record { answer = Gave (entries_back c told result); next = taken_back s c told result }
 give_if false s c told result = record { answer = Refused (stranger s told); next = s }
 
 -- the grip of a run
-abbrev pub give : HubState → Carried → Told → Moment → Given
+abbrev pub give : HubState → Carried → Told → Moment → RunGiven
 give s told result m = give_if (is_kept s told && nat_lt 0 told.slip.maker) s (at_moment s.configuration m) told result
 
 -- the grip of the detector
-abbrev pub give_probe : HubState → Carried → Told → Given
+abbrev pub give_probe : HubState → Carried → Told → RunGiven
 give_probe s told result = give_if (is_kept s told && (told.slip.maker == 0)) s s.configuration told result
 
 -- a probe of the device goes out, where it may

@@ -15,7 +15,7 @@ use Rattle.hub_core.specs.Homes.{CountsAreLow}
 use Rattle.hub_core.specs.Bounds.{most_entries, most_items}
 use Rattle.hub_core.specs.HubCalls.{faults_told, probes_taken}
 use Rattle.hub_core.specs.HubSteps.{task_of}
-use Rattle.hub_core.specs.OpenHubs.{OpenHub, configuration_of, device_at, events_in, held_in}
+use Rattle.hub_core.specs.OpenHubs.{OpenHub, configuration_of, events_in, held_in, progress_at}
 use Rattle.window_order.specs.KeptOrders.{purpose_of}
 use Rattle.hub_core.specs.KeptByModel.{IsKeptByModel}
 use Rattle.hub_core.specs.KeptOrders.{OrderIsBeside}
@@ -28,10 +28,10 @@ use Rattle.std.specs.Prelude.{Bool, IsTrue, List, Option, Some, [], count_by, fa
 
 -- how often the device was called up to now: its counts at the opening, and what the window made of them
 abbrev pub turns_now : {D : Type 0} → OpenHub D → DeviceId → ℕ
-turns_now s d = (device_at s.devices d).at_opening.turns + told_calls s.setting.runs (entries_of s.history) d
+turns_now s d = (progress_at s.devices d).at_opening.turns + told_calls s.setting.runs (entries_of s.history) d
 
 abbrev pub probes_now : {D : Type 0} → OpenHub D → DeviceId → ℕ
-probes_now s d = (device_at s.devices d).at_opening.probes + probes_taken s d
+probes_now s d = (progress_at s.devices d).at_opening.probes + probes_taken s d
 
 -- how many probes were taken of all devices
 abbrev pub all_probes_taken : {D : Type 0} → OpenHub D → ℕ
@@ -53,7 +53,7 @@ pub record FitsOut {D : Type 0} (s : OpenHub D) (d : DeviceId) (slip : Slip) (ta
   pub probes_are : slip.probes + probed task ≡ probes_now s d
   pub falls_told : faults_told s d ≤ slip.faults
   pub few_faults : slip.faults + probed task ≤ faults_told s d + probes_taken s d
-  pub does : task ≡ task_of (configuration_of s) slip.maker (purpose_of (device_at s.devices d).purpose)
+  pub does : task ≡ task_of (configuration_of s) slip.maker (purpose_of (progress_at s.devices d).purpose)
 
 -- a device that is out for a run
 abbrev pub is_away : {D : Type 0} → Place D → Bool
@@ -67,10 +67,10 @@ pub record HubIsKeptBy (Kept : Configuration → ℕ → ℕ → (DeviceId → �
   pub places_size : length s.places ≡ length s.setting.first
   pub home : (d : DeviceId) (device : D) → slice_get s.places d ≡ Some (Home device) → FitsAtHome stands turns probes faults s d device
   pub out : (d : DeviceId) (slip : Slip) (task : Task) → slice_get s.places d ≡ Some (Out slip task) → FitsOut s d slip task
-  pub low : (d : DeviceId) → CountsAreLow s.opened (device_at s.devices d).at_opening.turns (device_at s.devices d).at_opening.probes (device_at s.devices d).at_opening.faults
+  pub low : (d : DeviceId) → CountsAreLow s.opened (progress_at s.devices d).at_opening.turns (progress_at s.devices d).at_opening.probes (progress_at s.devices d).at_opening.faults
   pub values : (d : DeviceId) → d < length s.setting.first → IsTrue (has_value (kind_at s.setting.kinds d) (held_in s d))
   -- the hub has counted the failures and restarts of each device as the history tells them
-  pub events : (d : DeviceId) → d < length s.setting.first → (device_at s.devices d).events ≡ events_in (read_of (configuration_of s)) d
+  pub events : (d : DeviceId) → d < length s.setting.first → (progress_at s.devices d).events ≡ events_in (read_of (configuration_of s)) d
   -- each ticket is of a call that is told, of a device that is out for a run, or of a probe
   pub few_tickets : s.tickets ≤ length s.history + count_by is_away s.places + all_probes_taken s
 

@@ -6,7 +6,7 @@ use Rattle.history_book.specs.Settings.{Setting}
 use Rattle.history_book.specs.declared.entries.Kept.{Kept}
 use Rattle.home_types.specs.Numbers.{DeviceId, Moment}
 use Rattle.hub_core.specs.HubSteps.{Carried, HubState}
-use Rattle.hub_core.specs.declared.known.Counts.{Counts}
+use Rattle.hub_core.specs.declared.known.DeviceCallCounts.{DeviceCallCounts}
 use Rattle.hub_core.specs.declared.known.DeviceProgress.{DeviceProgress}
 use Rattle.hub_core.specs.declared.known.Events.{Events}
 use Rattle.hub_core.specs.declared.known.RunProgress.{RunProgress}
@@ -27,7 +27,7 @@ pub record OpenHub (D : Type 0) : Type 0 where
   pub places : List (Place D)
   pub tickets : ℕ
 
-abbrev pub no_counts : Counts
+abbrev pub no_counts : DeviceCallCounts
 no_counts = record { turns = 0; probes = 0; faults = 0 }
 
 abbrev pub no_events : Events
@@ -41,8 +41,8 @@ abbrev pub no_device : DeviceProgress
 no_device = record { held = 0; probes_left = 0; purpose = Command 0; at_opening = no_counts; events = no_events }
 
 -- what is known of the device
-abbrev pub device_at : List DeviceProgress → DeviceId → DeviceProgress
-device_at devices d = slice_index_or devices d no_device
+abbrev pub progress_at : List DeviceProgress → DeviceId → DeviceProgress
+progress_at devices d = slice_index_or devices d no_device
 
 -- the grip with which the device in this place is out, for this purpose
 abbrev pub grip_in : {D : Type 0} → Option (Place D) → KeptPurpose → Option Grip
@@ -61,16 +61,16 @@ configuration_of s = record {
   setting = s.setting;
   history = s.history;
   moment = s.moment;
-  probes = λ d. (device_at s.devices d).probes_left;
-  grips = λ d. grip_in (slice_get s.places d) (device_at s.devices d).purpose;
+  probes = λ d. (progress_at s.devices d).probes_left;
+  grips = λ d. grip_in (slice_get s.places d) (progress_at s.devices d).purpose;
 }
 
-abbrev pub state_of : {D : Type 0} → OpenHub D → HubState
-state_of s = record { configuration = configuration_of s; carried = λ d. carried_in (slice_get s.places d) }
+abbrev pub hub_state_of : {D : Type 0} → OpenHub D → HubState
+hub_state_of s = record { configuration = configuration_of s; carried = λ d. carried_in (slice_get s.places d) }
 
 -- where the device stands, or stood as it went out
 abbrev pub held_in : {D : Type 0} → OpenHub D → DeviceId → ℕ
-held_in s d = (device_at s.devices d).held
+held_in s d = (progress_at s.devices d).held
 
 -- what a reading says of a run, in short
 abbrev pub progress_of : OfRun → RunProgress

@@ -11,11 +11,11 @@ use Rattle.hub_core.specs.declared.open_windows.ClosingLists.{ClosingLists}
 use Rattle.hub_core.specs.declared.known.DeviceProgress.{DeviceProgress}
 use Rattle.hub_core.specs.declared.known.RunProgress.{RunProgress}
 use Rattle.window_order.specs.declared.purposes.Purpose.TheVariants.{Command}
-use Rattle.lineage_table.specs.Lineages.{IsOpened, LineageState}
+use Rattle.lineage_table.specs.Lineages.{LineageState, TableIsOpened}
 use Rattle.serial_line.specs.KeptRuns.{AreKeptOf}
 use Rattle.serial_line.specs.Marks.{Marked}
 use Rattle.std.specs.Prelude.{List, None, Some, [], length, replicate, slice_get, ℕ, ◌<◌, ◌≡◌}
-use Rattle.timeline_scheduler.specs.Scratches.{Room}
+use Rattle.timeline_scheduler.specs.Scratches.{ScratchRoom}
 
 -- nothing has happened to a run
 abbrev pub no_progress : RunProgress
@@ -37,10 +37,10 @@ pub record IsOrderRoom (items : ℕ) (runs : List Run) (first : List Stand) (lin
   pub none_sealed : line.sealed ≡ 0
   pub runs_kept : AreKeptOf runs line.runs
   pub room : line.spare ≡ items
-  pub opened : IsOpened runs first table
+  pub opened : TableIsOpened runs first table
 
 -- a scratch for so many devices and items
-pub record IsScratchFor (devices items : ℕ) (room : Room) : Type 0 where
+pub record IsScratchFor (devices items : ℕ) (room : ScratchRoom) : Type 0 where
   pub devices_are : length room.slots ≡ devices
   pub items_are : room.items ≡ items
 

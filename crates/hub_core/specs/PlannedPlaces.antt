@@ -17,30 +17,30 @@ use Rattle.window_order.specs.declared.planned_uses.PlannedUse.{PlannedUse}
 use Rattle.lock_leasing.specs.Configurations.{Configuration, read_of}
 use Rattle.std.specs.List.{list_any}
 use Rattle.std.specs.Prelude.{List, None, Option, Some, if◌then◌else◌, length, option_map, slice_get, ℕ, ⊤, ◌<◌, ◌≡◌, ◌≤◌}
-use Rattle.timeline_scheduler.specs.Scratches.{HoldsTimes, Room, planned_in}
+use Rattle.timeline_scheduler.specs.Scratches.{HoldsTimes, ScratchRoom, planned_in}
 use Rattle.timeline_scheduler.specs.declared.slots.Slot.{Slot}
 
 -- the scratch is one for the devices of the home, and for the items that the line of a window with so many rounds of probes may have
-pub record IsForHome (w : Setting) (rounds : ℕ) (room : Room) : Type 0 where
+pub record IsForHome (w : Setting) (rounds : ℕ) (room : ScratchRoom) : Type 0 where
   pub devices : length room.slots ≡ length w.first
   pub items : most_items (length w.runs) (length w.first) rounds ≤ room.items
 
 -- the scratch has room for as much as before
-pub record HasSameRoom (before after : Room) : Type 0 where
+pub record HasSameRoom (before after : ScratchRoom) : Type 0 where
   pub devices : length after.slots ≡ length before.slots
   pub items : after.items ≡ before.items
 
 -- the scratch holds the set of items that stand before the run at this moment, and its times at this place
-pub record HoldsGap (room : Room) (s : Configuration) (r : RunId) (m : Moment) (at : LinePlace) : Type 0 where
+pub record HoldsGap (room : ScratchRoom) (s : Configuration) (r : RunId) (m : Moment) (at : LinePlace) : Type 0 where
   pub set : room.before ≡ gap_set s.setting (read_of s) r m
   pub times : HoldsTimes room.slots (planned_times s.setting (read_of s) r (front_for s.setting (read_of s) r at m) m)
 
 -- .. where runs are placed by the timeline
-abbrev pub HoldsPlan : Room → Configuration → RunId → Moment → LinePlace → Type 0
+abbrev pub HoldsPlan : ScratchRoom → Configuration → RunId → Moment → LinePlace → Type 0
 HoldsPlan room s r m at = scheduler_of s.setting.mode ≡ Timeline → HoldsGap room s r m at
 
 -- .. where the run, which has no place yet, is to be placed
-abbrev pub HoldsChosen : Room → Configuration → RunId → Moment → Chosen → Type 0
+abbrev pub HoldsChosen : ScratchRoom → Configuration → RunId → Moment → Chosen → Type 0
 HoldsChosen room s r m chosen = ((read_of s).run r).placed ≡ None → by_chosen chosen
   where
     by_chosen : Chosen → Type 0
@@ -71,6 +71,6 @@ abbrev pub held_use : List Slot → List Command → DeviceId → Option Planned
 held_use slots commands d = if list_any (is_on d) commands then option_map use_between (planned_in slots d) else None
 
 -- what is kept of a hub besides its window, with so many rounds of probes: each run that is marked is blocked, and the scratch is for the home and the line
-pub record PartsFit (s : Configuration) (rounds : ℕ) (blocked : BlockedState) (room : Room) : Type 0 where
+pub record PartsFit (s : Configuration) (rounds : ℕ) (blocked : BlockedState) (room : ScratchRoom) : Type 0 where
   pub marks : AreBlocked s blocked
   pub scratch : IsForHome s.setting rounds room

@@ -17,6 +17,6 @@ abbrev pub planned_use : List Planned → DeviceId → Option PlannedUse
 planned_use planned d = if list_any (λ p. p.device == d) planned then Some (record { from = planned_start planned d; to = planned_end planned d }) else None
 
 -- the use of a device with one more command, which is planned from and to these times
-abbrev pub used_again : Option PlannedUse → Moment → Moment → PlannedUse
-used_again None from to = record { from = from; to = to }
-used_again (Some used) from to = record { from = used.from; to = to }
+abbrev pub planned_again : Option PlannedUse → Moment → Moment → PlannedUse
+planned_again None from to = record { from = from; to = to }
+planned_again (Some used) from to = record { from = used.from; to = to }

@@ -95,11 +95,11 @@ abbrev pub aborts : RunId → Cause → Choice
 aborts r cause = Over (Aborted cause) (Ended (run_no r) (Aborted cause) ∷ [])
 
 -- the device is counted down, and the write is dropped; else the value is driven at which it would stand without the run
-abbrev pub undo_on : Setting → Reading → Grips → RunId → DeviceId → Choice
-undo_on w n g r d = if n.up d then HandsOut d (Undoes (value_without w n g r d)) else Moves (Undid (run_no r) (device_no d) false ∷ [])
+abbrev pub undo_choice : Setting → Reading → Grips → RunId → DeviceId → Choice
+undo_choice w n g r d = if n.up d then HandsOut d (Undoes (value_without w n g r d)) else Moves (Undid (run_no r) (device_no d) false ∷ [])
 
 abbrev pub undo_cases : Setting → Reading → Grips → RunId → List (Option Choice)
-undo_cases w n g r = option_map (λ d. Waits (Busy (device_no d))) (undo_wait w n g r) ∷ option_map (undo_on w n g r) (next_undo_of w n g r) ∷ []
+undo_cases w n g r = option_map (λ d. Waits (Busy (device_no d))) (undo_wait w n g r) ∷ option_map (undo_choice w n g r) (next_undo_of w n g r) ∷ []
 
 -- a doomed run undoes its effective writes, by ascending device, and then ends; under the weak model it ends at once
 abbrev pub decide_doomed : Setting → Reading → Grips → RunId → Cause → Choice

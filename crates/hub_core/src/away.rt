@@ -4,9 +4,9 @@ ghost use Rattle.std.specs.Prelude.{◌≡◌, ◌+◌, ◌<◌, ◌^◌};
 ghost use Rattle.device_gate.specs.Calls.{held_after};
 ghost use Rattle.device_gate.specs.Grips.{WasCalled};
 ghost use Rattle.hub_core.specs.Away.{IsHomeAgain, IsSent, MayComeHome, MaySend, events_after};
-ghost use Rattle.hub_core.specs.OpenHubs.{device_at};
+ghost use Rattle.hub_core.specs.OpenHubs.{progress_at};
 
-use crate::known::{Counts, DeviceProgress, Events, NO_EVENTS};
+use crate::known::{DeviceCallCounts, DeviceProgress, Events, NO_EVENTS};
 use device_gate::{Done, Gate, Grip, Ready, Task, Told};
 use device_states::Device;
 use home_types::{DeviceNo, List, Value};
@@ -17,7 +17,7 @@ const NOT_KNOWN: DeviceProgress = DeviceProgress {
     held: 0,
     probes_left: 0,
     purpose: Purpose::Command(0),
-    at_opening: Counts {
+    at_opening: DeviceCallCounts {
         turns: 0,
         probes: 0,
         faults: 0,
@@ -46,7 +46,7 @@ impl<D: Device> Away<D> {
     /// What is known of the device, nothing of no device of the home.
     #[inline(always)]
     pub(crate) fn known(&self, d: DeviceNo) -> DeviceProgress
-        ensures { result ≡ device_at self.now.known.items d.0 }
+        ensures { result ≡ progress_at self.now.known.items d.0 }
     {
         match self.known.get(d.0 as u64) {
             Some(known) => *known,
@@ -79,8 +79,8 @@ impl<D: Device> Away<D> {
         requires may { MayComeHome self.old grip }
         ensures home { IsHomeAgain self.old grip self.new }
         ensures told { result.told ≡ grip.stage.told }
-        ensures held { result.held ≡ held_after grip.stage.told grip.task (device_at self.old.known.items grip.slip.device.0).held }
-        ensures events { result.events ≡ events_after grip.task grip.stage.told (device_at self.old.known.items grip.slip.device.0).events }
+        ensures held { result.held ≡ held_after grip.stage.told grip.task (progress_at self.old.known.items grip.slip.device.0).held }
+        ensures events { result.events ≡ events_after grip.task grip.stage.told (progress_at self.old.known.items grip.slip.device.0).events }
         ensures called { WasCalled grip.stage.told grip.task grip.slip (D.tag grip.device) (D.stands grip.device) (D.turns grip.device) (D.probes grip.device) (D.faults grip.device) }
     {
         let slip = grip.slip();

@@ -3,7 +3,7 @@ ghost use Rattle.std.specs.Prelude.{IsSome, IsTrue, None, Some, [], false, if◌
 ghost use Rattle.command_rules.specs.Rosters.{is_run};
 ghost use Rattle.lock_leasing.specs.Configurations.{read_of};
 ghost use Rattle.hub_core.specs.Decisions.{told_choice};
-ghost use Rattle.hub_core.specs.HubCalls.{Answers, GoesOut, IsPacked, SameWindow};
+ghost use Rattle.hub_core.specs.HubCalls.{Answers, DeviceGoesOut, IsPacked, SameWindow};
 ghost use Rattle.hub_core.specs.OpenHubs.{configuration_of};
 ghost use Rattle.window_order.specs.KeptOrders.{is_first, left_by, noted_first, purpose_of};
 ghost use Rattle.hub_core.specs.KeptOrders.{MayLeave, MayNoteAnswer};
@@ -222,7 +222,7 @@ impl<D: Device> OpenWindow<D> {
         purpose: Purpose,
     ) -> Grip<D, Ready>
         requires { choice_of (configuration_of self.old) r.0 moment ≡ HandsOut d.0 (purpose_of purpose) }
-        ensures out { GoesOut self.old r.0 moment result self.new }
+        ensures out { DeviceGoesOut self.old r.0 moment result self.new }
         ensures window { SameWindow self.old self.new }
     {
         let task = self.task(r, purpose);

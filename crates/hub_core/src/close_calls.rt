@@ -1,7 +1,7 @@
 //! Closing a window that is quiet: the home, and the window's record.
 ghost use Rattle.std.specs.Prelude.{◌≡◌, ◌≤◌, ◌+◌, IfErr, IfOk, None, Some, [], false, length, map, true, ℕ};
 ghost use Rattle.hub_core.specs.ClosedHomes.{HaveRisen, NoneFell, all_known_left, stand_left};
-ghost use Rattle.hub_core.specs.HubCalls.{IsClosed};
+ghost use Rattle.hub_core.specs.HubCalls.{WindowIsClosed};
 ghost use Rattle.hub_core.specs.HubsKept.{IsEmptyFor};
 ghost use Rattle.hub_core.specs.OpenHubs.{configuration_of};
 ghost use Rattle.hub_core.specs.Steps.{not_quiet};
@@ -31,7 +31,7 @@ impl<D: Device> OpenWindow<D> {
     ///
     /// Refused where `quiet` tells why: the hub comes back as it is. Takes no memory.
     pub(crate) fn close_window(self) -> Result<(Home<D>, WindowRecord), (OpenWindow<D>, NotQuiet)>
-        ensures closed { IfOk result (λ closed. IsClosed D.turns D.probes D.faults self closed.0 closed.1) }
+        ensures closed { IfOk result (λ closed. WindowIsClosed D.turns D.probes D.faults self closed.0 closed.1) }
         ensures quiet { IfOk result (λ closed. not_quiet (configuration_of self) ≡ None) }
         ensures same { IfErr result (λ refused. refused.0 ≡ self) }
         ensures refused { IfErr result (λ refused. not_quiet (configuration_of self) ≡ Some refused.1) }
@@ -45,7 +45,7 @@ impl<D: Device> OpenWindow<D> {
     /// The home and the record of a window in which nothing is left to do.
     fn closed(self) -> (Home<D>, WindowRecord)
         requires quiet { not_quiet (configuration_of self) ≡ None }
-        ensures { IsClosed D.turns D.probes D.faults self result.0 result.1 }
+        ensures { WindowIsClosed D.turns D.probes D.faults self result.0 result.1 }
     {
         let OpenWindow {
             history,

@@ -6,7 +6,7 @@ ghost use Rattle.history_book.specs.Settings.{is_weak};
 ghost use Rattle.hub_core.specs.BlockedMarks.{has_run};
 ghost use Rattle.hub_core.specs.BlockedRuns.{IsBlocked};
 ghost use Rattle.hub_core.specs.Bounds.{IsBounded};
-ghost use Rattle.hub_core.specs.HubCalls.{HubStands, IsClosed, SomeRunMoves, grip_takes, is_past};
+ghost use Rattle.hub_core.specs.HubCalls.{HubStands, SomeRunMoves, WindowIsClosed, grip_takes, is_past};
 ghost use Rattle.legal_days.specs.LegalWindows.{history_of};
 ghost use Rattle.hub_core.specs.OpenHubs.{configuration_of};
 ghost use Rattle.hub_core.specs.Steps.{not_quiet, opened};
@@ -202,7 +202,7 @@ impl<D: Device> Hub<D> {
     /// Refused where `quiet` tells why: the hub comes back as it is. Takes no memory. Outside the weak model the order of the
     /// record begins with the items that were final at each point of the window.
     pub fn close_window(self) -> Result<(Home<D>, WindowRecord), (Hub<D>, NotQuiet)>
-        ensures closed { IfOk result (λ closed. IsClosed D.turns D.probes D.faults self closed.0 closed.1) }
+        ensures closed { IfOk result (λ closed. WindowIsClosed D.turns D.probes D.faults self closed.0 closed.1) }
         ensures sealed { IfOk result (λ closed. is_weak self.setting.mode ≡ false → BeginsWithSealed self.setting (history_of closed.1) closed.1.order.items) }
         ensures quiet { IfOk result (λ closed. not_quiet (configuration_of self) ≡ None) }
         ensures same { IfErr result (λ refused. refused.0 ≡ self) }

@@ -24,7 +24,7 @@ pub struct RunProgress {
 
 /// The three counts of a device.
 #[derive(Clone, Copy, Debug, PartialEq, Eq)]
-pub struct Counts {
+pub struct DeviceCallCounts {
     /// Its drives and senses that worked.
     pub turns: u64,
     pub probes: u64,
@@ -74,6 +74,6 @@ pub struct DeviceProgress {
     /// For what it is out, or was when it went out last.
     pub purpose: Purpose,
     /// Its counts when the window was opened.
-    pub at_opening: Counts,
+    pub at_opening: DeviceCallCounts,
     pub events: Events,
 }

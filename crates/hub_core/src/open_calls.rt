@@ -16,7 +16,7 @@ use crate::away::Away;
 use crate::blocked_runs::BlockedRuns;
 use crate::homes::Home;
 use crate::hubs::Hub;
-use crate::known::{Counts, DeviceProgress, NO_EVENTS, RunProgress};
+use crate::known::{DeviceCallCounts, DeviceProgress, NO_EVENTS, RunProgress};
 use crate::open_windows::{ClosingLists, OpenWindow};
 use crate::read_histories::ReadHistory;
 use command_rules::{IndexedRoster, Roster};
@@ -281,7 +281,7 @@ impl<D: Device> Home<D> {
             held: stand.value,
             probes_left: rounds,
             purpose: Purpose::Command(0),
-            at_opening: Counts {
+            at_opening: DeviceCallCounts {
                 turns: device.turns(),
                 probes: device.probes(),
                 faults: device.faults(),

@@ -6,7 +6,7 @@ ghost use Rattle.hub_core.specs.BlockedRuns.{next_device};
 ghost use Rattle.hub_core.specs.HubCalls.{SomeRunMoves};
 ghost use Rattle.hub_core.specs.HubsKept.{HubIsKept};
 ghost use Rattle.hub_core.specs.MarkedRuns.{HoldsStill, is_out_for_command};
-ghost use Rattle.hub_core.specs.OpenHubs.{configuration_of, device_at};
+ghost use Rattle.hub_core.specs.OpenHubs.{configuration_of, progress_at};
 ghost use Rattle.hub_core.specs.Steps.{not_quiet};
 ghost use Rattle.lock_leasing.specs.Configurations.{read_of};
 ghost use Rattle.lock_leasing.specs.Standings.{IsStandingOf};
@@ -126,7 +126,7 @@ impl<D: Device> OpenWindow<D> {
 
     /// Whether no probe of a device was taken.
     pub(crate) fn has_all_probes(&self) -> bool
-        ensures { IsTrue result ↔ ((d : ℕ) → d < length self.now.devices → (device_at self.now.devices d).probes_left ≡ self.now.rounds) }
+        ensures { IsTrue result ↔ ((d : ℕ) → d < length self.now.devices → (progress_at self.now.devices d).probes_left ≡ self.now.rounds) }
     {
         let known = self.away.known.as_slice();
         known.iter().all(|device| device.probes_left == self.rounds)

@@ -8,7 +8,7 @@ ghost use Rattle.home_types.specs.Limits.{most_devices};
 ghost use Rattle.home_types.specs.declared.items.Item.{Item};
 ghost use Rattle.home_types.specs.declared.modes.Scheduler.TheVariants.{Timeline};
 ghost use Rattle.hub_core.specs.PlannedPlaces.{AreUsesOf, held_use, use_between};
-ghost use Rattle.hub_core.specs.PlansInTurn.{planned_in_turn, planned_use, used_again};
+ghost use Rattle.hub_core.specs.PlansInTurn.{planned_again, planned_in_turn, planned_use};
 ghost use Rattle.hub_core.specs.ReadHistories.{read_in};
 ghost use Rattle.timeline_scheduler.specs.Scratches.{HoldsTimes};
 
@@ -57,7 +57,7 @@ fn uses_in_turn(commands: &[Command], moment: u64) -> [Option<PlannedUse>; 256]
 
 /// The use of a device with one more command, which is planned from and to these times.
 fn used_again(used: Option<PlannedUse>, from: u64, to: u64) -> PlannedUse
-    ensures { result ≡ used_again used from to }
+    ensures { result ≡ planned_again used from to }
 {
     match used {
         Some(used) => PlannedUse {

@@ -6,7 +6,7 @@ ghost use Rattle.history_book.specs.Readings.{is_fine, is_told};
 ghost use Rattle.lock_leasing.specs.Configurations.{is_undo};
 ghost use Rattle.lock_leasing.specs.Tables.{view_when};
 ghost use Rattle.hub_core.specs.HubCalls.{IsGiven, SameWindow};
-ghost use Rattle.hub_core.specs.OpenHubs.{device_at};
+ghost use Rattle.hub_core.specs.OpenHubs.{progress_at};
 ghost use Rattle.window_order.specs.KeptOrders.{purpose_of};
 
 use crate::changes::{doom_for, note_answer, one_made};
@@ -43,7 +43,7 @@ impl<D: Device> OpenWindow<D> {
     fn answer(&mut self, grip: Grip<D, Done>, moment: u64, k: u32) -> Made
         requires kept { IsKept self.old.places grip.slip grip.task }
         requires maker { 0 < grip.slip.maker }
-        requires purpose { (device_at self.old.devices grip.slip.device.0).purpose ≡ Purpose.Command k }
+        requires purpose { (progress_at self.old.devices grip.slip.device.0).purpose ≡ Purpose.Command k }
         ensures given { IsGiven self.old grip moment (Ok result) self.new }
         ensures window { SameWindow self.old self.new }
     {
@@ -62,7 +62,7 @@ impl<D: Device> OpenWindow<D> {
     fn answer_lived(&mut self, grip: Grip<D, Done>, moment: u64, k: u32) -> Made
         requires kept { IsKept self.old.places grip.slip grip.task }
         requires maker { 0 < grip.slip.maker }
-        requires purpose { (device_at self.old.devices grip.slip.device.0).purpose ≡ Purpose.Command k }
+        requires purpose { (progress_at self.old.devices grip.slip.device.0).purpose ≡ Purpose.Command k }
         requires lives { has_died grip.stage.told ≡ false }
         ensures given { IsGiven self.old grip moment (Ok result) self.new }
         ensures window { SameWindow self.old self.new }
@@ -89,7 +89,7 @@ impl<D: Device> OpenWindow<D> {
     fn answer_died(&mut self, grip: Grip<D, Done>, moment: u64, k: u32) -> Made
         requires kept { IsKept self.old.places grip.slip grip.task }
         requires maker { 0 < grip.slip.maker }
-        requires purpose { (device_at self.old.devices grip.slip.device.0).purpose ≡ Purpose.Command k }
+        requires purpose { (progress_at self.old.devices grip.slip.device.0).purpose ≡ Purpose.Command k }
         requires died { has_died grip.stage.told ≡ true }
         ensures given { IsGiven self.old grip moment (Ok result) self.new }
         ensures window { SameWindow self.old self.new }
@@ -131,7 +131,7 @@ impl<D: Device> OpenWindow<D> {
     fn undo(&mut self, grip: Grip<D, Done>, moment: u64) -> Made
         requires kept { IsKept self.old.places grip.slip grip.task }
         requires maker { 0 < grip.slip.maker }
-        requires purpose { is_undo (purpose_of (device_at self.old.devices grip.slip.device.0).purpose) ≡ true }
+        requires purpose { is_undo (purpose_of (progress_at self.old.devices grip.slip.device.0).purpose) ≡ true }
         ensures given { IsGiven self.old grip moment (Ok result) self.new }
         ensures window { SameWindow self.old self.new }
     {
@@ -146,7 +146,7 @@ impl<D: Device> OpenWindow<D> {
     fn undo_lived(&mut self, grip: Grip<D, Done>, moment: u64) -> Made
         requires kept { IsKept self.old.places grip.slip grip.task }
         requires maker { 0 < grip.slip.maker }
-        requires purpose { is_undo (purpose_of (device_at self.old.devices grip.slip.device.0).purpose) ≡ true }
+        requires purpose { is_undo (purpose_of (progress_at self.old.devices grip.slip.device.0).purpose) ≡ true }
         requires lives { has_died grip.stage.told ≡ false }
         ensures given { IsGiven self.old grip moment (Ok result) self.new }
         ensures window { SameWindow self.old self.new }
@@ -161,7 +161,7 @@ impl<D: Device> OpenWindow<D> {
     fn undo_died(&mut self, grip: Grip<D, Done>, moment: u64) -> Made
         requires kept { IsKept self.old.places grip.slip grip.task }
         requires maker { 0 < grip.slip.maker }
-        requires purpose { is_undo (purpose_of (device_at self.old.devices grip.slip.device.0).purpose) ≡ true }
+        requires purpose { is_undo (purpose_of (progress_at self.old.devices grip.slip.device.0).purpose) ≡ true }
         requires died { has_died grip.stage.told ≡ true }
         ensures given { IsGiven self.old grip moment (Ok result) self.new }
         ensures window { SameWindow self.old self.new }

@@ -2,7 +2,7 @@
 #![tactic(auto)]
 
 ghost use Rattle.std.specs.Prelude.{◌≡◌, map, string_bytes};
-ghost use Rattle.hub_commands.specs.Statuses.{fault_status, status_of};
+ghost use Rattle.hub_commands.specs.Statuses.{fault_status, status_for_fault};
 ghost use Rattle.hub_main.specs.FirstWords.{asks_for};
 
 mod progress;
@@ -14,7 +14,7 @@ use hub_commands::{
     Fault, Finish, RoomFinish, keep_command, room_command, run_command, still_command,
     watch_command_telling,
 };
-use progress::{Progress, Showing, how_to_show};
+use progress::{Showing, ShownProgress, how_to_show};
 use status_board::Teller;
 use std::alloc::Global;
 use std::env;
@@ -40,7 +40,7 @@ fn main(rt: HostRuntime) -> ExitCode {
     } else {
         Showing::Off
     };
-    let mut teller = Progress::new(rt.alloc(), rt.stderr(), shows);
+    let mut teller = ShownProgress::new(rt.alloc(), rt.stderr(), shows);
     let finish = call(
         &rt,
         rt.alloc(),
@@ -75,7 +75,7 @@ fn call<
     teller: &mut T,
     disk: Q,
 ) -> Finish<SimDevice>
-    ensures status { result.status ≡ status_of result.fault }
+    ensures status { result.status ≡ status_for_fault result.fault }
 {
     if asks_for(words, "run") {
         run_command(rt, alloc, words, source, sink, &mut SimBench, clock)
@@ -104,8 +104,8 @@ fn call<
 
 /// The end of a call that ran rooms, without their day.
 fn without_day(finish: RoomFinish<SimDevice>) -> Finish<SimDevice>
-    requires { finish.status ≡ status_of finish.fault }
-    ensures status { result.status ≡ status_of result.fault }
+    requires { finish.status ≡ status_for_fault finish.fault }
+    ensures status { result.status ≡ status_for_fault result.fault }
 {
     let RoomFinish {
         status,

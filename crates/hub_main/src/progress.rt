@@ -21,7 +21,7 @@ pub enum Showing {
 
 /// Shows each reading on a stream. Where nothing can be shown the day goes on.
 #[derive(Drop)]
-pub struct Progress<W: Write> {
+pub struct ShownProgress<W: Write> {
     alloc: Global,
     stream: W,
     showing: Showing,
@@ -48,9 +48,9 @@ pub fn how_to_show(rt: &HostRuntime) -> Showing {
     }
 }
 
-impl<W: Write> Progress<W> {
-    pub fn new(alloc: Global, stream: W, showing: Showing) -> Progress<W> {
-        Progress {
+impl<W: Write> ShownProgress<W> {
+    pub fn new(alloc: Global, stream: W, showing: Showing) -> ShownProgress<W> {
+        ShownProgress {
             alloc,
             stream,
             showing,
@@ -91,7 +91,7 @@ impl<W: Write> Progress<W> {
     }
 }
 
-impl<W: Write> Teller for Progress<W> {
+impl<W: Write> Teller for ShownProgress<W> {
     fn begin(&mut self, windows: u64) {
         self.windows = windows;
     }

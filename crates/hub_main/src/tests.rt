@@ -1,5 +1,5 @@
 //! What a person is shown of a watched day.
-use crate::progress::{Progress, Showing};
+use crate::progress::{Showing, ShownProgress};
 use status_board::{Counts, Teller};
 use std::test::*;
 
@@ -24,7 +24,7 @@ fn readings() -> [Counts; 3] {
 }
 
 /// Tells these readings, and the last but one again as over before the last.
-fn tell_all(progress: &mut Progress<&mut Vec<u8>>) {
+fn tell_all(progress: &mut ShownProgress<&mut Vec<u8>>) {
     progress.begin(2);
     for counts in &readings() {
         progress.tell(counts);
@@ -34,7 +34,7 @@ fn tell_all(progress: &mut Progress<&mut Vec<u8>>) {
 #[test]
 fn a_reading_has_a_line(rt: HostRuntime) {
     let mut shown = Vec::new(rt.alloc());
-    tell_all(&mut Progress::new(rt.alloc(), &mut shown, Showing::Lines));
+    tell_all(&mut ShownProgress::new(rt.alloc(), &mut shown, Showing::Lines));
     assert_eq!(rt;
         str::from_utf8(&shown),
         Ok(
@@ -46,7 +46,7 @@ fn a_reading_has_a_line(rt: HostRuntime) {
 #[test]
 fn a_terminal_has_one_line(rt: HostRuntime) {
     let mut shown = Vec::new(rt.alloc());
-    tell_all(&mut Progress::new(rt.alloc(), &mut shown, Showing::InPlace));
+    tell_all(&mut ShownProgress::new(rt.alloc(), &mut shown, Showing::InPlace));
     assert_eq!(rt;
         str::from_utf8(&shown),
         Ok(
@@ -58,7 +58,7 @@ fn a_terminal_has_one_line(rt: HostRuntime) {
 #[test]
 fn numbers_have_one_line_where_only_the_end_is_new(rt: HostRuntime) {
     let mut shown = Vec::new(rt.alloc());
-    let mut progress = Progress::new(rt.alloc(), &mut shown, Showing::Lines);
+    let mut progress = ShownProgress::new(rt.alloc(), &mut shown, Showing::Lines);
     let mut over = Counts::none();
     progress.begin(0);
     progress.tell(&over);
@@ -74,6 +74,6 @@ fn numbers_have_one_line_where_only_the_end_is_new(rt: HostRuntime) {
 #[test]
 fn nothing_is_shown_unasked(rt: HostRuntime) {
     let mut shown = Vec::new(rt.alloc());
-    tell_all(&mut Progress::new(rt.alloc(), &mut shown, Showing::Off));
+    tell_all(&mut ShownProgress::new(rt.alloc(), &mut shown, Showing::Off));
     assert!(rt; shown.is_empty());
 }

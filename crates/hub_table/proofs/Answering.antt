@@ -10,7 +10,7 @@ use Rattle.device_gate.specs.declared.slips.Task.{Task}
 use Rattle.device_gate.specs.declared.slips.Told.{Told}
 use Rattle.hub_table.specs.Answers.{refusal, unfit_for}
 use Rattle.hub_table.proofs.Holding.{held_kept}
-use Rattle.hub_table.specs.Tables.{IsTable, Lent, held_in}
+use Rattle.hub_table.specs.Tables.{GripsAreHeld, SlipAndTask, lent_in_place}
 use Rattle.hub_table.specs.declared.told.NotTaken.TheVariants.{NotOut}
 use Rattle.hub_table.specs.declared.told.NotTaken.{NotTaken}
 use Rattle.std.proofs.Common.{ap, arith, refl, sym, ◌∙◌}
@@ -32,22 +32,22 @@ is_answer slip task ticket told e =
     (same_ticket slip.ticket ticket by.0, by.1)
 
 -- .. and the device is out
-pub must_be_out : (lent : Option Lent) (ticket : ℕ) (told : Told) → lent ≡ None → refusal lent ticket told ≡ None → ⊥
+pub must_be_out : (lent : Option SlipAndTask) (ticket : ℕ) (told : Told) → lent ≡ None → refusal lent ticket told ≡ None → ⊥
 must_be_out None ticket told none e = absurd (cc)
 must_be_out (Some out) ticket told none e = absurd (cc)
 
 -- the grip that is held for the device is the one that is answered
 pub is_held_answer : {D : Type 0} (grips : List (Option (Gripped D Ready))) (d : ℕ) (grip : Gripped D Ready) (ticket : ℕ) (told : Told)
-    → slice_get grips d ≡ Some (Some grip) → refusal (held_in (slice_get grips d)) ticket told ≡ None → (grip.slip.ticket ≡ ticket) × (may_tell grip.task grip.slip.stood told ≡ true)
+    → slice_get grips d ≡ Some (Some grip) → refusal (lent_in_place (slice_get grips d)) ticket told ≡ None → (grip.slip.ticket ≡ ticket) × (may_tell grip.task grip.slip.stood told ≡ true)
 is_held_answer grips d grip ticket told at e =
-    is_answer grip.slip grip.task ticket told (sym (ap (λ o. refusal (held_in o) ticket told) at) ∙ e)
+    is_answer grip.slip grip.task ticket told (sym (ap (λ o. refusal (lent_in_place o) ticket told) at) ∙ e)
 
 -- .. so it is not refused
 pub not_unfit : {D : Type 0} (grips : List (Option (Gripped D Ready))) (d : ℕ) (grip : Gripped D Ready) (ticket : ℕ) (told : Told)
-    → slice_get grips d ≡ Some (Some grip) → refusal (held_in (slice_get grips d)) ticket told ≡ None → may_tell grip.task grip.slip.stood told ≡ false → ⊥
+    → slice_get grips d ≡ Some (Some grip) → refusal (lent_in_place (slice_get grips d)) ticket told ≡ None → may_tell grip.task grip.slip.stood told ≡ false → ⊥
 not_unfit grips d grip ticket told at e unfit = absurd (grind (arith, common_steps, (is_held_answer grips d grip ticket told at e).1, unfit))
 
 -- the device is out with the grip that was answered
 pub answered_kept : {D : Type 0} (places : List (Place D)) (grips : List (Option (Gripped D Ready))) (d : ℕ) (grip : Gripped D Ready) (done : Gripped D Done)
-    → IsTable places grips → slice_get grips d ≡ Some (Some grip) → done.slip ≡ grip.slip → done.task ≡ grip.task → IsKept places done.slip done.task
+    → GripsAreHeld places grips → slice_get grips d ≡ Some (Some grip) → done.slip ≡ grip.slip → done.task ≡ grip.task → IsKept places done.slip done.task
 answered_kept places grips d grip done kept at slip task = rw (slip, task) (held_kept places grips d grip kept at)

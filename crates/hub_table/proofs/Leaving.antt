@@ -6,7 +6,7 @@ use Rattle.device_gate.specs.declared.gates.Place.TheVariants.{Home}
 use Rattle.device_gate.specs.declared.gates.Place.{Place}
 use Rattle.device_gate.specs.declared.grips.Ready.{Ready}
 use Rattle.hub_table.proofs.Holding.{held_kept, held_out}
-use Rattle.hub_table.specs.Tables.{HoldNothing, IsTable}
+use Rattle.hub_table.specs.Tables.{GripsAreHeld, PlacesAreEmpty}
 use Rattle.std.proofs.Common.{ap, arith, refl, sym, ◌∙◌}
 use Rattle.std.proofs.lemmas.Option.{slice_get_within}
 use Rattle.std.specs.Prelude.{List, None, Option, Some, [], length, slice_get, slice_set, suc, zero, ℕ, ◌++◌, ◌<◌, ◌∷◌, ◌≡◌, ◌≢◌}
@@ -15,7 +15,7 @@ use Rattle.std.specs.Prelude.{List, None, Option, Some, [], length, slice_get, s
 abbrev pub AreKept : {D : Type 0} → List (Place D) → List (Option (Gripped D Ready)) → Type 0
 AreKept {D} places grips = (d : ℕ) (grip : Gripped D Ready) → slice_get grips d ≡ Some (Some grip) → (grip.slip.device.0 ≡ d) × IsKept places grip.slip grip.task
 
-pub all_kept : {D : Type 0} (places : List (Place D)) (grips : List (Option (Gripped D Ready))) → IsTable places grips → AreKept places grips
+pub all_kept : {D : Type 0} (places : List (Place D)) (grips : List (Option (Gripped D Ready))) → GripsAreHeld places grips → AreKept places grips
 all_kept places grips kept d grip at = (kept.own d grip at, held_kept places grips d grip kept at)
 
 get_front : {A : Type 0} (xs : List A) (y : A) (i : ℕ) (x : A) → slice_get xs i ≡ Some x → slice_get (xs ++ y ∷ []) i ≡ Some x
@@ -53,24 +53,24 @@ one_leaves places after grips rest grip device is kept put d x at =
 
 -- Places that hold nothing
 
-pub more_hands : {A : Type 0} (hands : List (Option A)) → HoldNothing hands → HoldNothing (hands ++ None ∷ [])
+pub more_hands : {A : Type 0} (hands : List (Option A)) → PlacesAreEmpty hands → PlacesAreEmpty (hands ++ None ∷ [])
 more_hands [] none zero x at = absurd (cc)
 more_hands [] none (suc d) x at = absurd (cc)
 more_hands (h ∷ hands) none zero x at = none zero x at
 more_hands (h ∷ hands) none (suc d) x at = more_hands hands (λ b y there. none (suc b) y there) d x at
 
-pub front_hands : {A : Type 0} (hands others : List (Option A)) → HoldNothing (hands ++ others) → HoldNothing hands
+pub front_hands : {A : Type 0} (hands others : List (Option A)) → PlacesAreEmpty (hands ++ others) → PlacesAreEmpty hands
 front_hands [] others none d x at = absurd (cc)
 front_hands (h ∷ hands) others none zero x at = none zero x at
 front_hands (h ∷ hands) others none (suc d) x at = front_hands hands others (λ b y there. none (suc b) y there) d x at
 
-pub last_hand : {A : Type 0} (hands : List (Option A)) (x : A) → HoldNothing (hands ++ Some x ∷ []) → ⊥
+pub last_hand : {A : Type 0} (hands : List (Option A)) (x : A) → PlacesAreEmpty (hands ++ Some x ∷ []) → ⊥
 last_hand [] x none = none 0 x refl
 last_hand (h ∷ hands) x none = last_hand hands x (λ b y there. none (suc b) y there)
 
-pub no_hands : {A : Type 0} → HoldNothing {A = A} []
+pub no_hands : {A : Type 0} → PlacesAreEmpty {A = A} []
 no_hands d x at = absurd (cc)
 
 -- where each device is home, nothing is held
-pub empty_at_close : {D : Type 0} (places : List (Place D)) (grips : List (Option (Gripped D Ready))) (devices : List D) → IsTable places grips → places ≡ all_home devices → HoldNothing grips
+pub empty_at_close : {D : Type 0} (places : List (Place D)) (grips : List (Option (Gripped D Ready))) (devices : List D) → GripsAreHeld places grips → places ≡ all_home devices → PlacesAreEmpty grips
 empty_at_close places grips devices kept home d grip at = none_out devices d grip.slip grip.task (ap (λ l. slice_get l d) (sym home) ∙ held_out places grips d grip kept at)

@@ -29,7 +29,7 @@ refusal None ticket told = Some NotOut
 refusal (Some out) ticket told = if out.0.ticket == ticket then (if may_tell out.1 out.0.stood told then None else Some (unfit_for out.1 told)) else Some NotOut
 
 -- the device d was out with this ticket, told this, and is back
-pub record IsAnswered (s : OpenHub HandedDevice) (d ticket : ℕ) (told : Told) (m : ℕ) (made : Made) (t : OpenHub HandedDevice) : Type 0 where
+pub record HasComeBack (s : OpenHub HandedDevice) (d ticket : ℕ) (told : Told) (m : ℕ) (made : Made) (t : OpenHub HandedDevice) : Type 0 where
   pub done : Gripped HandedDevice Done
   pub device : done.slip.device.0 ≡ d
   pub ticket_is : done.slip.ticket ≡ ticket

@@ -16,34 +16,34 @@ use Rattle.hub_table.specs.declared.told.Taken.{Taken}
 use Rattle.std.specs.Prelude.{List, None, Ok, Option, Some, map, slice_get, ℕ, ◌≡◌, ◌⊎◌}
 
 -- with what a device is out: the slip and the task of its grip
-abbrev pub Lent : Type 0
-Lent = Slip × Task
+abbrev pub SlipAndTask : Type 0
+SlipAndTask = Slip × Task
 
 -- with what the device is out whose grip this is
-abbrev pub held_by : {D : Type 0} → Option (Gripped D Ready) → Option Lent
-held_by None = None
-held_by (Some grip) = Some (grip.slip, grip.task)
+abbrev pub lent_by : {D : Type 0} → Option (Gripped D Ready) → Option SlipAndTask
+lent_by None = None
+lent_by (Some grip) = Some (grip.slip, grip.task)
 
 -- .. of this place, where there is one
-abbrev pub held_in : {D : Type 0} → Option (Option (Gripped D Ready)) → Option Lent
-held_in None = None
-held_in (Some hand) = held_by hand
+abbrev pub lent_in_place : {D : Type 0} → Option (Option (Gripped D Ready)) → Option SlipAndTask
+lent_in_place None = None
+lent_in_place (Some hand) = lent_by hand
 
 -- with what each device is out, by its place
-abbrev pub what_is_out : {D : Type 0} → List (Place D) → List (Option Lent)
-what_is_out places = map (λ place. kept_of (Some place)) places
+abbrev pub what_is_lent : {D : Type 0} → List (Place D) → List (Option SlipAndTask)
+what_is_lent places = map (λ place. kept_of (Some place)) places
 
 -- .. and by the grip that is held for it
-abbrev pub what_is_held : {D : Type 0} → List (Option (Gripped D Ready)) → List (Option Lent)
-what_is_held grips = map (λ hand. held_by hand) grips
+abbrev pub what_is_held : {D : Type 0} → List (Option (Gripped D Ready)) → List (Option SlipAndTask)
+what_is_held grips = map (λ hand. lent_by hand) grips
 
 -- each grip is of the device in whose place it lies
 abbrev pub AreInPlace : {D : Type 0} → List (Option (Gripped D Ready)) → Type 0
 AreInPlace {D} grips = (d : ℕ) (grip : Gripped D Ready) → slice_get grips d ≡ Some (Some grip) → grip.slip.device.0 ≡ d
 
 -- what the type of a table keeps: for each device that is out the grip with which it is out, and for no other one
-pub record IsTable {D : Type 0} (places : List (Place D)) (grips : List (Option (Gripped D Ready))) : Type 0 where
-  pub held : what_is_held grips ≡ what_is_out places
+pub record GripsAreHeld {D : Type 0} (places : List (Place D)) (grips : List (Option (Gripped D Ready))) : Type 0 where
+  pub held : what_is_held grips ≡ what_is_lent places
   pub own : AreInPlace grips
 
 -- the grip came back to the hub: a run's, or the detector's
@@ -59,5 +59,5 @@ taken_of (Over end made) = IsOver end made
 taken_of Absent = IsAbsent
 
 -- none of these places holds a thing
-abbrev pub HoldNothing : {A : Type 0} → List (Option A) → Type 0
-HoldNothing {A} hands = (d : ℕ) (x : A) → slice_get hands d ≡ Some (Some x) → ⊥
+abbrev pub PlacesAreEmpty : {A : Type 0} → List (Option A) → Type 0
+PlacesAreEmpty {A} hands = (d : ℕ) (x : A) → slice_get hands d ≡ Some (Some x) → ⊥

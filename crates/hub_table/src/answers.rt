@@ -7,7 +7,7 @@ ghost use Rattle.handed_devices.specs.declared.devices.HandedDevice.{HandedDevic
 ghost use Rattle.history_book.specs.Sealed.{StaysSealed};
 ghost use Rattle.hub_core.specs.HubCalls.{SameWindow};
 ghost use Rattle.hub_core.specs.OpenHubs.{configuration_of};
-ghost use Rattle.hub_table.specs.Answers.{IsAnswered, refusal, unfit_for};
+ghost use Rattle.hub_table.specs.Answers.{HasComeBack, refusal, unfit_for};
 ghost use Rattle.lock_leasing.specs.Configurations.{read_of};
 
 use crate::hands::{lift, look};
@@ -32,7 +32,7 @@ impl Table<HandedDevice> {
         told: Told,
         moment: u64,
     ) -> Result<Made, NotTaken>
-        ensures answered { IfOk result (λ made. IsAnswered self.old d.0 ticket told moment made self.new) }
+        ensures answered { IfOk result (λ made. HasComeBack self.old d.0 ticket told moment made self.new) }
         ensures refused { IfErr result (λ why. refusal (kept_of (slice_get self.old.places d.0)) ticket told ≡ Some why) }
         ensures same { IfErr result (λ _. self.new ≡ self.old) }
         ensures sealed { IfOk result (λ _. StaysSealed (read_of (configuration_of self.old)) (read_of (configuration_of self.new))) }

@@ -1,6 +1,6 @@
 //! Places for the grips that are out, one for each device.
 ghost use Rattle.std.specs.Prelude.{◌≡◌, ◌≤◌, IfNone, IfSome, None, Some, [], length, slice_get, slice_set, vec_capacity};
-ghost use Rattle.hub_table.specs.Tables.{HoldNothing, held_in};
+ghost use Rattle.hub_table.specs.Tables.{PlacesAreEmpty, lent_in_place};
 
 use device_gate::{Grip, Ready, Slip, Task};
 use device_states::Device;
@@ -14,7 +14,7 @@ pub(crate) fn empty_hands<D: Device>(
 ) -> Vec<Option<Grip<D, Ready>>>
     requires empty { hands.items ≡ [] }
     requires room { vec_capacity hands ≡ count }
-    ensures empty { HoldNothing result.items }
+    ensures empty { PlacesAreEmpty result.items }
     ensures count { length result.items ≡ count }
 {
     let mut hands = hands;
@@ -26,7 +26,7 @@ pub(crate) fn empty_hands<D: Device>(
 
 /// Lets places go that hold nothing.
 pub(crate) fn drop_empty<D: Device>(hands: Vec<Option<Grip<D, Ready>>>)
-    requires { HoldNothing hands.items }
+    requires { PlacesAreEmpty hands.items }
 {
     let mut hands = hands;
     'hands: while let Some(hand) = hands.pop() {
@@ -43,7 +43,7 @@ pub(crate) fn look<D: Device>(
     hands: &Vec<Option<Grip<D, Ready>>>,
     d: DeviceNo,
 ) -> Option<(Slip, Task)>
-    ensures { result ≡ held_in (slice_get hands.now.items d.0) }
+    ensures { result ≡ lent_in_place (slice_get hands.now.items d.0) }
 {
     if (d.0 as usize) < hands.len() {
         match &hands[d.0 as usize] {
@@ -77,7 +77,7 @@ pub(crate) fn lift<D: Device>(
 ) -> Option<Grip<D, Ready>>
     ensures found { IfSome result (λ grip. slice_get hands.old.items d.0 ≡ Some (Some grip)) }
     ensures lifted { IfSome result (λ _. hands.new.items ≡ slice_set hands.old.items d.0 None) }
-    ensures none { IfNone result (held_in (slice_get hands.old.items d.0) ≡ None) }
+    ensures none { IfNone result (lent_in_place (slice_get hands.old.items d.0) ≡ None) }
     ensures same { IfNone result (hands.new.items ≡ hands.old.items) }
 {
     if (d.0 as usize) < hands.len() {

@@ -7,13 +7,13 @@ ghost use Rattle.device_gate.specs.declared.grips.Ready.{Ready};
 ghost use Rattle.history_book.specs.Sealed.{BeginsWithSealed, StaysSealed};
 ghost use Rattle.history_book.specs.Settings.{is_weak};
 ghost use Rattle.hub_core.specs.Homes.{setting_for};
-ghost use Rattle.hub_core.specs.HubCalls.{IsClosed, IsOpened, IsProbed, IsTurn, PlansEarliest, SameWindow};
+ghost use Rattle.hub_core.specs.HubCalls.{IsOpened, IsProbed, IsTurn, PlansEarliest, SameWindow, WindowIsClosed};
 ghost use Rattle.legal_days.specs.LegalWindows.{history_of};
 ghost use Rattle.hub_core.specs.OpenHubs.{configuration_of};
 ghost use Rattle.hub_core.specs.Openings.{MayOpen};
 ghost use Rattle.hub_core.specs.Steps.{not_quiet};
 ghost use Rattle.hub_core.specs.declared.turns.Turn.{Turn};
-ghost use Rattle.hub_table.specs.Tables.{IsBack, held_by, taken_of};
+ghost use Rattle.hub_table.specs.Tables.{IsBack, lent_by, taken_of};
 ghost use Rattle.lock_leasing.specs.Configurations.{read_of};
 
 use crate::hands::{drop_empty, empty_hands, lift, look, put};
@@ -41,13 +41,13 @@ pub struct Table<D: Device> {
 
 impl<D: Device> Model for Table<D> {
     ghost use Rattle.hub_core.specs.OpenHubs.{OpenHub};
-    ghost use Rattle.hub_table.specs.Tables.{IsTable};
+    ghost use Rattle.hub_table.specs.Tables.{GripsAreHeld};
 
     ghost Value = { OpenHub D };
 
     ghost view = { λ t. t.hub };
 
-    ghost invariant = { λ t. IsTable t.hub.places t.grips.items };
+    ghost invariant = { λ t. GripsAreHeld t.hub.places t.grips.items };
 }
 
 impl<D: Device> Drop for Table<D> {
@@ -104,7 +104,7 @@ impl<D: Device> Table<D> {
     ///
     /// Refused where something is left to do: the table comes back as it is. Takes no memory.
     pub fn close(self) -> Result<(Home<D>, WindowRecord), (Table<D>, NotQuiet)>
-        ensures closed { IfOk result (λ closed. IsClosed D.turns D.probes D.faults self closed.0 closed.1) }
+        ensures closed { IfOk result (λ closed. WindowIsClosed D.turns D.probes D.faults self closed.0 closed.1) }
         ensures sealed { IfOk result (λ closed. is_weak self.setting.mode ≡ false → BeginsWithSealed self.setting (history_of closed.1) closed.1.order.items) }
         ensures quiet { IfOk result (λ closed. not_quiet (configuration_of self) ≡ None) }
         ensures same { IfErr result (λ refused. refused.0 ≡ self) }
@@ -156,7 +156,7 @@ impl<D: Device> Table<D> {
 
     /// Sends a probe to the device, where one may be sent. Its grip stays here.
     pub fn probe(&mut self, d: DeviceNo) -> Option<(Slip, Task)>
-        ensures probed { (probe : Option (Gripped D Ready)) × IsProbed self.old d.0 probe self.new × (result ≡ held_by probe) }
+        ensures probed { (probe : Option (Gripped D Ready)) × IsProbed self.old d.0 probe self.new × (result ≡ lent_by probe) }
         ensures sealed { StaysSealed (read_of (configuration_of self.old)) (read_of (configuration_of self.new)) }
         ensures window { SameWindow self.old self.new }
     {

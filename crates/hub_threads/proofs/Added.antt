@@ -13,7 +13,7 @@ use Rattle.history_book.specs.declared.entries.Made.{Made}
 use Rattle.hub_core.proofs.steps.HubAnswers.{gave_back, gave_probe_back, took_after, took_choice, took_probe}
 use Rattle.hub_core.specs.HubCalls.{IsGiven, IsProbeGiven, IsProbed, IsTurn, carried_by}
 use Rattle.hub_core.specs.HubSteps.{Carried, Chose, Gave, Give, GiveProbe, HubState, HubStep, Returned, Take, give_if, is_kept, same_carried, same_slip, same_task}
-use Rattle.hub_core.specs.OpenHubs.{OpenHub, carried_in, configuration_of, device_at, grip_in, state_of}
+use Rattle.hub_core.specs.OpenHubs.{OpenHub, carried_in, configuration_of, grip_in, hub_state_of, progress_at}
 use Rattle.hub_core.specs.Steps.{Absent as IsAbsent, Choice, HandsOut, Moves, Over as IsOver, Waits, after_choice, after_give, at_moment, give_entries, may_probe}
 use Rattle.hub_core.specs.declared.turns.Turn.TheVariants.{Absent, Go, Moved, Over, Wait}
 use Rattle.hub_core.specs.declared.turns.Turn.{Turn}
@@ -61,11 +61,11 @@ moment_after s r m (Waits why) = refl
 moment_after s r m (HandsOut d purpose) = refl
 
 -- the configuration after a step is that after its choice
-pub took : {D : Type 0} (s t : OpenHub D) (r m : ℕ) (slip : Slip) (choice : Choice) → HubStep (state_of s) (Take r m slip) (Chose choice) (state_of t) → configuration_of t ≡ after_choice (at_moment (configuration_of s) m) r choice
+pub took : {D : Type 0} (s t : OpenHub D) (r m : ℕ) (slip : Slip) (choice : Choice) → HubStep (hub_state_of s) (Take r m slip) (Chose choice) (hub_state_of t) → configuration_of t ≡ after_choice (at_moment (configuration_of s) m) r choice
 took s t r m slip choice step =
-    took_after (state_of s) (state_of t) r m slip choice step ∙ ap (after_choice (at_moment (configuration_of s) m) r) (sym (took_choice (state_of s) (state_of t) r m slip choice step))
+    took_after (hub_state_of s) (hub_state_of t) r m slip choice step ∙ ap (after_choice (at_moment (configuration_of s) m) r) (sym (took_choice (hub_state_of s) (hub_state_of t) r m slip choice step))
 
-took_adds : {D : Type 0} (s t : OpenHub D) (r m : ℕ) (slip : Slip) (choice : Choice) → HubStep (state_of s) (Take r m slip) (Chose choice) (state_of t) → Adds s r (chosen_entries choice) (max s.moment m) t
+took_adds : {D : Type 0} (s t : OpenHub D) (r m : ℕ) (slip : Slip) (choice : Choice) → HubStep (hub_state_of s) (Take r m slip) (Chose choice) (hub_state_of t) → Adds s r (chosen_entries choice) (max s.moment m) t
 took_adds s t r m slip choice step =
     let is = took s t r m slip choice step in
     record {
@@ -96,7 +96,7 @@ pub record IsOutBy {D : Type 0} (s : OpenHub D) (told : Carried) : Type 0 where
   pub out : (configuration_of s).grips told.slip.device.0 ≡ Some grip
   pub maker : grip.maker ≡ told.slip.maker
 
-out_by : {D : Type 0} (s : OpenHub D) (told : Carried) → is_kept (state_of s) told ≡ true → IsOutBy s told
+out_by : {D : Type 0} (s : OpenHub D) (told : Carried) → is_kept (hub_state_of s) told ≡ true → IsOutBy s told
 out_by {D} s told kept = by_place (slice_get s.places d) refl kept
   where
     d : ℕ
@@ -107,7 +107,7 @@ out_by {D} s told kept = by_place (slice_get s.places d) refl kept
     by_place (Some (Home device)) at e = absurd (cc)
     by_place (Some (Out slip task)) at e = record {
       grip = _;
-      out = ap (λ o. grip_in o (device_at s.devices d).purpose) at;
+      out = ap (λ o. grip_in o (progress_at s.devices d).purpose) at;
       maker = same_maker (both (same_slip told.slip slip) (same_task told.task task) e).0;
     }
       where
@@ -118,15 +118,15 @@ history_back : (s : Configuration) (m d : ℕ) (grip : Grip) (result : Told) (ma
 history_back s m d grip result maker entries own made = ap (λ k. s.history ++ kept_by k (give_entries s.setting (read_of s) d grip result)) own ∙ ap (λ es. s.history ++ kept_by maker es) (sym made)
 
 -- the entries of a grip that is taken back, by the grip that is out
-gave_entries : {D : Type 0} (s t : OpenHub D) (told : Carried) (result : Told) (m : ℕ) (entries : List Entry) → HubStep (state_of s) (Give told result m) (Returned (Gave entries)) (state_of t)
+gave_entries : {D : Type 0} (s t : OpenHub D) (told : Carried) (result : Told) (m : ℕ) (entries : List Entry) → HubStep (hub_state_of s) (Give told result m) (Returned (Gave entries)) (hub_state_of t)
     → (by : IsOutBy s told) × (entries ≡ give_entries s.setting (read_of (configuration_of s)) told.slip.device.0 by.grip result) × (configuration_of t ≡ after_give (at_moment (configuration_of s) m) told.slip.device.0 by.grip result)
 gave_entries s t told result m entries step =
-    let kept = both (is_kept (state_of s) told) (nat_lt 0 told.slip.maker) (taken_if (is_kept (state_of s) told && nat_lt 0 told.slip.maker) (state_of s) (at_moment (configuration_of s) m) told result entries step.0) in
+    let kept = both (is_kept (hub_state_of s) told) (nat_lt 0 told.slip.maker) (taken_if (is_kept (hub_state_of s) told && nat_lt 0 told.slip.maker) (hub_state_of s) (at_moment (configuration_of s) m) told result entries step.0) in
     let by = out_by s told kept.0 in
-    let back = gave_back (state_of s) (state_of t) told result m by.grip entries by.out step in
+    let back = gave_back (hub_state_of s) (hub_state_of t) told result m by.grip entries by.out step in
     (by, back.0, back.1)
 
-gave_adds : {D : Type 0} (s t : OpenHub D) (told : Carried) (result : Told) (m : ℕ) (entries : List Entry) → HubStep (state_of s) (Give told result m) (Returned (Gave entries)) (state_of t) → Adds s told.slip.maker entries (max s.moment m) t
+gave_adds : {D : Type 0} (s t : OpenHub D) (told : Carried) (result : Told) (m : ℕ) (entries : List Entry) → HubStep (hub_state_of s) (Give told result m) (Returned (Gave entries)) (hub_state_of t) → Adds s told.slip.maker entries (max s.moment m) t
 gave_adds s t told result m entries step =
     let back = gave_entries s t told result m entries step in
     record {
@@ -134,18 +134,18 @@ gave_adds s t told result m entries step =
       moment_is = ap (λ (x : Configuration). x.moment) back.2;
     }
 
-gave_probe_entries : {D : Type 0} (s t : OpenHub D) (told : Carried) (result : Told) (entries : List Entry) → HubStep (state_of s) (GiveProbe told result) (Returned (Gave entries)) (state_of t)
+gave_probe_entries : {D : Type 0} (s t : OpenHub D) (told : Carried) (result : Told) (entries : List Entry) → HubStep (hub_state_of s) (GiveProbe told result) (Returned (Gave entries)) (hub_state_of t)
     → (by : IsOutBy s told) × (told.slip.maker ≡ 0) × (entries ≡ give_entries s.setting (read_of (configuration_of s)) told.slip.device.0 by.grip result) × (configuration_of t ≡ after_give (configuration_of s) told.slip.device.0 by.grip result)
 gave_probe_entries s t told result entries step =
-    let kept = both (is_kept (state_of s) told) (told.slip.maker == 0) (taken_if (is_kept (state_of s) told && (told.slip.maker == 0)) (state_of s) (configuration_of s) told result entries step.0) in
+    let kept = both (is_kept (hub_state_of s) told) (told.slip.maker == 0) (taken_if (is_kept (hub_state_of s) told && (told.slip.maker == 0)) (hub_state_of s) (configuration_of s) told result entries step.0) in
     let by = out_by s told kept.0 in
-    let back = gave_probe_back (state_of s) (state_of t) told result by.grip entries by.out step in
+    let back = gave_probe_back (hub_state_of s) (hub_state_of t) told result by.grip entries by.out step in
     (by, of_detector told.slip.maker kept.1, back.0, back.1)
   where
     of_detector : (maker : ℕ) → (maker == 0) ≡ true → maker ≡ 0
     of_detector maker e = grind (arith, common_steps)
 
-gave_probe_adds : {D : Type 0} (s t : OpenHub D) (told : Carried) (result : Told) (entries : List Entry) → HubStep (state_of s) (GiveProbe told result) (Returned (Gave entries)) (state_of t) → Adds s 0 entries s.moment t
+gave_probe_adds : {D : Type 0} (s t : OpenHub D) (told : Carried) (result : Told) (entries : List Entry) → HubStep (hub_state_of s) (GiveProbe told result) (Returned (Gave entries)) (hub_state_of t) → Adds s 0 entries s.moment t
 gave_probe_adds s t told result entries step =
     let back = gave_probe_entries s t told result entries step in
     record {
@@ -181,7 +181,7 @@ probe_adds_if false s t history moment = (refl, refl)
 
 pub probed_adds : {D : Type 0} (s t : OpenHub D) (d : ℕ) (probe : Option (Gripped D Ready)) → IsProbed s d probe t → (t.history ≡ s.history) × (t.moment ≡ s.moment)
 probed_adds s t d (Some grip) is =
-    let after = (took_probe (state_of s) (state_of t) d grip.slip grip.task is.0).1 in
+    let after = (took_probe (hub_state_of s) (hub_state_of t) d grip.slip grip.task is.0).1 in
     let same = probe_adds_if (may_probe (configuration_of s) d) _ (configuration_of s) refl refl in
     (ap (λ (x : Configuration). x.history) after ∙ same.0, ap (λ (x : Configuration). x.moment) after ∙ same.1)
 probed_adds s t d None is = (ap (λ (x : OpenHub _). x.history) is.1, ap (λ (x : OpenHub _). x.moment) is.1)

@@ -20,7 +20,7 @@ use Rattle.hub_core.proofs.steps.Choices.{decide_is}
 use Rattle.hub_core.proofs.steps.HubAnswers.{took_choice}
 use Rattle.hub_core.specs.HubCalls.{IsGiven, IsProbeGiven, IsTurn}
 use Rattle.hub_core.specs.HubSteps.{Chose, HubStep, Take}
-use Rattle.hub_core.specs.OpenHubs.{OpenHub, configuration_of, state_of}
+use Rattle.hub_core.specs.OpenHubs.{OpenHub, configuration_of, hub_state_of}
 use Rattle.hub_core.specs.Steps.{Choice, Moves, Over as IsOver, choice_of, command_entries, give_entries, probe_entries, undo_entries}
 use Rattle.hub_core.specs.declared.turns.Turn.TheVariants.{Absent, Go, Moved, Over, Wait}
 use Rattle.hub_core.specs.declared.turns.Turn.{Turn}
@@ -86,9 +86,9 @@ choice_within earliest latest s r m since until = decide_is (λ choice. AreWithi
     timed = (omega (arith, since), until)
 
 took_within : {D : Type 0} (earliest latest : ℕ) (s t : OpenHub D) (r m : ℕ) (slip : Slip) (choice : Choice) → earliest ≤ m → max s.moment m ≤ latest
-    → HubStep (state_of s) (Take r m slip) (Chose choice) (state_of t) → AreWithin earliest latest (kept_by r (chosen_entries choice))
+    → HubStep (hub_state_of s) (Take r m slip) (Chose choice) (hub_state_of t) → AreWithin earliest latest (kept_by r (chosen_entries choice))
 took_within earliest latest s t r m slip choice since until step =
-    subst (λ x. AreWithin earliest latest (kept_by r (chosen_entries x))) (sym (took_choice (state_of s) (state_of t) r m slip choice step)) (choice_within earliest latest (configuration_of s) r m since until)
+    subst (λ x. AreWithin earliest latest (kept_by r (chosen_entries x))) (sym (took_choice (hub_state_of s) (hub_state_of t) r m slip choice step)) (choice_within earliest latest (configuration_of s) r m since until)
 
 pub turn_within : {D : Type 0} (earliest latest : ℕ) (s t : OpenHub D) (r m : ℕ) (turn : Turn D) → earliest ≤ m → max s.moment m ≤ latest → IsTurn s r m turn t → AreWithin earliest latest (kept_by r (entries_told turn))
 turn_within earliest latest s t r m (Go grip) since until is = none earliest latest r

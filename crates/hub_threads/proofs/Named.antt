@@ -6,20 +6,20 @@ use Rattle.device_gate.specs.declared.grips.Ready.{Ready}
 use Rattle.history_book.specs.declared.entries.Made.{Made}
 use Rattle.hub_core.proofs.steps.HubAnswers.{took_probe}
 use Rattle.hub_core.specs.HubCalls.{IsGiven, IsProbeGiven, IsProbed, IsTurn, SameWindow}
-use Rattle.hub_core.specs.OpenHubs.{OpenHub, state_of}
+use Rattle.hub_core.specs.OpenHubs.{OpenHub, hub_state_of}
 use Rattle.hub_core.specs.declared.turns.Turn.TheVariants.{Absent, Go, Moved, Over, Wait}
 use Rattle.hub_core.specs.declared.turns.Turn.{Turn}
 use Rattle.hub_threads.proofs.Plans.{plans_home, plans_out}
 use Rattle.hub_threads.proofs.Added.{given_adds, given_moment, probe_given_adds, probed_adds, turn_adds}
 use Rattle.hub_threads.proofs.Moments.{given_within, probe_given_within, turn_within, within_more}
 use Rattle.hub_threads.specs.Moments.{AreWithin}
-use Rattle.hub_threads.specs.Named.{HasPlan, HavePlans, IsNamed, TurnHasPlan}
+use Rattle.hub_threads.specs.Named.{HasPlan, IsNamed, PlacesHavePlans, TurnHasPlan}
 use Rattle.hub_threads.specs.Names.{IsWithin, NamedWindow, Plan}
 use Rattle.std.proofs.Common.{ap, arith, subst, sym, ◌∙◌}
 use Rattle.std.specs.Prelude.{List, None, Ok, Option, Some, max, ℕ, ◌≡◌, ◌≤◌}
 
 named_after : {D : Type 0} (plan : D → Plan) (window : NamedWindow) (s t : OpenHub D)
-    → IsNamed plan window s → SameWindow s t → t.moment ≤ window.latest → AreWithin window.earliest window.latest t.history → HavePlans plan window.plans t.places → IsNamed plan window t
+    → IsNamed plan window s → SameWindow s t → t.moment ≤ window.latest → AreWithin window.earliest window.latest t.history → PlacesHavePlans plan window.plans t.places → IsNamed plan window t
 named_after plan window s t named same moment moments have = record {
   setting = same.setting ∙ named.setting;
   rounds_are = same.rounds ∙ named.rounds_are;
@@ -31,10 +31,10 @@ named_after plan window s t named same moment moments have = record {
 }
 
 -- the plans after a change of the places
-plans_by : {D : Type 0} (plan : D → Plan) (plans : ℕ → Plan) (before after : List (Place D)) → after ≡ before → HavePlans plan plans before → HavePlans plan plans after
-plans_by plan plans before after same have = subst (HavePlans plan plans) (sym same) have
+plans_by : {D : Type 0} (plan : D → Plan) (plans : ℕ → Plan) (before after : List (Place D)) → after ≡ before → PlacesHavePlans plan plans before → PlacesHavePlans plan plans after
+plans_by plan plans before after same have = subst (PlacesHavePlans plan plans) (sym same) have
 
-turn_plans : {D : Type 0} (plan : D → Plan) (plans : ℕ → Plan) (s t : OpenHub D) (r m : ℕ) (turn : Turn D) → IsTurn s r m turn t → HavePlans plan plans s.places → HavePlans plan plans t.places
+turn_plans : {D : Type 0} (plan : D → Plan) (plans : ℕ → Plan) (s t : OpenHub D) (r m : ℕ) (turn : Turn D) → IsTurn s r m turn t → PlacesHavePlans plan plans s.places → PlacesHavePlans plan plans t.places
 turn_plans plan plans s t r m (Go grip) is have = plans_by plan plans _ t.places is.places (plans_out plan plans s.places grip.slip.device.0 grip.slip grip.task have)
 turn_plans plan plans s t r m (Moved made) is have = plans_by plan plans s.places t.places is.0.places have
 turn_plans plan plans s t r m (Wait why) is have = plans_by plan plans s.places t.places is.0.places have
@@ -52,14 +52,14 @@ turn_named plan window s t r m turn named is same early =
     (within_more window.earliest window.latest s t r _ adds.history named.moments (turn_within window.earliest window.latest s t r m turn early.0 now is))
     (turn_plans plan window.plans s t r m turn is named.have_plans)
 
-pub turn_plan : {D : Type 0} (plan : D → Plan) (plans : ℕ → Plan) (s t : OpenHub D) (r m : ℕ) (turn : Turn D) → HavePlans plan plans s.places → IsTurn s r m turn t → TurnHasPlan plan plans turn
+pub turn_plan : {D : Type 0} (plan : D → Plan) (plans : ℕ → Plan) (s t : OpenHub D) (r m : ℕ) (turn : Turn D) → PlacesHavePlans plan plans s.places → IsTurn s r m turn t → TurnHasPlan plan plans turn
 turn_plan plan plans s t r m (Go grip) have is = have grip.slip.device.0 grip.device is.home
 turn_plan plan plans s t r m (Moved made) have is = tt
 turn_plan plan plans s t r m (Wait why) have is = tt
 turn_plan plan plans s t r m (Over end made) have is = tt
 turn_plan plan plans s t r m Absent have is = tt
 
-given_plans : {D : Type 0} (plan : D → Plan) (plans : ℕ → Plan) (s t : OpenHub D) (grip : Gripped D Done) (m : ℕ) (made : Made) → IsGiven s grip m (Ok made) t → HasPlan plan plans grip → HavePlans plan plans s.places → HavePlans plan plans t.places
+given_plans : {D : Type 0} (plan : D → Plan) (plans : ℕ → Plan) (s t : OpenHub D) (grip : Gripped D Done) (m : ℕ) (made : Made) → IsGiven s grip m (Ok made) t → HasPlan plan plans grip → PlacesHavePlans plan plans s.places → PlacesHavePlans plan plans t.places
 given_plans plan plans s t grip m made is own have = plans_by plan plans _ t.places is.1 (plans_home plan plans s.places grip.slip.device.0 grip.device have own)
 
 pub given_named : {D : Type 0} (plan : D → Plan) (window : NamedWindow) (s t : OpenHub D) (grip : Gripped D Done) (m : ℕ) (made : Made)
@@ -69,7 +69,7 @@ given_named plan window s t grip m made named is same own early =
     (within_more window.earliest window.latest s t grip.slip.maker _ (given_adds s t grip m made is).history named.moments (given_within window.earliest window.latest s t grip m made is))
     (given_plans plan window.plans s t grip m made is own named.have_plans)
 
-probed_plans : {D : Type 0} (plan : D → Plan) (plans : ℕ → Plan) (s t : OpenHub D) (d : ℕ) (probe : Option (Gripped D Ready)) → IsProbed s d probe t → HavePlans plan plans s.places → HavePlans plan plans t.places
+probed_plans : {D : Type 0} (plan : D → Plan) (plans : ℕ → Plan) (s t : OpenHub D) (d : ℕ) (probe : Option (Gripped D Ready)) → IsProbed s d probe t → PlacesHavePlans plan plans s.places → PlacesHavePlans plan plans t.places
 probed_plans plan plans s t d (Some grip) is have = plans_by plan plans _ t.places is.2 (plans_out plan plans s.places d grip.slip grip.task have)
 probed_plans plan plans s t d None is have = plans_by plan plans s.places t.places (ap (λ (x : OpenHub _). x.places) is.1) have
 
@@ -80,12 +80,12 @@ probed_named plan window s t d probe named is same =
     named_after plan window s t named same (subst (λ k. k ≤ window.latest) (sym adds.1) named.moment) (subst (AreWithin window.earliest window.latest) (sym adds.0) named.moments)
     (probed_plans plan window.plans s t d probe is named.have_plans)
 
-pub probed_plan : {D : Type 0} (plan : D → Plan) (plans : ℕ → Plan) (s t : OpenHub D) (d : ℕ) (grip : Gripped D Ready) → HavePlans plan plans s.places → IsProbed s d (Some grip) t → HasPlan plan plans grip
+pub probed_plan : {D : Type 0} (plan : D → Plan) (plans : ℕ → Plan) (s t : OpenHub D) (d : ℕ) (grip : Gripped D Ready) → PlacesHavePlans plan plans s.places → IsProbed s d (Some grip) t → HasPlan plan plans grip
 probed_plan plan plans s t d grip have is =
-    let slip = (took_probe (state_of s) (state_of t) d grip.slip grip.task is.0).2 in
+    let slip = (took_probe (hub_state_of s) (hub_state_of t) d grip.slip grip.task is.0).2 in
     have d grip.device is.1 ∙ ap plans (sym slip.device)
 
-probe_given_plans : {D : Type 0} (plan : D → Plan) (plans : ℕ → Plan) (s t : OpenHub D) (grip : Gripped D Done) (made : Made) → IsProbeGiven s grip (Ok made) t → HasPlan plan plans grip → HavePlans plan plans s.places → HavePlans plan plans t.places
+probe_given_plans : {D : Type 0} (plan : D → Plan) (plans : ℕ → Plan) (s t : OpenHub D) (grip : Gripped D Done) (made : Made) → IsProbeGiven s grip (Ok made) t → HasPlan plan plans grip → PlacesHavePlans plan plans s.places → PlacesHavePlans plan plans t.places
 probe_given_plans plan plans s t grip made is own have = plans_by plan plans _ t.places is.1 (plans_home plan plans s.places grip.slip.device.0 grip.device have own)
 
 pub probe_given_named : {D : Type 0} (plan : D → Plan) (window : NamedWindow) (s t : OpenHub D) (grip : Gripped D Done) (made : Made)

@@ -12,7 +12,7 @@ use Rattle.history_book.specs.declared.entries.Made.{Made}
 use Rattle.hub_core.proofs.steps.HubAnswers.{never_refused, probe_never_refused, took_choice, took_probe}
 use Rattle.hub_core.specs.HubCalls.{IsGiven, IsProbeGiven, IsProbed, IsTurn, carried_by}
 use Rattle.hub_core.specs.HubSteps.{Carried, IsSlipOf, SlipFits}
-use Rattle.hub_core.specs.OpenHubs.{OpenHub, carried_in, configuration_of, state_of}
+use Rattle.hub_core.specs.OpenHubs.{OpenHub, carried_in, configuration_of, hub_state_of}
 use Rattle.hub_core.specs.Steps.{Absent as IsAbsent, HandsOut, choice_of, opened}
 use Rattle.hub_core.specs.declared.turns.Turn.TheVariants.{Absent, Go, Moved, Over, Wait}
 use Rattle.hub_core.specs.declared.turns.Turn.{Turn}
@@ -84,7 +84,7 @@ for_a_run s (suc r) m d purpose chose = omega arith
 pub turn_pass : {D : Type 0} (name own : DeskName) (s t : OpenHub D) (r m : ℕ) (turn : Turn D) (pass : Option (PassState Lent)) → name ≡ own → IsTurn s r m turn t → GoesWith (IsPassOf name) turn pass → GoesWith (IsRunsPass own) turn pass
 turn_pass name own s t r m (Go grip) None same is lent = lent
 turn_pass name own s t r m (Go grip) (Some pass) same is lent =
-    let chose = took_choice (state_of s) (state_of t) r m grip.slip (HandsOut grip.slip.device.0 is.purpose) is.step in
+    let chose = took_choice (hub_state_of s) (hub_state_of t) r m grip.slip (HandsOut grip.slip.device.0 is.purpose) is.step in
     let slip : IsSlipOf r grip.slip.device.0 grip.slip = subst (λ c. SlipFits r c grip.slip) (sym chose) is.step.2 in
     (subst (λ n. IsPassOf n (carried_by grip) pass) same lent, subst (λ k. 0 < k) (sym slip.maker) (for_a_run (configuration_of s) r m grip.slip.device.0 is.purpose chose))
 turn_pass name own s t r m (Moved made) pass same is lent = tt
@@ -96,16 +96,16 @@ turn_pass name own s t r m Absent pass same is lent = tt
 
 pub probe_can : {D : Type 0} (s t : OpenHub D) (d : ℕ) (grip : Gripped D Ready) → IsProbed s d (Some grip) t → slice_get (what_is_out s.places) grip.slip.device.0 ≡ Some None
 probe_can s t d grip is =
-    let slip = (took_probe (state_of s) (state_of t) d grip.slip grip.task is.0).2 in
+    let slip = (took_probe (hub_state_of s) (hub_state_of t) d grip.slip grip.task is.0).2 in
     ap (λ e. slice_get (what_is_out s.places) e) slip.device ∙ out_at s.places d (Home grip.device) is.1
 
 pub probe_out : {D : Type 0} (s t : OpenHub D) (d : ℕ) (grip : Gripped D Ready) → IsProbed s d (Some grip) t → what_is_out t.places ≡ slice_set (what_is_out s.places) grip.slip.device.0 (Some (grip.slip, grip.task))
 probe_out s t d grip is =
-    let slip = (took_probe (state_of s) (state_of t) d grip.slip grip.task is.0).2 in
+    let slip = (took_probe (hub_state_of s) (hub_state_of t) d grip.slip grip.task is.0).2 in
     ap (λ ps. what_is_out ps) is.2 ∙ out_set s.places d (Out grip.slip grip.task) ∙ ap (λ e. slice_set (what_is_out s.places) e (Some (grip.slip, grip.task))) (sym slip.device)
 
 pub probe_pass : {D : Type 0} (name own : DeskName) (s t : OpenHub D) (d : ℕ) (grip : Gripped D Ready) (pass : PassState Lent) → name ≡ own → IsProbed s d (Some grip) t → IsPassOf name (carried_by grip) pass → IsDetectorsPass own (carried_by grip) pass
-probe_pass name own s t d grip pass same is lent = (subst (λ n. IsPassOf n (carried_by grip) pass) same lent, (took_probe (state_of s) (state_of t) d grip.slip grip.task is.0).2.maker)
+probe_pass name own s t d grip pass same is lent = (subst (λ n. IsPassOf n (carried_by grip) pass) same lent, (took_probe (hub_state_of s) (hub_state_of t) d grip.slip grip.task is.0).2.maker)
 
 -- Grips that come back
 
@@ -121,11 +121,11 @@ cleared name carried pass out now is was = subst (λ (o : Option (ℕ × Lent)).
 
 -- a run's grip that is out is taken in
 pub run_taken_in : {D : Type 0} (s t : OpenHub D) (grip : Gripped D Done) (m : ℕ) (refused : Gripped D Done × Stranger) → IsGiven s grip m (Err refused) t → slice_get (what_is_out s.places) grip.slip.device.0 ≡ Some (Some (grip.slip, grip.task)) → 0 < grip.slip.maker → ⊥
-run_taken_in s t grip m refused is out maker = never_refused (state_of s) (state_of t) (carried_by grip) grip.stage.told m refused.1 (ap (λ p. carried_in p) (out_back s.places grip.slip.device.0 grip.slip grip.task out)) maker is.0
+run_taken_in s t grip m refused is out maker = never_refused (hub_state_of s) (hub_state_of t) (carried_by grip) grip.stage.told m refused.1 (ap (λ p. carried_in p) (out_back s.places grip.slip.device.0 grip.slip grip.task out)) maker is.0
 
 -- .. and so is the detector's
 pub probe_taken_in : {D : Type 0} (s t : OpenHub D) (grip : Gripped D Done) (refused : Gripped D Done × Stranger) → IsProbeGiven s grip (Err refused) t → slice_get (what_is_out s.places) grip.slip.device.0 ≡ Some (Some (grip.slip, grip.task)) → grip.slip.maker ≡ 0 → ⊥
-probe_taken_in s t grip refused is out maker = probe_never_refused (state_of s) (state_of t) (carried_by grip) grip.stage.told refused.1 (ap (λ p. carried_in p) (out_back s.places grip.slip.device.0 grip.slip grip.task out)) maker is.0
+probe_taken_in s t grip refused is out maker = probe_never_refused (hub_state_of s) (hub_state_of t) (carried_by grip) grip.stage.told refused.1 (ap (λ p. carried_in p) (out_back s.places grip.slip.device.0 grip.slip grip.task out)) maker is.0
 
 pub given_out : {D : Type 0} (s t : OpenHub D) (grip : Gripped D Done) (m : ℕ) (made : Made) → IsGiven s grip m (Ok made) t → what_is_out t.places ≡ slice_set (what_is_out s.places) grip.slip.device.0 None
 given_out s t grip m made is = ap (λ ps. what_is_out ps) is.1 ∙ out_set s.places grip.slip.device.0 (Home grip.device)

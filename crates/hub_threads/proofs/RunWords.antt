@@ -2,7 +2,7 @@
 use Rattle.hub_core.proofs.kept.RunBits.{has_either, has_nothing, has_one, has_without}
 use Rattle.hub_core.specs.BlockedMarks.{has_run}
 use Rattle.hub_core.specs.BlockedRuns.{IsBlocked}
-use Rattle.hub_threads.specs.Sleepers.{SleepersAreBlocked, has_bit}
+use Rattle.hub_threads.specs.Sleepers.{SleepersAreBlocked, has_run_bit}
 use Rattle.lock_leasing.specs.Configurations.{Configuration}
 use Rattle.std.proofs.Common.{ap, arith, refl, subst, sym, ◌∙◌}
 use Rattle.std.proofs.lemmas.Grind.{common_steps}
@@ -14,14 +14,14 @@ pub none_blocked : (s : Configuration) → SleepersAreBlocked s 0
 none_blocked s r sleeps = absurd (let no : false ≡ true = sym (has_nothing r) ∙ sleeps in cc)
 
 -- the word of one bit, of a run that has one
-pub one_bit : (r word : ℕ) → 0 < r → r - 1 < 64 → word ≡ 2 ^ (r - 1) → (q : ℕ) → has_run word q ≡ (has_bit r && (q == r))
+pub one_bit : (r word : ℕ) → 0 < r → r - 1 < 64 → word ≡ 2 ^ (r - 1) → (q : ℕ) → has_run word q ≡ (has_run_bit r && (q == r))
 one_bit r word some low is q = ap (λ w. has_run w q) is ∙ has_one r q some low ∙ sym (ap (λ b. b && (q == r)) has)
   where
-    has : has_bit r ≡ true
+    has : has_run_bit r ≡ true
     has = grind (arith, common_steps, some, low)
 
 -- the word with the bit of one run more
-pub noted : (word bit r : ℕ) → ((q : ℕ) → has_run bit q ≡ (has_bit r && (q == r))) → (q : ℕ) → has_run (bit_or word bit) q ≡ (has_run word q || (has_bit r && (q == r)))
+pub noted : (word bit r : ℕ) → ((q : ℕ) → has_run bit q ≡ (has_run_bit r && (q == r))) → (q : ℕ) → has_run (bit_or word bit) q ≡ (has_run word q || (has_run_bit r && (q == r)))
 noted word bit r only q = has_either word bit q ∙ ap (λ b. has_run word q || b) (only q)
 
 -- .. which is the run, or one of the others
@@ -29,17 +29,17 @@ pub noted_run : (word : ℕ) (q r : ℕ) (b : Bool) → (has_run word q || (b &&
 noted_run word q r b e none = grind (arith, common_steps)
 
 -- a run that is blocked may be noted
-pub blocked_noted : (s : Configuration) (word after r : ℕ) → ((q : ℕ) → has_run after q ≡ (has_run word q || (has_bit r && (q == r)))) → IsBlocked s r → SleepersAreBlocked s word → SleepersAreBlocked s after
+pub blocked_noted : (s : Configuration) (word after r : ℕ) → ((q : ℕ) → has_run after q ≡ (has_run word q || (has_run_bit r && (q == r)))) → IsBlocked s r → SleepersAreBlocked s word → SleepersAreBlocked s after
 blocked_noted s word after r more own are q sleeps = elim (has_run word q) as (λ b. has_run word q ≡ b → IsBlocked s q) [
   | true ↦ (λ was. are q was)
-  | false ↦ (λ none. subst (IsBlocked s) (sym (noted_run word q r (has_bit r) (sym (more q) ∙ sleeps) none)) own)
+  | false ↦ (λ none. subst (IsBlocked s) (sym (noted_run word q r (has_run_bit r) (sym (more q) ∙ sleeps) none)) own)
 ] refl
 
 -- a run of another word may be noted
-pub word_noted : (word left after r : ℕ) → ((q : ℕ) → has_run after q ≡ (has_run left q || (has_bit r && (q == r)))) → has_run word r ≡ true → ((q : ℕ) → has_run left q ≡ true → has_run word q ≡ true) → (q : ℕ) → has_run after q ≡ true → has_run word q ≡ true
+pub word_noted : (word left after r : ℕ) → ((q : ℕ) → has_run after q ≡ (has_run left q || (has_run_bit r && (q == r)))) → has_run word r ≡ true → ((q : ℕ) → has_run left q ≡ true → has_run word q ≡ true) → (q : ℕ) → has_run after q ≡ true → has_run word q ≡ true
 word_noted word left after r more own within q sleeps = elim (has_run left q) as (λ b. has_run left q ≡ b → has_run word q ≡ true) [
   | true ↦ (λ was. within q was)
-  | false ↦ (λ none. ap (has_run word) (noted_run left q r (has_bit r) (sym (more q) ∙ sleeps) none) ∙ own)
+  | false ↦ (λ none. ap (has_run word) (noted_run left q r (has_run_bit r) (sym (more q) ∙ sleeps) none) ∙ own)
 ] refl
 
 -- the word, if this holds

@@ -4,8 +4,8 @@ use Rattle.device_gate.specs.Places.{AreNumbered}
 use Rattle.device_gate.specs.declared.gates.Place.TheVariants.{Home}
 use Rattle.history_book.specs.declared.records.WindowRecord.{WindowRecord}
 use Rattle.hub_core.specs.Homes.{HomeState}
-use Rattle.hub_core.specs.HubCalls.{HubStands, IsClosed, NoneFails, RunsHaveEnded}
-use Rattle.hub_core.specs.OpenHubs.{OpenHub, device_at}
+use Rattle.hub_core.specs.HubCalls.{HubStands, NoneFails, RunsHaveEnded, WindowIsClosed}
+use Rattle.hub_core.specs.OpenHubs.{OpenHub, progress_at}
 use Rattle.hub_threads.specs.Moments.{AreWithin}
 use Rattle.hub_threads.specs.Named.{IsNamed, plan_in}
 use Rattle.hub_threads.specs.Names.{NamedWindow, Plan}
@@ -22,7 +22,7 @@ window_of plan earliest latest hub = record {
   setting = hub.setting;
   rounds = hub.rounds;
   opened = hub.opened;
-  opening = λ d. (device_at hub.devices d).at_opening;
+  opening = λ d. (progress_at hub.devices d).at_opening;
   plans = λ d. plan_in plan (slice_get hub.places d);
   earliest = earliest;
   latest = latest;
@@ -31,7 +31,7 @@ window_of plan earliest latest hub = record {
 pub worked_so : {D : Type 0} (tag : D → ℕ) (plan : D → Plan) (stands turns probes faults : D → ℕ) (earliest latest : ℕ) (hub last : OpenHub D) (home : HomeState D) (closed : WindowRecord)
     → HubStands tag stands turns probes faults hub
     → IsNamed plan (window_of plan earliest latest hub) last
-    → HubStands tag stands turns probes faults last → IsClosed turns probes faults last home closed → NoneIsLeft last → AreNumbered tag home.devices
+    → HubStands tag stands turns probes faults last → WindowIsClosed turns probes faults last home closed → NoneIsLeft last → AreNumbered tag home.devices
     → IsWorked tag plan turns probes faults earliest latest hub home closed
 worked_so {D = D} tag plan stands turns probes faults earliest latest hub last home closed before named after closes none numbered = record {
   legal = subst (λ w. IsLegalWindow w closed) named.setting closes.legal;
@@ -58,7 +58,7 @@ worked_so {D = D} tag plan stands turns probes faults earliest latest hub last h
     inside : (d : ℕ) (device : D) → slice_get home.devices d ≡ Some device → d < length last.setting.first
     inside d device at = subst (λ n. d < n) sizes (slice_get_within home.devices d device at)
 
-    probes_rose : (d : ℕ) (device : D) → slice_get home.devices d ≡ Some device → probes device ≡ (device_at hub.devices d).at_opening.probes + hub.rounds
+    probes_rose : (d : ℕ) (device : D) → slice_get home.devices d ≡ Some device → probes device ≡ (progress_at hub.devices d).at_opening.probes + hub.rounds
     probes_rose d device at =
         let rose = closes.probes_rose d device at in
         let spent = none.none d (inside d device at) in

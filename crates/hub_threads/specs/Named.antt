@@ -5,7 +5,7 @@ use Rattle.device_gate.specs.declared.gates.Place.{Place}
 use Rattle.history_book.specs.Histories.{entries_made}
 use Rattle.history_book.specs.declared.entries.Entry.{Entry}
 use Rattle.home_types.specs.Numbers.{DeviceId}
-use Rattle.hub_core.specs.OpenHubs.{OpenHub, device_at}
+use Rattle.hub_core.specs.OpenHubs.{OpenHub, progress_at}
 use Rattle.hub_core.specs.declared.turns.Turn.TheVariants.{Absent, Go, Moved, Over, Wait}
 use Rattle.hub_core.specs.declared.turns.Turn.{Turn}
 use Rattle.hub_threads.specs.Moments.{AreWithin}
@@ -13,8 +13,8 @@ use Rattle.hub_threads.specs.Names.{NamedWindow, Plan}
 use Rattle.std.specs.Prelude.{Bool, List, None, Option, Some, [], false, length, slice_get, true, ℕ, ⊤, ◌≡◌, ◌≤◌}
 
 -- each device that is home has this plan
-abbrev pub HavePlans : {D : Type 0} → (D → Plan) → (DeviceId → Plan) → List (Place D) → Type 0
-HavePlans {D} plan plans places = (d : DeviceId) (device : D) → slice_get places d ≡ Some (Home device) → plan device ≡ plans d
+abbrev pub PlacesHavePlans : {D : Type 0} → (D → Plan) → (DeviceId → Plan) → List (Place D) → Type 0
+PlacesHavePlans {D} plan plans places = (d : DeviceId) (device : D) → slice_get places d ≡ Some (Home device) → plan device ≡ plans d
 
 -- the plan of the device that is home in this place
 abbrev pub plan_in : {D : Type 0} → (D → Plan) → Option (Place D) → Plan
@@ -27,10 +27,10 @@ pub record IsNamed {D : Type 0} (plan : D → Plan) (window : NamedWindow) (s : 
   pub setting : s.setting ≡ window.setting
   pub rounds_are : s.rounds ≡ window.rounds
   pub opened_are : s.opened ≡ window.opened
-  pub at_opening : (d : DeviceId) → (device_at s.devices d).at_opening ≡ window.opening d
+  pub at_opening : (d : DeviceId) → (progress_at s.devices d).at_opening ≡ window.opening d
   pub moment : s.moment ≤ window.latest
   pub moments : AreWithin window.earliest window.latest s.history
-  pub have_plans : HavePlans plan window.plans s.places
+  pub have_plans : PlacesHavePlans plan window.plans s.places
 
 -- the device of the grip has the plan of its place
 abbrev pub HasPlan : {D S : Type 0} → (D → Plan) → (DeviceId → Plan) → Gripped D S → Type 0

@@ -4,7 +4,7 @@ use Rattle.home_types.specs.Numbers.{DeviceId, Moment}
 use Rattle.home_types.specs.declared.modes.Scheduler.TheVariants.{Fcfs}
 use Rattle.home_types.specs.declared.modes.Visibility.TheVariants.{Weak}
 use Rattle.hub_core.specs.OpenHubs.{no_counts}
-use Rattle.hub_core.specs.declared.known.Counts.{Counts}
+use Rattle.hub_core.specs.declared.known.DeviceCallCounts.{DeviceCallCounts}
 use Rattle.std.specs.Prelude.{List, None, Option, [], ℕ, ◌≡◌, ◌≤◌}
 
 -- a device's plan, where it tells one
@@ -19,7 +19,7 @@ pub record NamedWindow : Type 0 where
   -- how many windows were opened before
   pub opened : ℕ
   -- the counts of each device as the window was opened
-  pub opening : DeviceId → Counts
+  pub opening : DeviceId → DeviceCallCounts
   pub plans : DeviceId → Plan
   pub earliest : Moment
   pub latest : Moment

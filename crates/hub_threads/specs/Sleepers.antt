@@ -18,8 +18,8 @@ pub record SleepersState : Type 0 where
   pub called : ℕ
 
 -- the run has a bit in a word
-abbrev pub has_bit : RunId → Bool
-has_bit r = nat_lt 0 r && nat_lt (r - 1) 64
+abbrev pub has_run_bit : RunId → Bool
+has_run_bit r = nat_lt 0 r && nat_lt (r - 1) 64
 
 -- nobody sleeps, and nobody is to be called
 pub record NoneSleep (s : SleepersState) : Type 0 where

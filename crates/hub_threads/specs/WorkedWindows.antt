@@ -6,14 +6,14 @@ use Rattle.home_types.specs.HomeStates.{stand_at}
 use Rattle.home_types.specs.Numbers.{DeviceId, Moment}
 use Rattle.hub_core.specs.Homes.{HomeState}
 use Rattle.hub_core.specs.HubCalls.{NoneFails, RunsHaveEnded}
-use Rattle.hub_core.specs.OpenHubs.{OpenHub, device_at}
+use Rattle.hub_core.specs.OpenHubs.{OpenHub, progress_at}
 use Rattle.hub_threads.specs.Moments.{AreWithin}
 use Rattle.legal_days.specs.LegalWindows.{IsLegalWindow}
 use Rattle.std.specs.Prelude.{List, Option, Some, length, slice_get, slice_index_or, true, ℕ, ◌+◌, ◌<◌, ◌≡◌}
 
 -- no probe of a device is left
 pub record NoneIsLeft {D : Type 0} (s : OpenHub D) : Type 0 where
-  pub none : (d : DeviceId) → d < length s.setting.first → (device_at s.devices d).probes_left ≡ 0
+  pub none : (d : DeviceId) → d < length s.setting.first → (progress_at s.devices d).probes_left ≡ 0
 
 -- the hub's window was worked by threads: its record is legal, each moment that it tells is from the clock's earliest to its latest, and the home has each device in the place of its number, with the plan that it had and with counts that rose as the record says, the probes by all its rounds
 pub record IsWorked {D : Type 0} (tag : D → ℕ) (plan : D → Option (List (ℕ × ℕ))) (turns probes faults : D → ℕ) (earliest latest : Moment) (s : OpenHub D) (home : HomeState D) (closed : WindowRecord) : Type 0 where
@@ -28,6 +28,6 @@ pub record IsWorked {D : Type 0} (tag : D → ℕ) (plan : D → Option (List (�
   pub size : length home.devices ≡ length s.places
   pub numbered : AreNumbered tag home.devices
   pub plans : (d : DeviceId) (before after : D) → slice_get s.places d ≡ Some (Home before) → slice_get home.devices d ≡ Some after → plan after ≡ plan before
-  pub turns_rose : (d : DeviceId) (device : D) → slice_get home.devices d ≡ Some device → turns device ≡ (device_at s.devices d).at_opening.turns + slice_index_or closed.turns.items d 0
-  pub probes_rose : (d : DeviceId) (device : D) → slice_get home.devices d ≡ Some device → probes device ≡ (device_at s.devices d).at_opening.probes + s.rounds
-  pub faults_rose : (d : DeviceId) (device : D) → slice_get home.devices d ≡ Some device → faults device ≡ (device_at s.devices d).at_opening.faults + slice_index_or closed.faults.items d 0
+  pub turns_rose : (d : DeviceId) (device : D) → slice_get home.devices d ≡ Some device → turns device ≡ (progress_at s.devices d).at_opening.turns + slice_index_or closed.turns.items d 0
+  pub probes_rose : (d : DeviceId) (device : D) → slice_get home.devices d ≡ Some device → probes device ≡ (progress_at s.devices d).at_opening.probes + s.rounds
+  pub faults_rose : (d : DeviceId) (device : D) → slice_get home.devices d ≡ Some device → faults device ≡ (progress_at s.devices d).at_opening.faults + slice_index_or closed.faults.items d 0

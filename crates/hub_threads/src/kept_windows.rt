@@ -1,6 +1,6 @@
 //! A window worked with threads, whose last state is on the disk before its record is handed out.
 ghost use Rattle.std.specs.Prelude.{◌≡◌, ◌<◌, [], ◌∷◌, IfErr, IfOk, length, true, ℕ};
-ghost use Rattle.home_journal.specs.Journals.{AddsStates, LeavesFirst, kept_by};
+ghost use Rattle.home_journal.specs.Journals.{AddsStates, LeavesFirst, states_kept};
 ghost use Rattle.hub_core.specs.OpenHubs.{configuration_of};
 ghost use Rattle.hub_core.specs.Steps.{opened};
 ghost use Rattle.hub_threads.specs.KeptWindows.{KeepsOneMore, KeepFails};
@@ -47,7 +47,7 @@ pub fn run_kept_window<R: Threads + Wait + Sync, D: Device + Send, C: Clock + Sy
         hub done.0 done.1) }
     ensures last { IfOk result (λ done. KeepsOneMore journal done.2 done.1.last.devices.items) }
     ensures kept { Q.told ≡ true → IfOk result (λ done.
-        AddsStates (kept_by Q.seen journal) (kept_by Q.seen done.2) (done.1.last.devices.items ∷ [])) }
+        AddsStates (states_kept Q.seen journal) (states_kept Q.seen done.2) (done.1.last.devices.items ∷ [])) }
     // A crash at any moment of the call leaves what was kept, with the new state or without.
     ensures any_moment { Q.told ≡ true → IfOk result (λ done.
         LeavesFirst Q.seen Q.moment Q.images_since journal done.2.disk (done.1.last.devices.items ∷ [])) }

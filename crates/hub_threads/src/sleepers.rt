@@ -2,7 +2,7 @@
 ghost use Rattle.std.specs.Prelude.{◌≡◌, ◌&&◌, ◌||◌, ◌==◌, if◌then◌else◌, not, true, ℕ};
 ghost use Rattle.hub_core.specs.BlockedMarks.{has_run};
 ghost use Rattle.hub_core.specs.OpenHubs.{configuration_of};
-ghost use Rattle.hub_threads.specs.Sleepers.{SleepersAreBlocked, NoneSleep, frees_place, frees_places, has_bit, is_unplaced};
+ghost use Rattle.hub_threads.specs.Sleepers.{SleepersAreBlocked, NoneSleep, frees_place, frees_places, has_run_bit, is_unplaced};
 
 use device_states::Device;
 use history_book::{Entry, Made};
@@ -50,7 +50,7 @@ impl Sleepers {
 
     /// The run sleeps, and is blocked. A run with no bit is not noted.
     pub(crate) fn note_blocked(&mut self, r: RunNo)
-        ensures blocked { (q : ℕ) → has_run self.new.blocked q ≡ (has_run self.old.blocked q || (has_bit r.0 && (q == r.0))) }
+        ensures blocked { (q : ℕ) → has_run self.new.blocked q ≡ (has_run self.old.blocked q || (has_run_bit r.0 && (q == r.0))) }
         ensures restless { self.new.restless ≡ self.old.restless }
         ensures unplaced { self.new.unplaced ≡ self.old.unplaced }
         ensures called { self.new.called ≡ self.old.called }
@@ -60,7 +60,7 @@ impl Sleepers {
 
     /// The run sleeps, and is not known to be blocked. A run with no bit is not noted.
     pub(crate) fn note_restless(&mut self, r: RunNo)
-        ensures restless { (q : ℕ) → has_run self.new.restless q ≡ (has_run self.old.restless q || (has_bit r.0 && (q == r.0))) }
+        ensures restless { (q : ℕ) → has_run self.new.restless q ≡ (has_run self.old.restless q || (has_run_bit r.0 && (q == r.0))) }
         ensures blocked { self.new.blocked ≡ self.old.blocked }
         ensures unplaced { self.new.unplaced ≡ self.old.unplaced }
         ensures called { self.new.called ≡ self.old.called }
@@ -70,7 +70,7 @@ impl Sleepers {
 
     /// The run sleeps, and waits for its place. A run with no bit is not noted.
     pub(crate) fn note_unplaced(&mut self, r: RunNo)
-        ensures unplaced { (q : ℕ) → has_run self.new.unplaced q ≡ (has_run self.old.unplaced q || (has_bit r.0 && (q == r.0))) }
+        ensures unplaced { (q : ℕ) → has_run self.new.unplaced q ≡ (has_run self.old.unplaced q || (has_run_bit r.0 && (q == r.0))) }
         ensures blocked { self.new.blocked ≡ self.old.blocked }
         ensures restless { self.new.restless ≡ self.old.restless }
         ensures called { self.new.called ≡ self.old.called }
@@ -172,7 +172,7 @@ fn has(word: u64, r: RunNo) -> bool
 
 /// The word with the bit of the run alone, with none for a run that has no bit.
 pub(crate) fn bit_of(r: RunNo) -> u64
-    ensures { (q : ℕ) → has_run result q ≡ (has_bit r.0 && (q == r.0)) }
+    ensures { (q : ℕ) → has_run result q ≡ (has_run_bit r.0 && (q == r.0)) }
 {
     if 1 <= r.0 && r.0 <= MOST {
         1 << (r.0 - 1)

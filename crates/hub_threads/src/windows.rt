@@ -1,7 +1,7 @@
 //! A window worked with threads, at most one for each run.
 ghost use Rattle.std.specs.Prelude.{◌≡◌, ◌+◌, ◌<◌, ◌≤◌, IfErr, IfOk, IsTrue, [], length, vec_capacity, vec_len, ℕ};
 ghost use Rattle.device_gate.specs.Places.{AreNumbered};
-ghost use Rattle.hub_core.specs.HubCalls.{HubStands, IsClosed};
+ghost use Rattle.hub_core.specs.HubCalls.{HubStands, WindowIsClosed};
 ghost use Rattle.hub_core.specs.OpenHubs.{configuration_of};
 ghost use Rattle.hub_core.specs.Steps.{opened};
 ghost use Rattle.hub_threads.specs.Named.{IsNamed};
@@ -313,7 +313,7 @@ fn joined<'a, R: Threads + Wait + Sync, D: Device + Send, C: Clock + Sync, N: Na
 /// Closes the window once it is quiet and no probe is left. After the joins it is: this does not wait then.
 fn closed<R: Wait, D: Device>(rt: &R, hub: Hub<D>) -> (Home<D>, WindowRecord)
     ensures stands { HubStands D.tag D.stands D.turns D.probes D.faults hub }
-    ensures closed { IsClosed D.turns D.probes D.faults hub result.0 result.1 }
+    ensures closed { WindowIsClosed D.turns D.probes D.faults hub result.0 result.1 }
     ensures none_left { NoneIsLeft hub }
     ensures numbered { AreNumbered D.tag result.0.devices }
 {

@@ -7,7 +7,7 @@ use Rattle.history_book.specs.Settings.{Setting}
 use Rattle.history_book.specs.declared.entries.Kept.{Kept}
 use Rattle.home_types.specs.Limits.{most_devices}
 use Rattle.jit_scheduler.proofs.Deniers.{denial_is, plain_denial}
-use Rattle.jit_scheduler.specs.Admissions.{Admitting, IsAdmissionOf, IsPlacingOf, IsToBePlaced, IsWithin, MayAdmit, admission, answer_by, placing_of}
+use Rattle.jit_scheduler.specs.Admissions.{Admitting, IsAdmissionOf, IsPlaceOfLine, IsPlacingOf, IsToBePlaced, MayAdmit, admission, admitted_placing, answer_by}
 use Rattle.jit_scheduler.specs.Denials.{first_denial}
 use Rattle.jit_scheduler.specs.declared.answers.Admit.TheVariants.{At, Denied, Patience}
 use Rattle.jit_scheduler.specs.declared.answers.Admit.{Admit}
@@ -66,7 +66,7 @@ module _ (table : List LineageState) (line : List Mark) (history : List Kept) (r
       by_own (Some x) = ap (λ p. if nat_le (unwrap_or p 0 + patience) m then Patience else Denied x.device x.run) (sym turn.arrived)
 
 -- what the scheduler says then
-placing_is : (w : Setting) (n : Reading) (g : Grips) (r m : ℕ) → placing_of n.line (admission w n g r m) ≡ just_in_time w n g r m
+placing_is : (w : Setting) (n : Reading) (g : Grips) (r m : ℕ) → admitted_placing n.line (admission w n g r m) ≡ just_in_time w n g r m
 placing_is w n g r m = at (denial_of w n g r)
   where
     said : Option Denial → Admit
@@ -77,11 +77,11 @@ placing_is w n g r m = at (denial_of w n g r)
     placed None = PlacedAt (split_at n.line (first_place w n g r))
     placed (Some x) = if nat_le (unwrap_or (n.run r).arrived 0 + patience) m then PlacedAt (split_at n.line (length n.line)) else DeniedBy x.device x.run
 
-    at : (o : Option Denial) → placing_of n.line (said o) ≡ placed o
+    at : (o : Option Denial) → admitted_placing n.line (said o) ≡ placed o
     at None = refl
     at (Some x) = waited (nat_le (unwrap_or (n.run r).arrived 0 + patience) m)
       where
-        waited : (b : Bool) → placing_of n.line (if b then Patience else Denied (device_no x.device) (run_no x.run)) ≡ (if b then PlacedAt (split_at n.line (length n.line)) else DeniedBy x.device x.run)
+        waited : (b : Bool) → admitted_placing n.line (if b then Patience else Denied (device_no x.device) (run_no x.run)) ≡ (if b then PlacedAt (split_at n.line (length n.line)) else DeniedBy x.device x.run)
         waited true = refl
         waited false = refl
 
@@ -94,12 +94,12 @@ exact_is table line history runs r came m place answer first same s parts turn =
 pub placing_told : (table : List LineageState) (line : List Mark) (history : List Kept) (runs : List Run) (r came m place : ℕ) (answer : Admit) → IsFirstPlaceOf table line history runs r place
     → answer ≡ answer_by place (first_denial table line history runs r place) came m → IsPlacingOf table line history runs r came m answer
 placing_told table line history runs r came m place answer first same s parts turn =
-    ap (placing_of (read_of s).line) (exact_is table line history runs r came m place answer first same s parts turn) ∙ placing_is s.setting (read_of s) s.grips r m
+    ap (admitted_placing (read_of s).line) (exact_is table line history runs r came m place answer first same s parts turn) ∙ placing_is s.setting (read_of s) s.grips r m
 
 pub within_told : (table : List LineageState) (line : List Mark) (history : List Kept) (runs : List Run) (r came m place : ℕ) (answer : Admit) → MayAdmit table line history runs r came → IsFirstPlaceOf table line history runs r place
-    → answer ≡ answer_by place (first_denial table line history runs r place) came m → IsWithin line answer
+    → answer ≡ answer_by place (first_denial table line history runs r place) came m → IsPlaceOfLine line answer
 within_told table line history runs r came m place answer (Admitting s parts turn) first same =
-    subst (IsWithin line) (sym same) (at (first_denial table line history runs r place))
+    subst (IsPlaceOfLine line) (sym same) (at (first_denial table line history runs r place))
   where
     inside : place ≤ length line
     inside =
@@ -108,10 +108,10 @@ within_told table line history runs r came m place answer (Admitting s parts tur
         let size : length line ≡ length (read_of s).line = sym (length-map line (λ (k : Mark). k.item)) ∙ ap length parts.its_line.items in
         omega (arith, own, below, size)
 
-    at : (o : Option FoundDenial) → IsWithin line (answer_by place o came m)
+    at : (o : Option FoundDenial) → IsPlaceOfLine line (answer_by place o came m)
     at None = inside
     at (Some x) = waited (nat_le (came + patience) m)
       where
-        waited : (b : Bool) → IsWithin line (if b then Patience else Denied x.device x.run)
+        waited : (b : Bool) → IsPlaceOfLine line (if b then Patience else Denied x.device x.run)
         waited true = tt
         waited false = tt

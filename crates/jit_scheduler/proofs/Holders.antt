@@ -7,7 +7,7 @@ use Rattle.history_book.specs.declared.entries.Kept.{Kept}
 use Rattle.home_types.specs.declared.items.Item.TheVariants.{Back, Failed, Ran}
 use Rattle.home_types.specs.declared.items.Item.{Item}
 use Rattle.home_types.specs.declared.numbers.RunNo.{RunNo}
-use Rattle.lineage_table.specs.Accesses.{before, effective_writer, first_before, is_released}
+use Rattle.lineage_table.specs.Accesses.{accesses_before, effective_writer, first_before, is_released}
 use Rattle.lineage_table.specs.declared.accesses.Access.{Access}
 use Rattle.lock_leasing.proofs.AccessRuns.{EachTail, HasAccess, has_work, workers_have_access}
 use Rattle.lock_leasing.proofs.Facts.{Facts, command_pends}
@@ -108,11 +108,11 @@ module _ (w : Setting) (n : Reading) (g : Grips) (f : Facts w n g) (d : ℕ) whe
           let rest : map (λ y. y.run.0) ys ≡ runs_with_access w n d is = ap tail_of same in
           let not_mine : (x.run.0 == r) ≡ false = ap (λ k. k == r) own ∙ another n q.0 r live dead in
           let told : test x ≡ holds q.0 = tells x ys all.0 (ap (λ k. uses w n d k) own ∙ used) ∙ ap holds own in
-          ap (λ b. run_in w n g f d (option_map (λ y. y.run) (find test (if b then [] else x ∷ before r ys)))) not_mine
-          ∙ ap (λ b. run_in w n g f d (option_map (λ y. y.run) (cond b (Some x) (find test (before r ys))))) told
+          ap (λ b. run_in w n g f d (option_map (λ y. y.run) (find test (if b then [] else x ∷ accesses_before r ys)))) not_mine
+          ∙ ap (λ b. run_in w n g f d (option_map (λ y. y.run) (cond b (Some x) (find test (accesses_before r ys))))) told
           ∙ either (holds q.0) own (behind ys (rest, all.1))
         where
-          either : (b : Bool) → x.run.0 ≡ q.0 → FindsHolder test r is ys → run_in w n g f d (option_map (λ y. y.run) (cond b (Some x) (find test (before r ys)))) ≡ cond b (Some q.0) (find holds (live_runs n is))
+          either : (b : Bool) → x.run.0 ≡ q.0 → FindsHolder test r is ys → run_in w n g f d (option_map (λ y. y.run) (cond b (Some x) (find test (accesses_before r ys)))) ≡ cond b (Some q.0) (find holds (live_runs n is))
           either true own after = ap Some own
           either false own after = after
 

@@ -26,10 +26,10 @@ pub data MayAdmit (table : List LineageState) (line : List Mark) (history : List
   Admitting : (s : Configuration) (parts : IsStandingOf s table line history runs) (turn : IsToBePlaced (read_of s) r came) → MayAdmit table line history runs r came
 
 -- what the scheduler says where this is the answer
-abbrev pub placing_of : List Item → Admit → Placing
-placing_of line (At place) = PlacedAt (split_at line place)
-placing_of line (Denied d x) = DeniedBy d.0 x.0
-placing_of line Patience = PlacedAt (split_at line (length line))
+abbrev pub admitted_placing : List Item → Admit → Placing
+admitted_placing line (At place) = PlacedAt (split_at line place)
+admitted_placing line (Denied d x) = DeniedBy d.0 x.0
+admitted_placing line Patience = PlacedAt (split_at line (length line))
 
 -- the answer: the first place, where no device is denied; else that the run has waited long enough, where it has; else the first denial
 abbrev pub admission : Setting → Reading → Grips → RunId → Moment → Admit
@@ -47,7 +47,7 @@ answer_by place (Some x) came m = if nat_le (came + patience) m then Patience el
 -- the answer says what just-in-time admission says, in each configuration to which the parts belong and in which the run is to be placed
 abbrev pub IsPlacingOf : List LineageState → List Mark → List Kept → List Run → RunId → Moment → Moment → Admit → Type 0
 IsPlacingOf table line history runs r came m answer =
-    (s : Configuration) → IsStandingOf s table line history runs → IsToBePlaced (read_of s) r came → placing_of (read_of s).line answer ≡ just_in_time s.setting (read_of s) s.grips r m
+    (s : Configuration) → IsStandingOf s table line history runs → IsToBePlaced (read_of s) r came → admitted_placing (read_of s).line answer ≡ just_in_time s.setting (read_of s) s.grips r m
 
 -- .. and tells a first place from the end after a wait
 abbrev pub IsAdmissionOf : List LineageState → List Mark → List Kept → List Run → RunId → Moment → Moment → Admit → Type 0
@@ -55,7 +55,7 @@ IsAdmissionOf table line history runs r came m answer =
     (s : Configuration) → IsStandingOf s table line history runs → IsToBePlaced (read_of s) r came → answer ≡ admission s.setting (read_of s) s.grips r m
 
 -- a place is one of the line, or its end
-abbrev pub IsWithin : List Mark → Admit → Type 0
-IsWithin line (At place) = place ≤ length line
-IsWithin line (Denied d x) = ⊤
-IsWithin line Patience = ⊤
+abbrev pub IsPlaceOfLine : List Mark → Admit → Type 0
+IsPlaceOfLine line (At place) = place ≤ length line
+IsPlaceOfLine line (Denied d x) = ⊤
+IsPlaceOfLine line Patience = ⊤

@@ -28,7 +28,7 @@ use Rattle.core.proofs.cell.Inside.{Good}
 use Rattle.std_alloc.specs.Box.Ownership.{box_owns}
 use Rattle.std_alloc.proofs.ResultValues.{and_tt}
 use Rattle.lazbendix_c.specs.Owned.{handle_owns, open_mark}
-use Rattle.lazbendix_c.specs.contracts.handles.Held as held_row
+use Rattle.lazbendix_c.specs.contracts.handles.HeldBox as held_row
 use Rattle.home_states.specs.LiveHomes.{LiveState}
 use Rattle.home_states.specs.contracts.homes.LiveHome.{the_row}
 use Rattle.std.specs.Prelude.{None, Option, Some}

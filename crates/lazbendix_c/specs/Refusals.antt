@@ -1,7 +1,7 @@
 -- Why a call of a C program does nothing, and the status that tells it.
 use Rattle.home_states.specs.DraftRefusals.{MayNotAdd, MayNotBegin}
 use Rattle.home_states.specs.Drafts.{MayNotRestand}
-use Rattle.home_states.specs.LiveHomes.{IsBetween, LiveState}
+use Rattle.home_states.specs.LiveHomes.{IsBetweenWindows, LiveState}
 use Rattle.home_states.specs.Openings.{MayNotClose, MayNotOpen}
 use Rattle.home_states.specs.Readings.{MayNotStand}
 use Rattle.home_states.specs.Steps.{HasProbed, IsNoAnswer}
@@ -24,7 +24,7 @@ use Rattle.hub_table.specs.declared.told.NotTaken.{NotTaken}
 use Rattle.std.specs.Prelude.{List, None, Option, pos, ℕ, ℤ, ◌≡◌, ◌⊎◌}
 
 -- for this reason, which the status tells
-pub record Tells {W : Type 0} (status_of : W → ℤ) (is_so : W → Type 0) (status : ℤ) : Type 0 where
+pub record TellsReason {W : Type 0} (status_of : W → ℤ) (is_so : W → Type 0) (status : ℤ) : Type 0 where
   pub why : W
   pub so : is_so why
   pub told : status ≡ status_of why
@@ -68,19 +68,19 @@ standing_status NoStand = pos 8
 
 -- the window of this number is not opened
 abbrev pub IsNotOpened : LiveState → ℕ → ℤ → Type 0
-IsNotOpened s k status = Tells opening_status (λ why. MayNotOpen s k why) status
+IsNotOpened s k status = TellsReason opening_status (λ why. MayNotOpen s k why) status
 
 -- the window is not closed
 abbrev pub IsNotClosed : LiveState → ℤ → Type 0
-IsNotClosed s status = Tells closing_status (λ why. MayNotClose s why) status
+IsNotClosed s status = TellsReason closing_status (λ why. MayNotClose s why) status
 
 -- no step is made, and nothing is asked of a window, where none is open
 abbrev pub IsNotInWindow : LiveState → ℤ → Type 0
-IsNotInWindow s status = (status ≡ pos 7) × IsBetween s
+IsNotInWindow s status = (status ≡ pos 7) × IsBetweenWindows s
 
 -- the answer is not taken
 abbrev pub IsNotAnswered : LiveState → ℕ → ℕ → Told → ℤ → Type 0
-IsNotAnswered s d ticket told status = Tells answer_status (λ why. IsNoAnswer s d ticket told why) status
+IsNotAnswered s d ticket told status = TellsReason answer_status (λ why. IsNoAnswer s d ticket told why) status
 
 -- no probe goes out
 abbrev pub IsNotSent : LiveState → ℕ → ℤ → Type 0
@@ -88,16 +88,16 @@ IsNotSent s d status = IsNotInWindow s status ⊎ ((status ≡ pos 13) × HasPro
 
 -- no window is begun
 abbrev pub IsNotBegun : LiveState → List ℕ → ℕ → ℤ → Type 0
-IsNotBegun s text probes status = Tells draft_status (λ why. MayNotBegin s text probes why) status
+IsNotBegun s text probes status = TellsReason draft_status (λ why. MayNotBegin s text probes why) status
 
 -- no run is added
 abbrev pub IsNotAdded : LiveState → ℕ → Option RunNo → ℤ → Type 0
-IsNotAdded s routine follows status = Tells draft_status (λ why. MayNotAdd s routine follows why) status
+IsNotAdded s routine follows status = TellsReason draft_status (λ why. MayNotAdd s routine follows why) status
 
 -- the home is not told where the device was found
 abbrev pub IsNotRestood : LiveState → ℕ → ℕ → ℤ → Type 0
-IsNotRestood s d value status = Tells restanding_status (λ why. MayNotRestand s d value why) status
+IsNotRestood s d value status = TellsReason restanding_status (λ why. MayNotRestand s d value why) status
 
 -- it is not told how the device stands
 abbrev pub IsNotStanding : LiveState → ℕ → ℤ → Type 0
-IsNotStanding s d status = Tells standing_status (λ why. MayNotStand s d why) status
+IsNotStanding s d status = TellsReason standing_status (λ why. MayNotStand s d why) status

@@ -4,7 +4,7 @@ use Rattle.history_book.specs.declared.entries.Made.{Made}
 use Rattle.home_states.specs.LiveHomes.{LiveState, hub_in}
 use Rattle.home_states.specs.Steps.{HasAnswered, HasProbed, HasTaken, IsBlockedRun, left_to_do}
 use Rattle.hub_core.specs.declared.refusals.NotQuiet.{NotQuiet}
-use Rattle.hub_table.specs.Tables.{Lent}
+use Rattle.hub_table.specs.Tables.{SlipAndTask}
 use Rattle.hub_table.specs.declared.told.Taken.{Taken}
 use Rattle.lazbendix_c.specs.Numbers.{device_number, told_as}
 use Rattle.lazbendix_c.specs.Told.{left_of, made_of, out_turn, turn_of}
@@ -29,7 +29,7 @@ pub record HasGiven (s : LiveState) (device ticket answer value now : ℕ) (told
 
 -- a probe of the device went out, and this is told of it
 pub record HasSent (s : LiveState) (device : ℕ) (told : ToldTurn) (t : LiveState) : Type 0 where
-  pub out : Lent
+  pub out : SlipAndTask
   pub probed : HasProbed s (device_number device) (Some out) t
   pub told_is : told ≡ out_turn out.0 out.1
 

@@ -2,8 +2,8 @@
 use Rattle.day_report.specs.Days.{head_text}
 use Rattle.history_book.specs.declared.entries.Kept.{Kept}
 use Rattle.home_states.specs.LiveHomes.{LiveState}
-use Rattle.home_states.specs.Texts.{HasToldWindow, entries_told}
-use Rattle.lazbendix_c.specs.Told.{entry_of}
+use Rattle.home_states.specs.Texts.{HasToldWindow, window_entries_told}
+use Rattle.lazbendix_c.specs.Told.{entry_as_told}
 use Rattle.lazbendix_c.specs.declared.told_entries.ToldEntry.{ToldEntry}
 use Rattle.std.specs.Prelude.{List, Some, drop, length, min, not, slice_get, take, ℕ, ◌++◌, ◌-◌, ◌==◌, ◌≡◌}
 
@@ -25,6 +25,6 @@ pub record HasRead (text : List ℕ) (from : ℕ) (room after : List ℕ) (got :
 -- this is the entry at the place, and its maker
 pub record IsEntryAt (s : LiveState) (at : ℕ) (told : ToldEntry) (maker : ℕ) : Type 0 where
   pub kept : Kept
-  pub entry : slice_get (entries_told s) at ≡ Some kept
-  pub told_is : told ≡ entry_of kept.entry
+  pub entry : slice_get (window_entries_told s) at ≡ Some kept
+  pub told_is : told ≡ entry_as_told kept.entry
   pub maker_is : maker ≡ kept.maker

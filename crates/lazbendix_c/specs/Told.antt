@@ -40,30 +40,30 @@ caused told (Lost d) = record told { cause = 3; device = d.0 }
 caused told (Revoked lender d deadline moment) = record told { cause = 4; lender = lender.0; device = d.0; deadline = deadline; moment = moment }
 caused told (DownAtEnd d) = record told { cause = 5; device = d.0 }
 
-abbrev pub did : ℕ → ℕ → Answer → ToldEntry
-did run c Fine = record no_entry { kind = 3; run = run; command = c; answer = 1 }
-did run c (Found v) = record no_entry { kind = 3; run = run; command = c; answer = 2; value = v }
-did run c Down = record no_entry { kind = 3; run = run; command = c; answer = 3 }
-did run c Skipped = record no_entry { kind = 3; run = run; command = c; answer = 4 }
+abbrev pub did_entry : ℕ → ℕ → Answer → ToldEntry
+did_entry run c Fine = record no_entry { kind = 3; run = run; command = c; answer = 1 }
+did_entry run c (Found v) = record no_entry { kind = 3; run = run; command = c; answer = 2; value = v }
+did_entry run c Down = record no_entry { kind = 3; run = run; command = c; answer = 3 }
+did_entry run c Skipped = record no_entry { kind = 3; run = run; command = c; answer = 4 }
 
 -- how the run ended
 abbrev pub entry_of_end : ℕ → End → ToldEntry
 entry_of_end run Committed = about 8 run
 entry_of_end run (Aborted cause) = caused (about 9 run) cause
 
-abbrev pub entry_of : Entry → ToldEntry
-entry_of (Arrived r moment) = record no_entry { kind = 1; run = r.0; moment = moment }
-entry_of (Placed r at moment) = record no_entry { kind = 2; run = r.0; place = at; moment = moment }
-entry_of (Did r c answer) = did r.0 c answer
-entry_of (Undid r d drove) = record no_entry { kind = 4; run = r.0; device = d.0; drove = (if drove then 1 else 0) }
-entry_of (Fell d) = record no_entry { kind = 5; device = d.0 }
-entry_of (Rose d) = record no_entry { kind = 6; device = d.0 }
-entry_of (Doomed r cause) = caused (about 7 r.0) cause
-entry_of (Ended r end) = entry_of_end r.0 end
+abbrev pub entry_as_told : Entry → ToldEntry
+entry_as_told (Arrived r moment) = record no_entry { kind = 1; run = r.0; moment = moment }
+entry_as_told (Placed r at moment) = record no_entry { kind = 2; run = r.0; place = at; moment = moment }
+entry_as_told (Did r c answer) = did_entry r.0 c answer
+entry_as_told (Undid r d drove) = record no_entry { kind = 4; run = r.0; device = d.0; drove = (if drove then 1 else 0) }
+entry_as_told (Fell d) = record no_entry { kind = 5; device = d.0 }
+entry_as_told (Rose d) = record no_entry { kind = 6; device = d.0 }
+entry_as_told (Doomed r cause) = caused (about 7 r.0) cause
+entry_as_told (Ended r end) = entry_of_end r.0 end
 
 abbrev pub entry_or_none : Option Entry → ToldEntry
 entry_or_none None = no_entry
-entry_or_none (Some entry) = entry_of entry
+entry_or_none (Some entry) = entry_as_told entry
 
 abbrev pub one_if : Option Entry → ℕ
 one_if None = 0

@@ -16,28 +16,28 @@ use std::{mem, ptr};
 const OPEN: u64 = 0x6c61_7a62_656e_6469;
 
 /// A box as its pointer.
-pub(crate) struct Held<T, A: Allocator> {
+pub(crate) struct HeldBox<T, A: Allocator> {
     pub(crate) at: *mut T,
     pub(crate) alloc: A,
     pub(crate) ghost value: { T },
 }
 
-impl<T, A: Allocator> Model for Held<T, A> {
+impl<T, A: Allocator> Model for HeldBox<T, A> {
     ghost also_owns = { λ l. box_owns (A.dealloc_token l.alloc) T.row l.at l.value };
 }
 
-impl<T: Drop, A: Allocator> Held<T, A> {
-    pub(crate) fn of(value: Box<T, A>) -> Held<T, A>
+impl<T: Drop, A: Allocator> HeldBox<T, A> {
+    pub(crate) fn of(value: Box<T, A>) -> HeldBox<T, A>
         ensures { result.value ≡ value.value }
     {
         let (at, alloc) = Box::into_raw_with_allocator(value);
-        Held { at, alloc }
+        HeldBox { at, alloc }
     }
 
     pub(crate) fn into_box(self) -> Box<T, A>
         ensures { result.value ≡ self.value }
     {
-        let Held { at, alloc } = self;
+        let HeldBox { at, alloc } = self;
         unsafe { Box::from_raw(alloc, at) }
     }
 }
@@ -69,10 +69,10 @@ impl Handle {
     }
 
     /// The handle of this state.
-    pub(crate) fn of(held: Held<LiveHome, Global>) -> Handle
+    pub(crate) fn of(held: HeldBox<LiveHome, Global>) -> Handle
         ensures { result.state ≡ Some held.value }
     {
-        let Held { at, alloc: _ } = held;
+        let HeldBox { at, alloc: _ } = held;
         Handle {
             mark: OPEN,
             at: at as *mut (),
@@ -80,13 +80,13 @@ impl Handle {
     }
 
     /// The state of an open handle, `None` of a closed one.
-    pub(crate) fn into_held(self, alloc: Global) -> Option<Held<LiveHome, Global>>
+    pub(crate) fn into_held(self, alloc: Global) -> Option<HeldBox<LiveHome, Global>>
         ensures open { IfSome result (λ held. self.state ≡ Some held.value) }
         ensures closed { IfNone result (self.state ≡ None) }
     {
         let Handle { mark, at } = self;
         if mark == OPEN {
-            Some(Held {
+            Some(HeldBox {
                 at: at as *mut LiveHome,
                 alloc,
             })
@@ -112,7 +112,7 @@ impl Handle {
         requires { self.old.state ≡ None }
         ensures { self.new.state ≡ Some state.value }
     {
-        match mem::replace(self, Handle::of(Held::of(state))).into_held(alloc) {
+        match mem::replace(self, Handle::of(HeldBox::of(state))).into_held(alloc) {
             None => {}
             Some(_held) => unreachable!(),
         }

@@ -1,9 +1,9 @@
 //! How a home stands between its windows, and the names and numbers of its script.
 ghost use Rattle.std.specs.Prelude.{◌≡◌, ◌≢◌, ◌↔◌, None, pos};
-ghost use Rattle.home_states.specs.Readings.{device_name, routine_name, run_count, value_name};
+ghost use Rattle.home_states.specs.Readings.{run_count, script_device_name, script_routine_name, value_name};
 ghost use Rattle.lazbendix_c.specs.Calls.{Shows};
 ghost use Rattle.lazbendix_c.specs.Numbers.{device_number};
-ghost use Rattle.lazbendix_c.specs.Readings.{AreCounts, HasNamed, IsToldStand};
+ghost use Rattle.lazbendix_c.specs.Readings.{AreScriptCounts, HasNamed, IsToldStand};
 ghost use Rattle.lazbendix_c.specs.Refusals.{IsNotStanding};
 
 use crate::handles::Handle;
@@ -45,7 +45,7 @@ pub extern "C" fn lazbendix_stand(
 /// Tells how many devices, routines and windows the script has, with the windows that were begun.
 #[unsafe(no_mangle)]
 pub extern "C" fn lazbendix_counts(alloc: Global, h: &mut Handle, counts: &mut ToldCounts) -> i32
-    ensures done { result ≡ pos 0 → Shows (λ s. AreCounts s counts.new) h.old.state }
+    ensures done { result ≡ pos 0 → Shows (λ s. AreScriptCounts s counts.new) h.old.state }
     ensures same { h.new.state ≡ h.old.state }
     ensures closed { h.old.state ≡ None → (result ≡ pos 1) × (counts.new ≡ counts.old) }
 {
@@ -94,7 +94,7 @@ pub extern "C" fn lazbendix_device_name(
     room: &mut [u8],
     len: &mut usize,
 ) -> i32
-    ensures done { result ≡ pos 0 → Shows (λ s. HasNamed (device_name s.script device) room.old room.new len.new) h.old.state }
+    ensures done { result ≡ pos 0 → Shows (λ s. HasNamed (script_device_name s.script device) room.old room.new len.new) h.old.state }
     ensures same { h.new.state ≡ h.old.state }
     ensures open { h.old.state ≢ None → result ≡ pos 0 }
     ensures closed { h.old.state ≡ None → (result ≡ pos 1) × (room.new ≡ room.old) × (len.new ≡ len.old) }
@@ -119,7 +119,7 @@ pub extern "C" fn lazbendix_routine_name(
     room: &mut [u8],
     len: &mut usize,
 ) -> i32
-    ensures done { result ≡ pos 0 → Shows (λ s. HasNamed (routine_name s.script routine) room.old room.new len.new) h.old.state }
+    ensures done { result ≡ pos 0 → Shows (λ s. HasNamed (script_routine_name s.script routine) room.old room.new len.new) h.old.state }
     ensures same { h.new.state ≡ h.old.state }
     ensures open { h.old.state ≢ None → result ≡ pos 0 }
     ensures closed { h.old.state ≡ None → (result ≡ pos 1) × (room.new ≡ room.old) × (len.new ≡ len.old) }

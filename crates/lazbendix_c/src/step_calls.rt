@@ -2,7 +2,7 @@
 ghost use Rattle.std.specs.Prelude.{◌≡◌, ◌≢◌, ◌↔◌, IfSome, None, Some, pos};
 ghost use Rattle.home_states.specs.LiveHomes.{hub_in};
 ghost use Rattle.home_states.specs.Steps.{HasProbed};
-ghost use Rattle.hub_table.specs.Tables.{Lent};
+ghost use Rattle.hub_table.specs.Tables.{SlipAndTask};
 ghost use Rattle.lazbendix_c.specs.Calls.{Changes, Shows};
 ghost use Rattle.lazbendix_c.specs.Numbers.{device_number, told_as};
 ghost use Rattle.lazbendix_c.specs.Refusals.{IsNotAnswered, IsNotInWindow, IsNotSent};
@@ -147,7 +147,7 @@ pub extern "C" fn lazbendix_probe(
 }
 
 fn probe(state: &mut LiveHome, device: DeviceNo, turn: &mut ToldTurn) -> i32
-    ensures done { result ≡ pos 0 → (out : Lent) × HasProbed state.old device.0 (Some out) state.new × (turn.new ≡ out_turn out.0 out.1) }
+    ensures done { result ≡ pos 0 → (out : SlipAndTask) × HasProbed state.old device.0 (Some out) state.new × (turn.new ≡ out_turn out.0 out.1) }
     ensures refused { result ≢ pos 0 → IsNotSent state.old device.0 result }
     ensures open { result ≢ pos 1 }
     ensures same { result ≢ pos 0 → state.new ≡ state.old }

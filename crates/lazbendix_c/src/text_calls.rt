@@ -1,6 +1,6 @@
 //! The texts of a home, and the entries of its window.
 ghost use Rattle.std.specs.Prelude.{◌≡◌, ◌≢◌, ◌↔◌, Err, IsErr, None, Ok, length, pos, slice_get};
-ghost use Rattle.home_states.specs.Texts.{HasToldEntry, entries_told};
+ghost use Rattle.home_states.specs.Texts.{HasToldEntry, window_entries_told};
 ghost use Rattle.lazbendix_c.specs.Calls.{Changes, Shows};
 ghost use Rattle.lazbendix_c.specs.Texts.{HasRead, HasToldHead, HasToldRecord, IsEntryAt};
 
@@ -132,7 +132,7 @@ pub extern "C" fn lazbendix_read(
 /// Tells how many entries the window that is open has so far, or the one closed last where none is open.
 #[unsafe(no_mangle)]
 pub extern "C" fn lazbendix_entry_count(alloc: Global, h: &mut Handle, count: &mut u64) -> i32
-    ensures done { result ≡ pos 0 → Shows (λ s. count.new ≡ length (entries_told s)) h.old.state }
+    ensures done { result ≡ pos 0 → Shows (λ s. count.new ≡ length (window_entries_told s)) h.old.state }
     ensures same { h.new.state ≡ h.old.state }
     ensures closed { h.old.state ≡ None → (result ≡ pos 1) × (count.new ≡ count.old) }
 {
@@ -157,7 +157,7 @@ pub extern "C" fn lazbendix_entry_at(
     maker: &mut u32,
 ) -> i32
     ensures done { result ≡ pos 0 → Shows (λ s. IsEntryAt s at entry.new maker.new) h.old.state }
-    ensures absent { result ≢ pos 0 → result ≢ pos 1 → Shows (λ s. (result ≡ pos 8) × (slice_get (entries_told s) at ≡ None)) h.old.state }
+    ensures absent { result ≢ pos 0 → result ≢ pos 1 → Shows (λ s. (result ≡ pos 8) × (slice_get (window_entries_told s) at ≡ None)) h.old.state }
     ensures same { h.new.state ≡ h.old.state }
     ensures untold { result ≢ pos 0 → (entry.new ≡ entry.old) × (maker.new ≡ maker.old) }
     ensures closed { h.old.state ≡ None ↔ result ≡ pos 1 }

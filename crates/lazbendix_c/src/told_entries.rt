@@ -1,6 +1,6 @@
 //! Entries of a history, as C sees them.
 ghost use Rattle.std.specs.Prelude.{◌≡◌, ◌≤◌};
-ghost use Rattle.lazbendix_c.specs.Told.{about, caused, did, entry_of, entry_of_end, entry_or_none, made_of, one_if};
+ghost use Rattle.lazbendix_c.specs.Told.{about, caused, did_entry, entry_as_told, entry_of_end, entry_or_none, made_of, one_if};
 
 use history_book::{Cause, End, Entry, Made};
 use home_types::Answer;
@@ -95,7 +95,7 @@ pub(crate) const NO_ENTRY: ToldEntry = ToldEntry {
 
 /// Tells an entry.
 pub(crate) fn tell_entry(entry: &Entry, told: &mut ToldEntry)
-    ensures { told.new ≡ entry_of entry.now }
+    ensures { told.new ≡ entry_as_told entry.now }
 {
     match entry {
         Entry::Arrived(run, moment) => {
@@ -142,7 +142,7 @@ fn tell_kind(kind: u32, run: u32, told: &mut ToldEntry)
 
 /// Tells the answer of a run's command.
 fn tell_did(run: u32, command: u32, answer: Answer, told: &mut ToldEntry)
-    ensures { told.new ≡ did run command answer }
+    ensures { told.new ≡ did_entry run command answer }
 {
     tell_kind(DID, run, told);
     told.command = command;
@@ -236,7 +236,7 @@ pub(crate) fn tell_made(made: &Made, told: &mut ToldMade)
 }
 
 /// No entries.
-pub(crate) const NONE_MADE: ToldMade = ToldMade {
+pub(crate) const NOTHING_MADE: ToldMade = ToldMade {
     a: NO_ENTRY,
     b: NO_ENTRY,
     c: NO_ENTRY,

@@ -2,7 +2,7 @@
 ghost use Rattle.std.specs.Prelude.{◌≡◌};
 ghost use Rattle.lazbendix_c.specs.Told.{left_of, of_kind, out_turn, stand_of, turn_of, waiting_turn};
 
-use crate::told_entries::{NO_ENTRY, NONE_MADE, ToldEntry, ToldMade, tell_end, tell_made};
+use crate::told_entries::{NO_ENTRY, NOTHING_MADE, ToldEntry, ToldMade, tell_end, tell_made};
 use device_gate::{Slip, Task};
 use home_types::Stand;
 use hub_core::{NotQuiet, Why};
@@ -104,7 +104,7 @@ fn tell_kind(kind: u32, turn: &mut ToldTurn)
 {
     *turn = ToldTurn {
         ticket: 0,
-        made: NONE_MADE,
+        made: NOTHING_MADE,
         end: NO_ENTRY,
         kind,
         why: 0,

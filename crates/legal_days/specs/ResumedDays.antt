@@ -18,12 +18,12 @@ pub record IsStateResumed (before now : List Stand) : Type 0 where
   pub each : (d : DeviceId) → d < length before → IsStandResumed (stand_at before d) (stand_at now d)
 
 -- the device died as it was resumed
-abbrev pub has_died : Stand → Stand → Bool
-has_died before now = if now.up then false else before.up
+abbrev pub has_died_resuming : Stand → Stand → Bool
+has_died_resuming before now = if now.up then false else before.up
 
 -- the day behind so many windows of the script, on a home that they left in this state and that is resumed in that one: each device that was up was driven, once
 abbrev pub resumed_day : Script → ℕ → List Stand → List Stand → Beginning
-resumed_day script k before now = record { script = script; before = k; first = now; called = λ d. (stand_at now d).up; failed = λ d. has_died (stand_at before d) (stand_at now d) }
+resumed_day script k before now = record { script = script; before = k; first = now; called = λ d. (stand_at now d).up; failed = λ d. has_died_resuming (stand_at before d) (stand_at now d) }
 
 -- the day goes on behind so many kept states, of which this is the last: where there is none it begins as the script's day, else on a home that is resumed in the last one; a day that begins so is legal as each other day is (`IsLegalDayFrom`)
 abbrev pub GoesOnBehind : Script → ℕ → Option (List Stand) → Beginning → Type 0
@@ -36,7 +36,7 @@ pub record IsDeviceResumed {D : Type 0} (tag : D → ℕ) (plan : D → Option (
   pub as_told : IsStandResumed before now
   pub stand : now.up ≡ true → stands device ≡ now.value
   pub turns_are : turns device ≡ (if now.up then 1 else 0)
-  pub faults_are : faults device ≡ (if has_died before now then 1 else 0)
+  pub faults_are : faults device ≡ (if has_died_resuming before now then 1 else 0)
   pub no_probes : probes device ≡ 0
 
 -- the first so many of the script's devices, each resumed as the state of the same number says

@@ -5,7 +5,7 @@ use Rattle.command_rules.specs.ClosedSets.{are_apart, exchanged}
 use Rattle.command_rules.specs.Rosters.{Run}
 use Rattle.command_rules.specs.Serial.{serial_execution}
 use Rattle.device_order.proofs.Swaps.{exchanged as outcome_stays}
-use Rattle.device_order.specs.Exchanges.{SameOutcome, ShareNoDevice, is_item_on}
+use Rattle.device_order.specs.Exchanges.{SameOutcome, ShareNoDevice, is_on_device}
 use Rattle.home_types.specs.declared.items.Item.TheVariants.{Back, Failed, Ran}
 use Rattle.home_types.specs.declared.items.Item.{Item}
 use Rattle.home_types.specs.declared.kinds.Kind.{Kind}
@@ -39,14 +39,14 @@ pair meets (suc at) (i ∷ items) apart =
     record { front = i ∷ rest.front; rest = rest.rest; one = rest.one; two = rest.two; are = ap (λ l. i ∷ l) rest.are; turned = ap (λ l. i ∷ l) rest.turned; apart = rest.apart }
 
 share_none : (runs : List Run) (a b : Item) → meet runs a b ≡ false → ShareNoDevice runs a b
-share_none runs a b apart d one = by_cases (is_item_on runs d b) refl
+share_none runs a b apart d one = by_cases (is_on_device runs d b) refl
   where
-    same : (i : Item) → is_of runs d i ≡ is_item_on runs d i
+    same : (i : Item) → is_of runs d i ≡ is_on_device runs d i
     same (Ran r) = refl
     same (Failed e k) = refl
     same (Back e k) = refl
 
-    by_cases : (c : Bool) → is_item_on runs d b ≡ c → c ≡ false
+    by_cases : (c : Bool) → is_on_device runs d b ≡ c → c ≡ false
     by_cases true e = absurd (cc (sym apart ∙ of_one_device runs d a b (same a ∙ one) (same b ∙ e)))
     by_cases false e = refl
 

@@ -22,16 +22,16 @@ pub record StandByStatus (accesses : List Access) : Type 0 where
   pub one : length acquired ≤ 1
 
 -- no run stands twice
-abbrev pub AreDifferent : List RunNo → Type 0
-AreDifferent runs = AllPairs (λ a b. a ≢ b) runs
+abbrev pub RunsDiffer : List RunNo → Type 0
+RunsDiffer runs = AllPairs (λ a b. a ≢ b) runs
 
 -- the run is one of them
-abbrev pub is_among : RunNo → List RunNo → Bool
-is_among r runs = list_any (λ q. q.0 == r.0) runs
+abbrev pub is_one_of_runs : RunNo → List RunNo → Bool
+is_one_of_runs r runs = list_any (λ q. q.0 == r.0) runs
 
 -- the runs that have an access are, in their order, the runs of the accesses
-abbrev pub AreInOrder : List RunNo → List Access → Type 0
-AreInOrder runs accesses = filter (λ q. has_access q.0 accesses) runs ≡ map (λ x. x.run) accesses
+abbrev pub AreInRunOrder : List RunNo → List Access → Type 0
+AreInRunOrder runs accesses = filter (λ q. has_access q.0 accesses) runs ≡ map (λ x. x.run) accesses
 
 -- the first of these runs that has an access
 abbrev pub next_with_access : List RunNo → List Access → Option RunNo

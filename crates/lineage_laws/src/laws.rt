@@ -5,9 +5,9 @@ ghost use Rattle.command_rules.specs.Apart.{meet};
 ghost use Rattle.command_rules.specs.ClosedSets.{are_apart};
 ghost use Rattle.command_rules.specs.Rosters.{runs_of};
 ghost use Rattle.device_order.specs.Exchanges.{SameOutcome};
-ghost use Rattle.lineage_laws.specs.Laws.{AreDifferent, AreInOrder, StandByStatus, is_among, next_with_access, with_exchange};
-ghost use Rattle.lineage_table.specs.Lineages.{accesses_at, lineage_at, released, removed, settled, stand_of};
-ghost use Rattle.lineage_table.specs.Accesses.{effective_writer, put_before, status_of, without, written_by};
+ghost use Rattle.lineage_laws.specs.Laws.{AreInRunOrder, RunsDiffer, StandByStatus, is_one_of_runs, next_with_access, with_exchange};
+ghost use Rattle.lineage_table.specs.Lineages.{accesses_at, lineage_at, released, removed, settled, stand_of_lineage};
+ghost use Rattle.lineage_table.specs.Accesses.{accesses_without, effective_writer, put_access_before, status_of, written_by};
 ghost use Rattle.serial_meaning.specs.Conditions.{HasKinds, HasRosterDevices, IsItemOf};
 ghost use Rattle.serial_meaning.specs.Executions.{order_in};
 
@@ -29,34 +29,34 @@ pub fn statuses(table: &Table, d: DeviceNo)
 /// run, without any left part, and with an access that is put before that of the next run of `runs` that has one.
 pub fn line_order(table: &Table, d: DeviceNo, runs: &List<RunNo>)
     requires device { d.0 < length table.now }
-    requires differ { AreDifferent runs.now.items }
-    requires order { AreInOrder runs.now.items (accesses_at table.now d.0) }
-    ensures without { (r : ℕ) → AreInOrder runs.now.items (without r (accesses_at table.now d.0)) }
-    ensures left { (k : ℕ) → AreInOrder runs.now.items (drop k (accesses_at table.now d.0)) }
-    ensures put { (place : ℕ) (access : Access) → place ≤ length runs.now.items → is_among access.run runs.now.items ≡ false
-        → AreInOrder (insert runs.now.items place access.run)
-        (put_before (next_with_access (drop place runs.now.items) (accesses_at table.now d.0)) access (accesses_at table.now d.0)) }
+    requires differ { RunsDiffer runs.now.items }
+    requires order { AreInRunOrder runs.now.items (accesses_at table.now d.0) }
+    ensures without { (r : ℕ) → AreInRunOrder runs.now.items (accesses_without r (accesses_at table.now d.0)) }
+    ensures left { (k : ℕ) → AreInRunOrder runs.now.items (drop k (accesses_at table.now d.0)) }
+    ensures put { (place : ℕ) (access : Access) → place ≤ length runs.now.items → is_one_of_runs access.run runs.now.items ≡ false
+        → AreInRunOrder (insert runs.now.items place access.run)
+        (put_access_before (next_with_access (drop place runs.now.items) (accesses_at table.now d.0)) access (accesses_at table.now d.0)) }
 {}
 
 /// The list with the acquired access of `r` released has the same standing value.
 pub fn release_keeps(table: &Table, d: DeviceNo, r: RunNo)
     requires device { d.0 < length table.now }
     requires acquired { status_of r.0 (accesses_at table.now d.0) ≡ Some Status.Acquired }
-    ensures { stand_of (released r.0 (lineage_at table.now d.0)) ≡ stand_of (lineage_at table.now d.0) }
+    ensures { stand_of_lineage (released r.0 (lineage_at table.now d.0)) ≡ stand_of_lineage (lineage_at table.now d.0) }
 {}
 
 /// The list without the access of `r`, which is not the effective writer of `d`, has the same standing value.
 pub fn removal_keeps(table: &Table, d: DeviceNo, r: RunNo)
     requires device { d.0 < length table.now }
     requires not_effective { effective_writer (accesses_at table.now d.0) ≢ Some r }
-    ensures { stand_of (removed r.0 (lineage_at table.now d.0)) ≡ stand_of (lineage_at table.now d.0) }
+    ensures { stand_of_lineage (removed r.0 (lineage_at table.now d.0)) ≡ stand_of_lineage (lineage_at table.now d.0) }
 {}
 
 /// What is left when the value of `r`, which wrote, is committed has the same standing value.
 pub fn compaction_keeps(table: &Table, d: DeviceNo, r: RunNo)
     requires device { d.0 < length table.now }
     requires wrote { IsSome (written_by r.0 (accesses_at table.now d.0)) }
-    ensures { stand_of (settled r.0 (lineage_at table.now d.0)) ≡ stand_of (lineage_at table.now d.0) }
+    ensures { stand_of_lineage (settled r.0 (lineage_at table.now d.0)) ≡ stand_of_lineage (lineage_at table.now d.0) }
 {}
 
 /// The items at `at` and the next place, which are apart, may be exchanged: the serial execution of the items is then refused

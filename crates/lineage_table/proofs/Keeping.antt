@@ -2,7 +2,7 @@
 use Rattle.home_types.specs.declared.commands.View.{View}
 use Rattle.lineage_table.proofs.Pairs.{Pairs, all_from_pairs, every_so, pairs_back, pairs_changed, pairs_from_all, pairs_front, pairs_put}
 use Rattle.lineage_table.proofs.Splits.{Cut, any_access, access_at, behind_at, before_at, change_at, cut_at, put_at, without_at, without_none}
-use Rattle.lineage_table.specs.Accesses.{AreInTurn, AreOfTwoRuns, IsDisciplined, access_of, before, behind, has_access, is_acquired, is_of, is_released, is_scheduled, place_before, put_before, put_before_run, run_behind, some_acquired, some_scheduled, status_of, with_change, without, written_by}
+use Rattle.lineage_table.specs.Accesses.{AreInTurn, AreOfTwoRuns, IsDisciplined, access_of, accesses_before, accesses_behind, accesses_without, has_access, is_acquired, is_of, is_released, is_scheduled, place_before, put_access_before, put_before_run, run_behind, some_acquired, some_scheduled, status_of, with_change, written_by}
 use Rattle.lineage_table.specs.Answers.{MayAnswer}
 use Rattle.lineage_table.specs.contracts.accesses.StatusPartialEq.TheImpl.{eq-value}
 use Rattle.lineage_table.specs.declared.accesses.Access.{Access}
@@ -77,15 +77,15 @@ put_insert r i xs d y h =
     ∙ sym (ap (put_before_run r y) c.list)
 
 -- what stands before the access of the run
-pub before_take : (r i : ℕ) (xs : List Access) → position (is_of r) xs ≡ Some i → take i xs ≡ before r xs
+pub before_take : (r i : ℕ) (xs : List Access) → position (is_of r) xs ≡ Some i → take i xs ≡ accesses_before r xs
 before_take r i xs h =
     let c = cut_at r i xs any_access h in
     ap (take i) c.list
     ∙ take_at c.front (c.access ∷ c.rest) i c.size
     ∙ sym (before_at r c.front c.access c.rest c.none c.own)
-    ∙ sym (ap (before r) c.list)
+    ∙ sym (ap (accesses_before r) c.list)
 
-all_before : (r : ℕ) (xs : List Access) → has_access r xs ≡ false → before r xs ≡ xs
+all_before : (r : ℕ) (xs : List Access) → has_access r xs ≡ false → accesses_before r xs ≡ xs
 all_before r [] h = refl
 all_before r (x ∷ xs) h = grind (arith, common_steps, all_before r xs)
 
@@ -96,17 +96,17 @@ drop_next (y ∷ a) x b zero e = absurd (omega (arith, e))
 drop_next (y ∷ a) x b (suc i) e = drop_next a x b i (omega (arith, e))
 
 -- what stands behind the access of the run
-pub behind_drop : (r i : ℕ) (xs : List Access) (d : Access) → position (is_of r) xs ≡ Some i → drop (i + 1) xs ≡ behind r xs
+pub behind_drop : (r i : ℕ) (xs : List Access) (d : Access) → position (is_of r) xs ≡ Some i → drop (i + 1) xs ≡ accesses_behind r xs
 behind_drop r i xs d h =
     let c = cut_at r i xs d h in
     ap (drop (i + 1)) c.list
     ∙ ap (λ k. drop k (c.front ++ c.access ∷ c.rest)) (add-one i)
     ∙ drop_next c.front c.access c.rest i c.size
     ∙ sym (behind_at r c.front c.access c.rest c.none c.own)
-    ∙ sym (ap (behind r) c.list)
+    ∙ sym (ap (accesses_behind r) c.list)
 
 -- .. or of this run, last where none is named
-pub put_place : (before : Option RunNo) (i : ℕ) (xs : List Access) (y : Access) → place_before before xs ≡ Some i → insert xs i y ≡ put_before before y xs
+pub put_place : (before : Option RunNo) (i : ℕ) (xs : List Access) (y : Access) → place_before before xs ≡ Some i → insert xs i y ≡ put_access_before before y xs
 put_place None i xs y h = ap (λ k. insert xs k y) (sym (same_place (length xs) i h)) ∙ insert_end xs y
 put_place (Some r) i xs y h = put_insert r.0 i xs y y h
 
@@ -126,14 +126,14 @@ pub remove_parts : (a : List Access) (x : Access) (b : List Access) (i : ℕ) �
 remove_parts a x b i e = ap₂ (λ p q. p ++ q) (take_at a (x ∷ b) i e) (drop_next a x b i e)
 
 -- the access of the run is taken out
-pub without_remove : (r i : ℕ) (xs : List Access) (d : Access) → IsDisciplined xs → position (is_of r) xs ≡ Some i → remove xs i ≡ without r xs
+pub without_remove : (r i : ℕ) (xs : List Access) (d : Access) → IsDisciplined xs → position (is_of r) xs ≡ Some i → remove xs i ≡ accesses_without r xs
 without_remove r i xs d k h =
     let c = cut_at r i xs d h in
     let behind : AllByRecursion (AreOfTwoRuns c.access) c.rest = rest AreOfTwoRuns c.front c.access c.rest (pairs_from_all AreOfTwoRuns (c.front ++ c.access ∷ c.rest) (subst (AllPairs AreOfTwoRuns) c.list k.one_each)) in
     ap (λ l. remove l i) c.list
     ∙ remove_parts c.front c.access c.rest i c.size
     ∙ sym (without_at r c.front c.access c.rest c.none (none_behind r c.access c.rest c.own behind) c.own)
-    ∙ sym (ap (without r) c.list)
+    ∙ sym (ap (accesses_without r) c.list)
 
 -- the run has a place exactly where it has an access
 placed : (r : ℕ) (xs : List Access) → nat_lt (position_or_len (is_of r) xs) (length xs) ≡ has_access r xs
@@ -147,7 +147,7 @@ place_of false i = refl
 pub has_place : (r : ℕ) (xs : List Access) → has_access r xs ≡ is_some (position (is_of r) xs)
 has_place r xs = sym (placed r xs) ∙ place_of (nat_lt (position_or_len (is_of r) xs) (length xs)) (position_or_len (is_of r) xs)
 
-pub before_none : (r : ℕ) (xs : List Access) → position (is_of r) xs ≡ None → xs ≡ before r xs
+pub before_none : (r : ℕ) (xs : List Access) → position (is_of r) xs ≡ None → xs ≡ accesses_before r xs
 before_none r xs h = sym (all_before r xs (has_place r xs ∙ ap is_some h))
 
 -- Discipline
@@ -202,7 +202,7 @@ behind_released x y (u ∷ a) n f =
 
 -- the run touches the device: none before it is acquired or scheduled
 pub acquire_keeps : (xs : List Access) (r i : ℕ) (x : Access) (v : View) → IsDisciplined xs → position (is_of r) xs ≡ Some i → x ≡ get_or xs i x
-    → status_of r xs ≡ Some Scheduled → some_acquired xs ≡ false → some_scheduled (before r xs) ≡ false → IsDisciplined (slice_set xs i (record x { status = Acquired; view = Some v }))
+    → status_of r xs ≡ Some Scheduled → some_acquired xs ≡ false → some_scheduled (accesses_before r xs) ≡ false → IsDisciplined (slice_set xs i (record x { status = Acquired; view = Some v }))
 acquire_keeps xs r i x v k h is s n f =
     let c = cut_at r i xs x h in
     let here : x ≡ c.access = is ∙ ap (λ l. get_or l i x) c.list ∙ get_or_at c.front c.access c.rest x i c.size in
@@ -212,7 +212,7 @@ acquire_keeps xs r i x v k h is s n f =
     (sym (ap (λ z. set xs i (record z { status = Acquired; view = Some v })) here ∙ ap (λ l. set l i y) c.list ∙ set_at c.front c.access c.rest y i c.size))
     (
     kept_at c.front c.access y c.rest refl
-    (behind_released c.access y c.front (quiet c.front (c.access ∷ c.rest) (ap some_acquired (sym c.list) ∙ n)) (ap some_scheduled (sym (ap (before r) c.list ∙ before_at r c.front c.access c.rest c.none c.own)) ∙ f))
+    (behind_released c.access y c.front (quiet c.front (c.access ∷ c.rest) (ap some_acquired (sym c.list) ∙ n)) (ap some_scheduled (sym (ap (accesses_before r) c.list ∙ before_at r c.front c.access c.rest c.none c.own)) ∙ f))
     (every_so (λ z. AreInTurn c.access z → AreInTurn y z) c.rest (λ z. back c.access z y status))
     (subst IsDisciplined c.list k)
     )
@@ -244,14 +244,14 @@ release_keeps xs r i x k h is s =
     back x y v e h = grind (arith, common_steps)
 
 -- the run notes an answer, where none before it is scheduled
-pub answer_keeps : (xs : List Access) (r i : ℕ) (x y : Access) → IsDisciplined xs → position (is_of r) xs ≡ Some i → x ≡ get_or xs i x → MayAnswer r xs → some_scheduled (before r xs) ≡ false → y.run.0 ≡ x.run.0 → IsDisciplined (slice_set xs i y)
+pub answer_keeps : (xs : List Access) (r i : ℕ) (x y : Access) → IsDisciplined xs → position (is_of r) xs ≡ Some i → x ≡ get_or xs i x → MayAnswer r xs → some_scheduled (accesses_before r xs) ≡ false → y.run.0 ≡ x.run.0 → IsDisciplined (slice_set xs i y)
 answer_keeps xs r i x y k h is may f same =
     let turn = in_its_turn may in
     subst IsDisciplined
     (sym (ap (λ l. set l i y) c.list ∙ set_at c.front c.access c.rest y i c.size))
     (
     kept_at c.front c.access y c.rest (same ∙ ap (λ (z : Access). z.run.0) here)
-    (behind_released c.access y c.front turn.1 (ap some_scheduled (sym (ap (before r) c.list ∙ before_at r c.front c.access c.rest c.none c.own)) ∙ f))
+    (behind_released c.access y c.front turn.1 (ap some_scheduled (sym (ap (accesses_before r) c.list ∙ before_at r c.front c.access c.rest c.none c.own)) ∙ f))
     (every_so (λ z. AreInTurn c.access z → AreInTurn y z) c.rest (λ z. back c.access z y turn.0))
     old
     )
@@ -372,7 +372,7 @@ schedule_last_keeps : (xs : List Access) (y : Access) → IsDisciplined xs → y
 schedule_last_keeps xs y k t n = (put_keeps xs y [] t n refl tt (subst IsDisciplined (sym (append-nil xs)) k))
 
 pub schedule_put_keeps : (xs : List Access) (before : Option RunNo) (y : Access) → IsDisciplined xs → ForSome before (λ r. status_of r.0 xs ≡ Some Scheduled)
-    → y.status ≡ Scheduled → has_access y.run.0 xs ≡ false → IsDisciplined (put_before before y xs)
+    → y.status ≡ Scheduled → has_access y.run.0 xs ≡ false → IsDisciplined (put_access_before before y xs)
 schedule_put_keeps xs None y k s t n = schedule_last_keeps xs y k t n
 schedule_put_keeps xs (Some r) y k s t n = at (position (is_of r.0) xs) refl
   where
@@ -396,7 +396,7 @@ write_keeps xs r i x o k h is =
     )
 
 -- the access of a run leaves
-pub without_keeps : (xs : List Access) (r : ℕ) → IsDisciplined xs → IsDisciplined (without r xs)
+pub without_keeps : (xs : List Access) (r : ℕ) → IsDisciplined xs → IsDisciplined (accesses_without r xs)
 without_keeps xs r k = record { in_turn = AllPairs-filter AreInTurn (λ x. not (is_of r x)) xs k.in_turn; one_each = AllPairs-filter AreOfTwoRuns (λ x. not (is_of r x)) xs k.one_each }
 
 -- the first ones leave
@@ -437,16 +437,16 @@ nothing_changed s r f h = ap (λ (l : List Access). with_accesses s l s.room) (s
 left_state : (s : LineageState) (items l : List Access) (m n : ℕ) → items ≡ l → m ≡ n → with_accesses s items m ≡ with_accesses s l n
 left_state s items l m n e left = ap₂ (with_accesses s) e left
 
-pub scheduled_state : (s now : LineageState) (before : Option RunNo) (m : ℕ) (y : Access) (items : List Access) → s ≡ now → items ≡ put_before before y s.accesses → m ≡ s.room - 1
+pub scheduled_state : (s now : LineageState) (before : Option RunNo) (m : ℕ) (y : Access) (items : List Access) → s ≡ now → items ≡ put_access_before before y s.accesses → m ≡ s.room - 1
     → record s { accesses = items; room = m } ≡ scheduled before y now
 unfolding with_accesses
-scheduled_state s now before m y items e is left = left_state s items (put_before before y s.accesses) m (s.room - 1) is left ∙ ap (scheduled before y) e
+scheduled_state s now before m y items e is left = left_state s items (put_access_before before y s.accesses) m (s.room - 1) is left ∙ ap (scheduled before y) e
 
 pub nothing_removed : (s : LineageState) (r : ℕ) → position (is_of r) s.accesses ≡ None → s ≡ removed r s
 unfolding with_accesses
-nothing_removed s r h = left_state s s.accesses (without r s.accesses) s.room (s.room + (length s.accesses - length (without r s.accesses))) (sym stays) (rw stays (omega arith))
+nothing_removed s r h = left_state s s.accesses (accesses_without r s.accesses) s.room (s.room + (length s.accesses - length (accesses_without r s.accesses))) (sym stays) (rw stays (omega arith))
   where
-    stays : without r s.accesses ≡ s.accesses
+    stays : accesses_without r s.accesses ≡ s.accesses
     stays = without_none r s.accesses (has_place r s.accesses ∙ ap is_some h)
 
 pub removed_state : (s now : LineageState) (r i m : ℕ) (x : Access) (items : List Access) → s ≡ now → IsDisciplined s.accesses → position (is_of r) now.accesses ≡ Some i
@@ -454,9 +454,9 @@ pub removed_state : (s now : LineageState) (r i m : ℕ) (x : Access) (items : L
 unfolding with_accesses
 removed_state s now r i m x items e k h is more =
     let place : position (is_of r) s.accesses ≡ Some i = ap (λ (t : LineageState). position (is_of r) t.accesses) e ∙ h in
-    let gone : items ≡ without r s.accesses = is ∙ without_remove r i s.accesses x k place in
-    let size : length (without r s.accesses) + 1 ≡ length s.accesses = rw (← gone, is) (length-remove s.accesses i (position-Some (is_of r) s.accesses i x place).0) in
-    left_state s items (without r s.accesses) m (s.room + (length s.accesses - length (without r s.accesses))) gone (omega (arith, more, size))
+    let gone : items ≡ accesses_without r s.accesses = is ∙ without_remove r i s.accesses x k place in
+    let size : length (accesses_without r s.accesses) + 1 ≡ length s.accesses = rw (← gone, is) (length-remove s.accesses i (position-Some (is_of r) s.accesses i x place).0) in
+    left_state s items (accesses_without r s.accesses) m (s.room + (length s.accesses - length (accesses_without r s.accesses))) gone (omega (arith, more, size))
     ∙ ap (removed r) e
 
 pub settled_state : (s now : LineageState) (r i m v : ℕ) (x : Access) (items : List Access) → s ≡ now → position (is_of r) now.accesses ≡ Some i → x ≡ get_or s.accesses i x → x.wrote ≡ Some v
@@ -464,7 +464,7 @@ pub settled_state : (s now : LineageState) (r i m v : ℕ) (x : Access) (items :
 unfolding with_all
 settled_state s now r i m v x items e h there wrote is more =
     let place : position (is_of r) s.accesses ≡ Some i = ap (λ (t : LineageState). position (is_of r) t.accesses) e ∙ h in
-    let left : items ≡ behind r s.accesses = is ∙ behind_drop r i s.accesses x place in
+    let left : items ≡ accesses_behind r s.accesses = is ∙ behind_drop r i s.accesses x place in
     let value : v ≡ unwrap_or (written_by r s.accesses) s.committed = sym (ap (λ o. unwrap_or (option_and_then (λ (a : Access). a.wrote) o) s.committed) (access_there r i s.accesses x place) ∙ ap (λ (z : Access). unwrap_or z.wrote s.committed) (sym there) ∙ ap (λ o. unwrap_or o s.committed) wrote) in
     ap (λ w. with_all s w items m) value
     ∙ ap₂ (with_all s (unwrap_or (written_by r s.accesses) s.committed)) left (more ∙ ap (λ (l : List Access). s.room + (length s.accesses - length l)) left)
@@ -494,7 +494,7 @@ wrote_there s now r i x e h is w = subst IsSome (ap (option_and_then (λ (a : Ac
 
 -- the access behind that of the run stands in the next place
 
-none_next : (r : ℕ) (xs : List Access) → has_access r xs ≡ false → behind r xs ≡ []
+none_next : (r : ℕ) (xs : List Access) → has_access r xs ≡ false → accesses_behind r xs ≡ []
 none_next r [] h = refl
 none_next r (x ∷ xs) h = grind (arith, common_steps, none_next r xs)
 
@@ -508,10 +508,10 @@ next_at a x b i e = ap (slice_get (a ++ x ∷ b)) place ∙ by_front a
     by_front [] = refl
     by_front (y ∷ a) = by_front a
 
-next_there : (r i : ℕ) (xs : List Access) → position (is_of r) xs ≡ Some i → slice_get (behind r xs) 0 ≡ slice_get xs (i + 1)
+next_there : (r i : ℕ) (xs : List Access) → position (is_of r) xs ≡ Some i → slice_get (accesses_behind r xs) 0 ≡ slice_get xs (i + 1)
 next_there r i xs h =
     let c = cut_at r i xs any_access h in
-    ap (λ l. slice_get (behind r l) 0) c.list
+    ap (λ l. slice_get (accesses_behind r l) 0) c.list
     ∙ ap (λ l. slice_get l 0) (behind_at r c.front c.access c.rest c.none c.own)
     ∙ sym (ap (λ l. slice_get l (i + 1)) c.list ∙ next_at c.front c.access c.rest i c.size)
 
@@ -531,10 +531,10 @@ behind_there s now r i seen x e is h within at =
 -- The discipline of the fields
 
 pub acquires : (s now : LineageState) (r i : ℕ) (x : Access) (v : View) → s ≡ now → IsDisciplined s.accesses → position (is_of r) now.accesses ≡ Some i → x ≡ get_or s.accesses i x
-    → status_of r now.accesses ≡ Some Scheduled → some_acquired now.accesses ≡ false → some_scheduled (before r now.accesses) ≡ false
+    → status_of r now.accesses ≡ Some Scheduled → some_acquired now.accesses ≡ false → some_scheduled (accesses_before r now.accesses) ≡ false
     → IsDisciplined (slice_set s.accesses i (record x { status = Acquired; view = Some v }))
 acquires s now r i x v e k h is st n f =
-    acquire_keeps s.accesses r i x v k (at (λ l. position (is_of r) l) ∙ h) is (at (status_of r) ∙ st) (at some_acquired ∙ n) (at (λ l. some_scheduled (before r l)) ∙ f)
+    acquire_keeps s.accesses r i x v k (at (λ l. position (is_of r) l) ∙ h) is (at (status_of r) ∙ st) (at some_acquired ∙ n) (at (λ l. some_scheduled (accesses_before r l)) ∙ f)
   where
     at : {B : Type 0} (g : List Access → B) → g s.accesses ≡ g now.accesses
     at g = ap (λ (t : LineageState). g t.accesses) e
@@ -544,14 +544,14 @@ pub releases : (s now : LineageState) (r i : ℕ) (x : Access) → s ≡ now →
 releases s now r i x e k h is st = release_keeps s.accesses r i x k (ap (λ (t : LineageState). position (is_of r) t.accesses) e ∙ h) is (ap (λ (t : LineageState). status_of r t.accesses) e ∙ st)
 
 pub schedules : (s now : LineageState) (before : Option RunNo) (y : Access) (items : List Access) → s ≡ now → IsDisciplined s.accesses
-    → ForSome before (λ r. status_of r.0 now.accesses ≡ Some Scheduled) → y.status ≡ Scheduled → has_access y.run.0 now.accesses ≡ false → items ≡ put_before before y s.accesses → IsDisciplined items
+    → ForSome before (λ r. status_of r.0 now.accesses ≡ Some Scheduled) → y.status ≡ Scheduled → has_access y.run.0 now.accesses ≡ false → items ≡ put_access_before before y s.accesses → IsDisciplined items
 schedules s now before y items e k st t n is =
     subst IsDisciplined (sym is) (schedule_put_keeps s.accesses before y k (λ r q. ap (λ (u : LineageState). status_of r.0 u.accesses) e ∙ st r q) t (ap (λ (u : LineageState). has_access y.run.0 u.accesses) e ∙ n))
 
 pub writes : (s now : LineageState) (r i : ℕ) (x : Access) (o : Option ℕ) → s ≡ now → IsDisciplined s.accesses → position (is_of r) now.accesses ≡ Some i → x ≡ get_or s.accesses i x → IsDisciplined (slice_set s.accesses i (record x { wrote = o }))
 writes s now r i x o e k h is = write_keeps s.accesses r i x o k (ap (λ (t : LineageState). position (is_of r) t.accesses) e ∙ h) is
 
-pub answers : (s now : LineageState) (r i : ℕ) (x y : Access) → s ≡ now → IsDisciplined s.accesses → position (is_of r) now.accesses ≡ Some i → x ≡ get_or s.accesses i x → MayAnswer r now.accesses → some_scheduled (before r now.accesses) ≡ false → y.run.0 ≡ x.run.0
+pub answers : (s now : LineageState) (r i : ℕ) (x y : Access) → s ≡ now → IsDisciplined s.accesses → position (is_of r) now.accesses ≡ Some i → x ≡ get_or s.accesses i x → MayAnswer r now.accesses → some_scheduled (accesses_before r now.accesses) ≡ false → y.run.0 ≡ x.run.0
     → IsDisciplined (slice_set s.accesses i y)
 answers s now r i x y e k h is may f same =
-    answer_keeps s.accesses r i x y k (ap (λ (t : LineageState). position (is_of r) t.accesses) e ∙ h) is (subst (λ (t : LineageState). MayAnswer r t.accesses) (sym e) may) (ap (λ (t : LineageState). some_scheduled (before r t.accesses)) e ∙ f) same
+    answer_keeps s.accesses r i x y k (ap (λ (t : LineageState). position (is_of r) t.accesses) e ∙ h) is (subst (λ (t : LineageState). MayAnswer r t.accesses) (sym e) may) (ap (λ (t : LineageState). some_scheduled (accesses_before r t.accesses)) e ∙ f) same

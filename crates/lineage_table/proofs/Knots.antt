@@ -6,8 +6,8 @@ use Rattle.chain_arena.specs.declared.knots.Knot.{Knot}
 use Rattle.lineage_table.proofs.Keeping.{has_place, remove_parts}
 use Rattle.lineage_table.proofs.Pairs.{Pairs}
 use Rattle.lineage_table.proofs.Splits.{access_at, before_at, behind_at, put_at}
-use Rattle.lineage_table.specs.Accesses.{AreOfTwoRuns, access_of, before, behind, has_access, is_of, is_scheduled, put_before_run, some_scheduled}
-use Rattle.lineage_table.specs.Knots.{CutAt}
+use Rattle.lineage_table.specs.Accesses.{AreOfTwoRuns, access_of, accesses_before, accesses_behind, has_access, is_of, is_scheduled, put_before_run, some_scheduled}
+use Rattle.lineage_table.specs.Knots.{CutAtKnot}
 use Rattle.lineage_table.specs.declared.accesses.Access.{Access}
 use Rattle.std.proofs.Common.{List, None, Option, Some, [], ap, append_assoc, arith, cond, drop, false, get_or, insert, is_some, length, length-append, lt-ltb, nat_lt, position, refl, remove, set, subst, sym, true, true≢false, ℕ, ◌++◌, ◌+◌, ◌<◌, ◌∙◌, ◌∷◌, ◌≡◌}
 use Rattle.std.proofs.lemmas.Grind.{common_steps}
@@ -34,7 +34,7 @@ apart_runs r y z own two = grind (arith, common_steps)
 own_knot : (k : Knot) (x : Access) → is_at k.0 (k, x) ≡ true
 own_knot k x = grind (arith, common_steps)
 
-module _ (r : ℕ) (k : Knot) (ps : List (Knot × Access)) (h : CutAt r k ps) (apart : AreApart ps) where
+module _ (r : ℕ) (k : Knot) (ps : List (Knot × Access)) (h : CutAtKnot r k ps) (apart : AreApart ps) where
   apart_there : AreApart (h.front ++ (k, h.access) ∷ h.rest)
   apart_there = subst AreApart h.list apart
 
@@ -105,16 +105,16 @@ module _ (r : ℕ) (k : Knot) (ps : List (Knot × Access)) (h : CutAt r k ps) (a
   length_there = omega (arith, length_values ps, ap length h.list, length-append h.front ((k, h.access) ∷ h.rest), length_values h.front, ap length from_there)
 
   -- what stands behind it
-  pub behind_there : (o : Option Knot) → IsBehind k o ps → behind r (values_of ps) ≡ values_of (rest_of o ps)
+  pub behind_there : (o : Option Knot) → IsBehind k o ps → accesses_behind r (values_of ps) ≡ values_of (rest_of o ps)
   behind_there o e =
-      ap (behind r) values_are ∙ behind_at r (values_of h.front) h.access (values_of h.rest) h.none h.own ∙ ap (λ l. values_of (drop 1 l)) (sym from_there ∙ e h.access value_there)
+      ap (accesses_behind r) values_are ∙ behind_at r (values_of h.front) h.access (values_of h.rest) h.none h.own ∙ ap (λ l. values_of (drop 1 l)) (sym from_there ∙ e h.access value_there)
 
   -- where the accesses are those of a lineage
   pub at_now : (xs : List Access) → values_of ps ≡ xs → position (is_of r) xs ≡ Some (length (values_of h.front))
   at_now xs e = ap (position (is_of r)) (sym e) ∙ place
 
-  pub before_there : before r (values_of ps) ≡ values_of h.front
-  before_there = ap (before r) values_are ∙ before_at r (values_of h.front) h.access (values_of h.rest) h.none h.own
+  pub before_there : accesses_before r (values_of ps) ≡ values_of h.front
+  before_there = ap (accesses_before r) values_are ∙ before_at r (values_of h.front) h.access (values_of h.rest) h.none h.own
 
 -- one more pair was looked at
 pub seen_list : (ps front next rest : List (Knot × Access)) (q : Knot × Access) → ps ≡ front ++ next → next ≡ q ∷ rest → ps ≡ (front ++ q ∷ []) ++ rest
@@ -126,9 +126,9 @@ seen_none r [] q n o = grind (arith, common_steps)
 seen_none r (p ∷ front) q n o = grind (arith, common_steps, seen_none r front q)
 
 -- .. and it is the run's
-pub before_cut : (r : ℕ) (ps front next rest : List (Knot × Access)) (q : Knot × Access) → ps ≡ front ++ next → next ≡ q ∷ rest → has_access r (values_of front) ≡ false → is_of r q.1 ≡ true → before r (values_of ps) ≡ values_of front
+pub before_cut : (r : ℕ) (ps front next rest : List (Knot × Access)) (q : Knot × Access) → ps ≡ front ++ next → next ≡ q ∷ rest → has_access r (values_of front) ≡ false → is_of r q.1 ≡ true → accesses_before r (values_of ps) ≡ values_of front
 before_cut r ps front next rest q e f n o =
-    ap (λ l. before r (values_of l)) (e ∙ ap (λ l. front ++ l) f) ∙ ap (before r) (values_cut front q rest) ∙ before_at r (values_of front) q.1 (values_of rest) n o
+    ap (λ l. accesses_before r (values_of l)) (e ∙ ap (λ l. front ++ l) f) ∙ ap (accesses_before r) (values_cut front q rest) ∙ before_at r (values_of front) q.1 (values_of rest) n o
 
 -- .. and whether one of those so far is scheduled
 pub seen_waits : (front : List (Knot × Access)) (q : Knot × Access) (b more : Bool) → b ≡ some_scheduled (values_of front) → more ≡ (b || is_scheduled q.1.status) → more ≡ some_scheduled (values_of (front ++ q ∷ []))
@@ -144,7 +144,7 @@ seen_has n [] q = grind (arith, common_steps)
 seen_has n (p ∷ front) q = grind (arith, common_steps, seen_has n front q)
 
 -- a run with no access
-pub none_behind_run : (r : ℕ) (xs : List Access) → has_access r xs ≡ false → [] ≡ behind r xs
+pub none_behind_run : (r : ℕ) (xs : List Access) → has_access r xs ≡ false → [] ≡ accesses_behind r xs
 none_behind_run r [] n = refl
 none_behind_run r (x ∷ xs) n = grind (arith, common_steps, none_behind_run r xs)
 
@@ -158,7 +158,7 @@ fold_values g b [] = refl
 fold_values g b (p ∷ ps) = fold_values g (g b p.1) ps
 
 -- where no two are of one run, an access that is found under its knot is the run's only one
-pub cut_near : (r : ℕ) (k : Knot) (ps : List (Knot × Access)) (x : Access) → Pairs AreOfTwoRuns (values_of ps) → value_at k.0 ps ≡ Some x → is_of r x ≡ true → CutAt r k ps
+pub cut_near : (r : ℕ) (k : Knot) (ps : List (Knot × Access)) (x : Access) → Pairs AreOfTwoRuns (values_of ps) → value_at k.0 ps ≡ Some x → is_of r x ≡ true → CutAtKnot r k ps
 unfolding Pairs
 cut_near r k [] x apart e own = absurd (cc)
 cut_near r k (p ∷ ps) x apart e own = at (is_at k.0 p) refl e (λ past. cut_near r k ps x apart.1 past own)
@@ -174,7 +174,7 @@ cut_near r k (p ∷ ps) x apart e own = at (is_at k.0 p) refl e (λ past. cut_ne
         by true here rest = let same : q.1 ≡ x = some_same q.1 x here in apart_runs r y q.1 (ap (is_of r) same ∙ own) all.0
         by false past rest = rest past
 
-    at : (b : Bool) → is_at k.0 p ≡ b → (if b then Some p.1 else value_at k.0 ps) ≡ Some x → (value_at k.0 ps ≡ Some x → CutAt r k ps) → CutAt r k (p ∷ ps)
+    at : (b : Bool) → is_at k.0 p ≡ b → (if b then Some p.1 else value_at k.0 ps) ≡ Some x → (value_at k.0 ps ≡ Some x → CutAtKnot r k ps) → CutAtKnot r k (p ∷ ps)
     at true here found rest = record { front = []; access = p.1; rest = ps; list = ap (λ j. (j, p.1) ∷ ps) (named here); none = refl; own = ap (is_of r) (some_same p.1 x found) ∙ own }
     at false past found rest =
         let c = rest found in

@@ -4,7 +4,7 @@ use Rattle.chain_arena.specs.declared.knots.Knot.{Knot}
 use Rattle.home_types.specs.DeviceSets.{Devices}
 use Rattle.lineage_table.proofs.Knots.{before_cut, seen_has, seen_list, seen_none}
 use Rattle.lineage_table.proofs.RunSets.{less_more}
-use Rattle.lineage_table.specs.Accesses.{before, has_access, is_of}
+use Rattle.lineage_table.specs.Accesses.{accesses_before, has_access, is_of}
 use Rattle.lineage_table.specs.RunDevices.{HasLess}
 use Rattle.lineage_table.specs.declared.accesses.Access.{Access}
 use Rattle.std.proofs.Common.{List, [], ap, arith, false, sym, true, ℕ, ◌++◌, ◌∙◌, ◌∷◌, ◌≡◌}
@@ -22,7 +22,7 @@ module _ (r d : ℕ) (ps front next rest : List (Knot × Access)) (q : Knot × A
       (front ++ q ∷ [], seen_list ps front next rest q e f, seen_none r front q none other, less_more (λ n. has_access n (values_of front)) (λ n. n == q.1.run.0) (λ n. has_access n (values_of (front ++ q ∷ []))) d old mid new was one (λ n. seen_has n front q))
 
   -- the run's own is the last one
-  pub all_leave : is_of r q.1 ≡ true → HasLess (λ n. has_access n (before r (values_of ps)) || (n == r)) d old new
+  pub all_leave : is_of r q.1 ≡ true → HasLess (λ n. has_access n (accesses_before r (values_of ps)) || (n == r)) d old new
   all_leave own =
-      less_more (λ n. has_access n (values_of front)) (λ n. n == q.1.run.0) (λ n. has_access n (before r (values_of ps)) || (n == r)) d old mid new was one
+      less_more (λ n. has_access n (values_of front)) (λ n. n == q.1.run.0) (λ n. has_access n (accesses_before r (values_of ps)) || (n == r)) d old mid new was one
       (λ n. ap (λ l. has_access n l || (n == r)) (before_cut r ps front next rest q e f none own) ∙ ap (λ k. has_access n (values_of front) || (n == k)) (sym (same_run r q.1 own)))

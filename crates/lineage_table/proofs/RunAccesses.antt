@@ -4,7 +4,7 @@ use Rattle.home_types.specs.declared.numbers.RunNo.{RunNo}
 use Rattle.lineage_table.proofs.DeviceCounts.{any_next}
 use Rattle.lineage_table.proofs.Keeping.{none_behind}
 use Rattle.lineage_table.proofs.Pairs.{Pairs, pairs_from_all}
-use Rattle.lineage_table.specs.Accesses.{AreOfTwoRuns, IsDisciplined, access_of, before, behind, has_access, is_of, put_before, put_before_run, with_change, without}
+use Rattle.lineage_table.specs.Accesses.{AreOfTwoRuns, IsDisciplined, access_of, accesses_before, accesses_behind, accesses_without, has_access, is_of, put_access_before, put_before_run, with_change}
 use Rattle.lineage_table.specs.Answers.{answered_access, answered_if}
 use Rattle.lineage_table.specs.Lineages.{LineageState}
 use Rattle.lineage_table.specs.declared.accesses.Access.{Access}
@@ -51,12 +51,12 @@ last_has : (q : ℕ) (y : Access) (xs : List Access) → has_access q (xs ++ y �
 last_has q y [] = refl
 last_has q y (x ∷ xs) = ap (λ b. is_of q x || b) (last_has q y xs) ∙ swap (is_of q x) (is_of q y) (has_access q xs)
 
-pub put_has : (q : ℕ) (before : Option RunNo) (y : Access) (xs : List Access) → has_access q (put_before before y xs) ≡ ((q == y.run.0) || has_access q xs)
+pub put_has : (q : ℕ) (before : Option RunNo) (y : Access) (xs : List Access) → has_access q (put_access_before before y xs) ≡ ((q == y.run.0) || has_access q xs)
 put_has q None y xs = last_has q y xs ∙ ap (λ b. b || has_access q xs) (same_run q y)
 put_has q (Some r) y xs = put_run_has q r.0 y xs ∙ ap (λ b. b || has_access q xs) (same_run q y)
 
 -- the access of a run is taken out
-pub without_has : (q r : ℕ) (xs : List Access) → has_access q (without r xs) ≡ (not (q == r) && has_access q xs)
+pub without_has : (q r : ℕ) (xs : List Access) → has_access q (accesses_without r xs) ≡ (not (q == r) && has_access q xs)
 without_has q r [] = none (q == r)
   where
     none : (b : Bool) → false ≡ (not b && false)
@@ -78,7 +78,7 @@ without_has q r (x ∷ xs) = at_ (is_of r x) refl (without_has q r xs)
     stays a true c h = ap (λ x. true || (not x && c)) (h refl) ∙ sym (ap (λ x. not x && (true || c)) (h refl))
     stays a false c h = refl
 
-    at_ : (b : Bool) → is_of r x ≡ b → has_access q (without r xs) ≡ (not (q == r) && has_access q xs) → has_access q (if not b then (x ∷ without r xs) else without r xs) ≡ (not (q == r) && (is_of q x || has_access q xs))
+    at_ : (b : Bool) → is_of r x ≡ b → has_access q (accesses_without r xs) ≡ (not (q == r) && has_access q xs) → has_access q (if not b then (x ∷ accesses_without r xs) else accesses_without r xs) ≡ (not (q == r) && (is_of q x || has_access q xs))
     at_ true e rest = rest ∙ gone (q == r) (has_access q xs) ∙ ap (λ b. not (q == r) && (b || has_access q xs)) (sym (other x.run.0 q r e))
     at_ false e rest = ap (λ b. is_of q x || b) rest ∙ stays (q == r) (is_of q x) (has_access q xs) (λ f. kept x.run.0 q r e f)
 
@@ -96,7 +96,7 @@ found_has r (x ∷ xs) = at_ (is_of r x) (found_has r xs)
     at_ false rest = rest
 
 -- the access of a run and those before it are gone
-pub behind_has : (q r : ℕ) (xs : List Access) → IsDisciplined xs → IsTrue (has_access r xs) → has_access q (behind r xs) ≡ (not (has_access q (before r xs) || (q == r)) && has_access q xs)
+pub behind_has : (q r : ℕ) (xs : List Access) → IsDisciplined xs → IsTrue (has_access r xs) → has_access q (accesses_behind r xs) ≡ (not (has_access q (accesses_before r xs) || (q == r)) && has_access q xs)
 unfolding Pairs
 behind_has q r xs disciplined has = along xs (pairs_from_all AreOfTwoRuns xs disciplined.one_each) has
   where
@@ -111,14 +111,14 @@ behind_has q r xs disciplined has = along xs (pairs_from_all AreOfTwoRuns xs dis
     further true b c d h = ap (λ x. not (b || c) && x) (h refl) ∙ and_right (not (b || c)) false refl
     further false b c d h = refl
 
-    along : (ys : List Access) → Pairs AreOfTwoRuns ys → IsTrue (has_access r ys) → has_access q (behind r ys) ≡ (not (has_access q (before r ys) || (q == r)) && has_access q ys)
+    along : (ys : List Access) → Pairs AreOfTwoRuns ys → IsTrue (has_access r ys) → has_access q (accesses_behind r ys) ≡ (not (has_access q (accesses_before r ys) || (q == r)) && has_access q ys)
     along [] pairs has = absurd (cc)
     along (y ∷ ys) pairs has = at_ (is_of r y) refl (λ rest. along ys pairs.1 rest)
       where
         alone : is_of q y ≡ true → has_access q ys ≡ false
         alone e = none_behind q y ys e pairs.0
 
-        at_ : (b : Bool) → is_of r y ≡ b → (IsTrue (has_access r ys) → has_access q (behind r ys) ≡ (not (has_access q (before r ys) || (q == r)) && has_access q ys))
-            → has_access q (if b then ys else behind r ys) ≡ (not (has_access q (if b then [] else (y ∷ before r ys)) || (q == r)) && (is_of q y || has_access q ys))
+        at_ : (b : Bool) → is_of r y ≡ b → (IsTrue (has_access r ys) → has_access q (accesses_behind r ys) ≡ (not (has_access q (accesses_before r ys) || (q == r)) && has_access q ys))
+            → has_access q (if b then ys else accesses_behind r ys) ≡ (not (has_access q (if b then [] else (y ∷ accesses_before r ys)) || (q == r)) && (is_of q y || has_access q ys))
         at_ true e rest = one (is_of q y) (has_access q ys) alone ∙ ap (λ b. not b && (is_of q y || has_access q ys)) (own y.run.0 q r e)
-        at_ false e rest = rest (grind (arith, common_steps)) ∙ further (is_of q y) (has_access q (before r ys)) (q == r) (has_access q ys) alone
+        at_ false e rest = rest (grind (arith, common_steps)) ∙ further (is_of q y) (has_access q (accesses_before r ys)) (q == r) (has_access q ys) alone

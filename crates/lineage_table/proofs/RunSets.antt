@@ -4,7 +4,7 @@ use Rattle.home_types.proofs.DeviceBits.{contains_insert, contains_remove}
 use Rattle.lineage_table.proofs.KeptTables.{table_set}
 use Rattle.lineage_table.specs.Accesses.{IsDisciplined, has_access}
 use Rattle.lineage_table.specs.Lineages.{LineageState, accesses_at, lineage_at, no_lineage}
-use Rattle.lineage_table.specs.RunDevices.{HasLess, HasMore, IsSound, is_in}
+use Rattle.lineage_table.specs.RunDevices.{HasLess, HasMore, TableIsSound, is_in}
 use Rattle.std.proofs.Common.{List, [], ap, arith, get_or, length, refl, set as set_at, subst, suc, sym, zero, ℕ, ◌++◌, ◌+◌, ◌<◌, ◌∙◌, ◌∷◌, ◌≡◌, ◌≢◌}
 use Rattle.std.proofs.lemmas.Bool.{eq-eqb}
 use Rattle.std.proofs.lemmas.Grind.{common_steps}
@@ -116,14 +116,14 @@ pub lineage_here : (table now : List LineageState) (d : ℕ) (x : LineageState) 
 lineage_here table now d x same below is = ap (λ (l : List LineageState). lineage_at l d) (sym same) ∙ sym (read_there table d x no_lineage (subst (λ (l : List LineageState). d < length l) (sym same) below) is)
 
 -- the lineage `old` of the device becomes `s`, which is read again as `x`
-module _ (sets now : List Devices) (table now_table : List LineageState) (d : ℕ) (old s x : LineageState) (is : IsSound sets table) (same : table ≡ now_table) (below : d < length now_table) (was : old ≡ get_or table d old) (there : x ≡ get_or (set_at table d s) d x) (turns : IsDisciplined x.accesses) where
+module _ (sets now : List Devices) (table now_table : List LineageState) (d : ℕ) (old s x : LineageState) (is : TableIsSound sets table) (same : table ≡ now_table) (below : d < length now_table) (was : old ≡ get_or table d old) (there : x ≡ get_or (set_at table d s) d x) (turns : IsDisciplined x.accesses) where
   inside : d < length table
   inside = subst (λ (l : List LineageState). d < length l) (sym same) below
 
   here : (q : ℕ) → has_access q (accesses_at table d) ≡ has_access q old.accesses
   here q = ap (λ (y : LineageState). has_access q y.accesses) (sym (read_there table d old no_lineage inside was))
 
-  sound_from : length now ≡ length sets → ((q e : ℕ) → q < length sets → (e == d) ≡ false → is_in now q e ≡ is_in sets q e) → ((q : ℕ) → q < length sets → is_in sets q d ≡ has_access q old.accesses → is_in now q d ≡ has_access q s.accesses) → IsSound now (set_at table d s)
+  sound_from : length now ≡ length sets → ((q e : ℕ) → q < length sets → (e == d) ≡ false → is_in now q e ≡ is_in sets q e) → ((q : ℕ) → q < length sets → is_in sets q d ≡ has_access q old.accesses → is_in now q d ≡ has_access q s.accesses) → TableIsSound now (set_at table d s)
   sound_from runs others own = record { table = table_set table now_table d s x is.table same below there turns; devices = λ q e within. at_ q e (subst (λ n. q < n) runs within) (e == d) refl }
     where
       at_ : (q e : ℕ) → q < length sets → (b : Bool) → (e == d) ≡ b → is_in now q e ≡ has_access q (accesses_at (set_at table d s) e)
@@ -131,11 +131,11 @@ module _ (sets now : List Devices) (table now_table : List LineageState) (d : �
       at_ q e within false h = others q e within h ∙ is.devices q e within ∙ ap (λ (y : LineageState). has_access q y.accesses) (sym (get_or-set_other table d e s no_lineage (differ e d h)))
 
   -- with the same runs
-  pub sound_same : now ≡ sets → ((q : ℕ) → has_access q s.accesses ≡ has_access q old.accesses) → IsSound now (set_at table d s)
+  pub sound_same : now ≡ sets → ((q : ℕ) → has_access q s.accesses ≡ has_access q old.accesses) → TableIsSound now (set_at table d s)
   sound_same stay runs = sound_from (ap (λ l. length l) stay) (λ q e within other. ap (λ l. is_in l q e) stay) (λ q within told. ap (λ l. is_in l q d) stay ∙ told ∙ sym (runs q))
 
   -- one run more
-  pub sound_more : (r : ℕ) → HasMore r d sets now → ((q : ℕ) → has_access q s.accesses ≡ ((q == r) || has_access q old.accesses)) → IsSound now (set_at table d s)
+  pub sound_more : (r : ℕ) → HasMore r d sets now → ((q : ℕ) → has_access q s.accesses ≡ ((q == r) || has_access q old.accesses)) → TableIsSound now (set_at table d s)
   sound_more r more runs =
       sound_from more.runs
       (λ q e within other. more.each q e within ∙ ap (λ b. ((q == r) && b) || is_in sets q e) other ∙ unchanged (q == r) (is_in sets q e))
@@ -150,7 +150,7 @@ module _ (sets now : List Devices) (table now_table : List LineageState) (d : �
       own false y = refl
 
   -- without the runs that leave
-  pub sound_less : (leaves : ℕ → Bool) → HasLess leaves d sets now → ((q : ℕ) → has_access q s.accesses ≡ (not (leaves q) && has_access q old.accesses)) → IsSound now (set_at table d s)
+  pub sound_less : (leaves : ℕ → Bool) → HasLess leaves d sets now → ((q : ℕ) → has_access q s.accesses ≡ (not (leaves q) && has_access q old.accesses)) → TableIsSound now (set_at table d s)
   sound_less leaves less runs =
       sound_from less.runs
       (λ q e within other. less.each q e within ∙ ap (λ b. not (b && leaves q) && is_in sets q e) other)

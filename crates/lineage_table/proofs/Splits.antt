@@ -1,5 +1,5 @@
 -- The words on accesses, where the list is cut at a run's access.
-use Rattle.lineage_table.specs.Accesses.{access_of, before, behind, has_access, is_of, put_before_run, with_change, without}
+use Rattle.lineage_table.specs.Accesses.{access_of, accesses_before, accesses_behind, accesses_without, has_access, is_of, put_before_run, with_change}
 use Rattle.command_rules.specs.Rosters.{run_no}
 use Rattle.lineage_table.specs.declared.accesses.Access.{Access}
 use Rattle.lineage_table.specs.declared.accesses.Status.TheVariants.{Released}
@@ -53,18 +53,18 @@ pub put_at : (r : ℕ) (z : Access) (a : List Access) (x : Access) (b : List Acc
 put_at r z [] x b n o = grind (arith, common_steps)
 put_at r z (y ∷ a) x b n o = grind (arith, common_steps, put_at r z a x b)
 
-pub behind_at : (r : ℕ) (a : List Access) (x : Access) (b : List Access) → has_access r a ≡ false → is_of r x ≡ true → behind r (a ++ x ∷ b) ≡ b
+pub behind_at : (r : ℕ) (a : List Access) (x : Access) (b : List Access) → has_access r a ≡ false → is_of r x ≡ true → accesses_behind r (a ++ x ∷ b) ≡ b
 behind_at r [] x b n o = grind (arith, common_steps)
 behind_at r (y ∷ a) x b n o = grind (arith, common_steps, behind_at r a x b)
 
-pub before_at : (r : ℕ) (a : List Access) (x : Access) (b : List Access) → has_access r a ≡ false → is_of r x ≡ true → before r (a ++ x ∷ b) ≡ a
+pub before_at : (r : ℕ) (a : List Access) (x : Access) (b : List Access) → has_access r a ≡ false → is_of r x ≡ true → accesses_before r (a ++ x ∷ b) ≡ a
 before_at r [] x b n o = grind (arith, common_steps)
 before_at r (y ∷ a) x b n o = grind (arith, common_steps, before_at r a x b)
 
-pub without_none : (r : ℕ) (a : List Access) → has_access r a ≡ false → without r a ≡ a
+pub without_none : (r : ℕ) (a : List Access) → has_access r a ≡ false → accesses_without r a ≡ a
 without_none r [] n = refl
 without_none r (y ∷ a) n = grind (arith, common_steps, without_none r a)
 
-pub without_at : (r : ℕ) (a : List Access) (x : Access) (b : List Access) → has_access r a ≡ false → has_access r b ≡ false → is_of r x ≡ true → without r (a ++ x ∷ b) ≡ a ++ b
+pub without_at : (r : ℕ) (a : List Access) (x : Access) (b : List Access) → has_access r a ≡ false → has_access r b ≡ false → is_of r x ≡ true → accesses_without r (a ++ x ∷ b) ≡ a ++ b
 without_at r [] x b n m o = grind (arith, common_steps, without_none r b)
 without_at r (y ∷ a) x b n m o = grind (arith, common_steps, without_at r a x b)

@@ -4,21 +4,21 @@ use Rattle.home_types.specs.declared.numbers.RunNo.{RunNo}
 use Rattle.lineage_table.proofs.Pairs.{Pairs, pairs_from_all}
 use Rattle.std.proofs.lemmas.Bool.{both_ways, or_left, or_right}
 use Rattle.std.specs.List.{AllByRecursion}
-use Rattle.lineage_table.specs.Accesses.{AreOfTwoRuns, IsDisciplined, has_access, access_of, behind, effective_writer, is_of, standing_value, with_change, without, written_by}
+use Rattle.lineage_table.specs.Accesses.{AreOfTwoRuns, IsDisciplined, has_access, access_of, accesses_behind, effective_writer, is_of, value_standing, with_change, accesses_without, written_by}
 use Rattle.lineage_table.specs.declared.accesses.Access.{Access}
 use Rattle.std.proofs.Common.{◌∙◌, Bool, IsSome, ap, subst, List, None, Option, Some, [], arith, false, refl, sym, true, ℕ, ◌∷◌, ◌≡◌}
 use Rattle.std.proofs.lemmas.Grind.{common_steps}
 use Rattle.std.specs.Prelude.{fold, if◌then◌else◌, is_some, not, option_and_then, option_map, unwrap_or, ◌==◌, ◌≢◌, ◌||◌}
 
 -- where the run's access is passed over
-pub passing_stands : (r c : ℕ) (xs : List Access) → fold (λ value x. if is_of r x then value else unwrap_or x.wrote value) c xs ≡ standing_value c (without r xs)
+pub passing_stands : (r c : ℕ) (xs : List Access) → fold (λ value x. if is_of r x then value else unwrap_or x.wrote value) c xs ≡ value_standing c (accesses_without r xs)
 passing_stands r c [] = refl
 passing_stands r c (x ∷ xs) = at (is_of r x) (λ v. passing_stands r v xs)
   where
     passed : ℕ → ℕ
     passed v = fold (λ value y. if is_of r y then value else unwrap_or y.wrote value) v xs
 
-    at : (b : Bool) → ((v : ℕ) → passed v ≡ standing_value v (without r xs)) → passed (if b then c else unwrap_or x.wrote c) ≡ standing_value c (if not b then (x ∷ without r xs) else without r xs)
+    at : (b : Bool) → ((v : ℕ) → passed v ≡ value_standing v (accesses_without r xs)) → passed (if b then c else unwrap_or x.wrote c) ≡ value_standing c (if not b then (x ∷ accesses_without r xs) else accesses_without r xs)
     at true h = h c
     at false h = h (unwrap_or x.wrote c)
 
@@ -32,26 +32,26 @@ change_folds g r f same b (x ∷ xs) = at (change_folds g r f same (g b x) xs) (
     at h false = h
 
 -- a change that keeps the written value keeps the value that stands
-pub change_stands : (r : ℕ) (f : Access → Access) → ((x : Access) → (f x).wrote ≡ x.wrote) → (c : ℕ) (xs : List Access) → standing_value c (with_change r f xs) ≡ standing_value c xs
+pub change_stands : (r : ℕ) (f : Access → Access) → ((x : Access) → (f x).wrote ≡ x.wrote) → (c : ℕ) (xs : List Access) → value_standing c (with_change r f xs) ≡ value_standing c xs
 change_stands r f same c xs = change_folds (λ value x. unwrap_or x.wrote value) r f (λ value x. ap (λ o. unwrap_or o value) (same x)) c xs
 
 -- the run's value, with what stands behind it, is what stands
-pub behind_stands : (r : ℕ) (v c : ℕ) (xs : List Access) → written_by r xs ≡ Some v → standing_value v (behind r xs) ≡ standing_value c xs
+pub behind_stands : (r : ℕ) (v c : ℕ) (xs : List Access) → written_by r xs ≡ Some v → value_standing v (accesses_behind r xs) ≡ value_standing c xs
 behind_stands r v c [] w = absurd (cc)
 behind_stands r v c (x ∷ xs) w = at (is_of r x) (behind_stands r v (unwrap_or x.wrote c) xs) w
   where
-    at : (b : Bool) → (written_by r xs ≡ Some v → standing_value v (behind r xs) ≡ standing_value (unwrap_or x.wrote c) xs)
-        → option_and_then (λ (a : Access). a.wrote) (if b then Some x else access_of r xs) ≡ Some v → standing_value v (if b then xs else behind r xs) ≡ standing_value c (x ∷ xs)
-    at true h e = ap (λ o. standing_value (unwrap_or o c) xs) (sym e)
+    at : (b : Bool) → (written_by r xs ≡ Some v → value_standing v (accesses_behind r xs) ≡ value_standing (unwrap_or x.wrote c) xs)
+        → option_and_then (λ (a : Access). a.wrote) (if b then Some x else access_of r xs) ≡ Some v → value_standing v (if b then xs else accesses_behind r xs) ≡ value_standing c (x ∷ xs)
+    at true h e = ap (λ o. value_standing (unwrap_or o c) xs) (sym e)
     at false h e = h e
 
 -- what stands when the run's value is committed
-pub settled_stands : (r : ℕ) (c : ℕ) (xs : List Access) → IsSome (written_by r xs) → standing_value (unwrap_or (written_by r xs) c) (behind r xs) ≡ standing_value c xs
+pub settled_stands : (r : ℕ) (c : ℕ) (xs : List Access) → IsSome (written_by r xs) → value_standing (unwrap_or (written_by r xs) c) (accesses_behind r xs) ≡ value_standing c xs
 settled_stands r c xs h = at (written_by r xs) refl h
   where
-    at : (o : Option ℕ) → written_by r xs ≡ o → IsSome o → standing_value (unwrap_or (written_by r xs) c) (behind r xs) ≡ standing_value c xs
+    at : (o : Option ℕ) → written_by r xs ≡ o → IsSome o → value_standing (unwrap_or (written_by r xs) c) (accesses_behind r xs) ≡ value_standing c xs
     at None e h = absurd (grind (arith, common_steps))
-    at (Some v) e h = subst (λ o. standing_value (unwrap_or o c) (behind r xs) ≡ standing_value c xs) (sym e) (behind_stands r v c xs e)
+    at (Some v) e h = subst (λ o. value_standing (unwrap_or o c) (accesses_behind r xs) ≡ value_standing c xs) (sym e) (behind_stands r v c xs e)
 
 -- the run is the one
 abbrev pub is_writer : ℕ → Option RunNo → Bool
@@ -63,7 +63,7 @@ writer_from writer xs = fold (λ w x. if is_some x.wrote then Some x.run else w)
 
 -- what goes by written values alone goes by the list without a run that did not write last as by the list
 without_from : {B : Type 0} (g : B → Access → B) → ((b : B) (x : Access) → x.wrote ≡ None → g b x ≡ b) → ((b c : B) (x : Access) (k : ℕ) → x.wrote ≡ Some k → g b x ≡ g c x)
-    → (r : ℕ) (v u : B) (w : Option RunNo) (xs : List Access) → (is_writer r w ≡ false → u ≡ v) → is_writer r (writer_from w xs) ≡ false → fold g u (without r xs) ≡ fold g v xs
+    → (r : ℕ) (v u : B) (w : Option RunNo) (xs : List Access) → (is_writer r w ≡ false → u ≡ v) → is_writer r (writer_from w xs) ≡ false → fold g u (accesses_without r xs) ≡ fold g v xs
 without_from g quiet over r v u w [] h e = h e
 without_from g quiet over r v u w (x ∷ xs) h e =
     at (is_of r x) refl
@@ -78,15 +78,15 @@ without_from g quiet over r v u w (x ∷ xs) h e =
     stays None i f = quiet u x i ∙ h f ∙ sym (quiet v x i)
     stays (Some k) i f = over u v x k i
 
-    at : (b : Bool) → is_of r x ≡ b → (is_of r x ≡ true → fold g u (without r xs) ≡ fold g (g v x) xs) → fold g (g u x) (without r xs) ≡ fold g (g v x) xs
-        → fold g u (if not b then (x ∷ without r xs) else without r xs) ≡ fold g v (x ∷ xs)
+    at : (b : Bool) → is_of r x ≡ b → (is_of r x ≡ true → fold g u (accesses_without r xs) ≡ fold g (g v x) xs) → fold g (g u x) (accesses_without r xs) ≡ fold g (g v x) xs
+        → fold g u (if not b then (x ∷ accesses_without r xs) else accesses_without r xs) ≡ fold g v (x ∷ xs)
     at true q f k = f q
     at false q f k = k
 
-pub without_stands : (r c : ℕ) (xs : List Access) → is_writer r (effective_writer xs) ≡ false → standing_value c (without r xs) ≡ standing_value c xs
+pub without_stands : (r c : ℕ) (xs : List Access) → is_writer r (effective_writer xs) ≡ false → value_standing c (accesses_without r xs) ≡ value_standing c xs
 without_stands r c xs e = without_from (λ value x. unwrap_or x.wrote value) (λ b x i. ap (λ o. unwrap_or o b) i) (λ b d x k i. ap (λ o. unwrap_or o b) i ∙ sym (ap (λ o. unwrap_or o d) i)) r c c None xs (λ f. refl) e
 
-pub without_writer : (r : ℕ) (xs : List Access) → is_writer r (effective_writer xs) ≡ false → effective_writer (without r xs) ≡ effective_writer xs
+pub without_writer : (r : ℕ) (xs : List Access) → is_writer r (effective_writer xs) ≡ false → effective_writer (accesses_without r xs) ≡ effective_writer xs
 without_writer r xs e = without_from (λ w x. if is_some x.wrote then Some x.run else w) (λ b x i. ap (λ o. if is_some o then Some x.run else b) i) (λ b d x k i. ap (λ o. if is_some o then Some x.run else b) i ∙ sym (ap (λ o. if is_some o then Some x.run else d) i)) r None None None xs (λ f. refl) e
 
 pub not_writer : (r : RunNo) (w : Option RunNo) → w ≢ Some r → is_writer r.0 w ≡ false
@@ -110,12 +110,12 @@ some_wrote w (x ∷ xs) e = at x.wrote (some_wrote w xs) (some_wrote x.run xs) e
     at (Some k) f g e = g e
 
 -- where no run wrote, the committed value stands
-pub committed_stands : (c : ℕ) (xs : List Access) → effective_writer xs ≡ None → standing_value c xs ≡ c
+pub committed_stands : (c : ℕ) (xs : List Access) → effective_writer xs ≡ None → value_standing c xs ≡ c
 committed_stands c [] e = refl
 committed_stands c (x ∷ xs) e = at x.wrote (committed_stands c xs) (some_wrote x.run xs) e
   where
-    at : (o : Option ℕ) → (effective_writer xs ≡ None → standing_value c xs ≡ c) → (writer_from (Some x.run) xs ≡ None → ⊥)
-        → writer_from (if is_some o then Some x.run else None) xs ≡ None → standing_value (unwrap_or o c) xs ≡ c
+    at : (o : Option ℕ) → (effective_writer xs ≡ None → value_standing c xs ≡ c) → (writer_from (Some x.run) xs ≡ None → ⊥)
+        → writer_from (if is_some o then Some x.run else None) xs ≡ None → value_standing (unwrap_or o c) xs ≡ c
     at None f g e = f e
     at (Some k) f g e = absurd (g e)
 
@@ -158,7 +158,7 @@ none_behind x (y ∷ xs) h = one x y (has_access x.run.0 xs) h.0 (none_behind x 
     one x y q h n = grind (arith, common_steps)
 
 -- the effective writer's own value is the one that stands
-writer_stands : (c : ℕ) (q : RunNo) (xs : List Access) → Pairs AreOfTwoRuns xs → effective_writer xs ≡ Some q → written_by q.0 xs ≡ Some (standing_value c xs)
+writer_stands : (c : ℕ) (q : RunNo) (xs : List Access) → Pairs AreOfTwoRuns xs → effective_writer xs ≡ Some q → written_by q.0 xs ≡ Some (value_standing c xs)
 unfolding Pairs
 writer_stands c q [] k e = absurd (cc)
 writer_stands c q (x ∷ xs) k e = at (effective_writer xs) refl (writer_stands (unwrap_or x.wrote c) q xs k.1)
@@ -188,7 +188,7 @@ writer_stands c q (x ∷ xs) k e = at (effective_writer xs) refl (writer_stands 
             same f = grind (arith, common_steps)
         split false f = f
 
-    at : (w : Option RunNo) → effective_writer xs ≡ w → (effective_writer xs ≡ Some q → written_by q.0 xs ≡ Some (standing_value (unwrap_or x.wrote c) xs)) → written_by q.0 (x ∷ xs) ≡ Some (standing_value (unwrap_or x.wrote c) xs)
+    at : (w : Option RunNo) → effective_writer xs ≡ w → (effective_writer xs ≡ Some q → written_by q.0 xs ≡ Some (value_standing (unwrap_or x.wrote c) xs)) → written_by q.0 (x ∷ xs) ≡ Some (value_standing (unwrap_or x.wrote c) xs)
     at None h f =
         let o = own x.wrote (sym (writer_earlier first xs h) ∙ e) in
         here (is_of q.0 x) o.0 ∙ o.1 ∙ ap (λ v. Some v) (sym (committed_stands (unwrap_or x.wrote c) xs h))
@@ -196,5 +196,5 @@ writer_stands c q (x ∷ xs) k e = at (effective_writer xs) refl (writer_stands 
         let g : effective_writer xs ≡ Some q = h ∙ sym (writer_later first p xs h) ∙ e in
         later (is_of q.0 x) (other (has_written q xs g)) ∙ f g
 
-pub effective_stands : (c : ℕ) (q : RunNo) (xs : List Access) → IsDisciplined xs → effective_writer xs ≡ Some q → written_by q.0 xs ≡ Some (standing_value c xs)
+pub effective_stands : (c : ℕ) (q : RunNo) (xs : List Access) → IsDisciplined xs → effective_writer xs ≡ Some q → written_by q.0 xs ≡ Some (value_standing c xs)
 effective_stands c q xs k e = writer_stands c q xs (pairs_from_all AreOfTwoRuns xs k.one_each) e

@@ -7,7 +7,7 @@ use Rattle.lineage_table.proofs.Splits.{Cut, any_access, behind_at, change_at, c
 use Rattle.lineage_table.proofs.Standing.{change_folds, committed_stands, effective_stands, has_written, is_writer, without_writer, writer_earlier, writer_from, writer_later}
 use Rattle.lineage_table.proofs.Steps.{written_at}
 use Rattle.lineage_table.proofs.Undoing.{undone_writer}
-use Rattle.lineage_table.specs.Accesses.{AreOfTwoRuns, IsDisciplined, behind, effective_writer, has_access, is_of, place_before, put_before, put_before_run, standing_value, with_change, written_by}
+use Rattle.lineage_table.specs.Accesses.{AreOfTwoRuns, IsDisciplined, accesses_behind, effective_writer, has_access, is_of, place_before, put_access_before, put_before_run, value_standing, with_change, written_by}
 use Rattle.lineage_table.specs.KeptWriters.{IsSoundLineage}
 use Rattle.lineage_table.specs.Lineages.{LineageState}
 use Rattle.lineage_table.specs.declared.accesses.Access.{Access}
@@ -24,7 +24,7 @@ pub change_writer : (r : ℕ) (f : Access → Access) → ((x : Access) → (f x
 change_writer r f wrote run xs = change_folds (λ w x. if is_some x.wrote then Some x.run else w) r f (λ w x k. if is_some (wrote x k) then Some (run x k) else w) None xs
 
 -- an access that has written nothing is put in
-pub put_writer : (before : Option RunNo) (y : Access) (xs : List Access) → y.wrote ≡ None → effective_writer (put_before before y xs) ≡ effective_writer xs
+pub put_writer : (before : Option RunNo) (y : Access) (xs : List Access) → y.wrote ≡ None → effective_writer (put_access_before before y xs) ≡ effective_writer xs
 put_writer None y xs e = fold-append (λ w x. if is_some x.wrote then Some x.run else w) None xs (y ∷ []) ∙ ap (λ o. if is_some o then Some y.run else effective_writer xs) e
 put_writer (Some r) y xs e = along None xs
   where
@@ -86,14 +86,14 @@ written_writer r i v wrote value run xs disciplined place only = ap effective_wr
 
 -- what stands behind a run that wrote: the same effective writer, or none where it was the run
 pub behind_writer : (r i v : ℕ) (xs : List Access) → IsDisciplined xs → position (is_of r) xs ≡ Some i → written_by r xs ≡ Some v
-    → effective_writer (behind r xs) ≡ (if is_writer r (effective_writer xs) then None else effective_writer xs)
+    → effective_writer (accesses_behind r xs) ≡ (if is_writer r (effective_writer xs) then None else effective_writer xs)
 behind_writer r i v xs disciplined place wrote = ap effective_writer left ∙ at (effective_writer c.rest) refl
   where
     c : Cut r i xs
     c = cut_at r i xs any_access place
 
-    left : behind r xs ≡ c.rest
-    left = ap (behind r) c.list ∙ behind_at r c.front c.access c.rest c.none c.own
+    left : accesses_behind r xs ≡ c.rest
+    left = ap (accesses_behind r) c.list ∙ behind_at r c.front c.access c.rest c.none c.own
 
     was : effective_writer xs ≡ writer_from (Some c.access.run) c.rest
     was = ap effective_writer c.list ∙ writer_at c.front c.access c.rest v (sym (ap (written_by r) c.list ∙ written_at r c.front c.access c.rest c.none c.own) ∙ wrote)
@@ -133,7 +133,7 @@ only_own r (Some p) b e t q h = ap run_no (grind (arith, common_steps))
 
 module _ (s now : LineageState) (w : Option RunNo) (e : s ≡ now) (sound : IsSoundLineage s.accesses w) where
   -- a scheduled access that has written nothing is put in
-  pub keeps_scheduled : (before : Option RunNo) (y : Access) (items : List Access) → items ≡ put_before before y s.accesses → y.wrote ≡ None → w ≡ effective_writer items
+  pub keeps_scheduled : (before : Option RunNo) (y : Access) (items : List Access) → items ≡ put_access_before before y s.accesses → y.wrote ≡ None → w ≡ effective_writer items
   keeps_scheduled before y items is none = sound.last ∙ sym (ap effective_writer is ∙ put_writer before y s.accesses none)
 
   -- an access is acquired or released
@@ -180,13 +180,13 @@ module _ (s now : LineageState) (w : Option RunNo) (e : s ≡ now) (sound : IsSo
   pub has_stood : (q : RunNo) → w ≡ Some q → has_access q.0 now.accesses ≡ true
   has_stood q h = ap (λ (t : LineageState). has_access q.0 t.accesses) (sym e) ∙ has_written q s.accesses (sym sound.last ∙ h)
 
-  pub stood_there : (q : RunNo) (i : ℕ) (x : Access) → w ≡ Some q → position (is_of q.0) now.accesses ≡ Some i → x ≡ get_or s.accesses i x → x.wrote ≡ Some (standing_value now.committed now.accesses)
+  pub stood_there : (q : RunNo) (i : ℕ) (x : Access) → w ≡ Some q → position (is_of q.0) now.accesses ≡ Some i → x ≡ get_or s.accesses i x → x.wrote ≡ Some (value_standing now.committed now.accesses)
   stood_there q i x h place is =
       ap (option_and_then (λ (a : Access). a.wrote)) (read_there s now q.0 i x e place is)
       ∙ ap (λ (t : LineageState). written_by q.0 t.accesses) (sym e)
       ∙ effective_stands s.committed q s.accesses sound.turns (sym sound.last ∙ h)
-      ∙ ap (λ (t : LineageState). Some (standing_value t.committed t.accesses)) e
+      ∙ ap (λ (t : LineageState). Some (value_standing t.committed t.accesses)) e
 
   -- .. else the committed one
-  pub stood_committed : w ≡ None → s.committed ≡ standing_value now.committed now.accesses
-  stood_committed h = sym (committed_stands s.committed s.accesses (sym sound.last ∙ h)) ∙ ap (λ (t : LineageState). standing_value t.committed t.accesses) e
+  pub stood_committed : w ≡ None → s.committed ≡ value_standing now.committed now.accesses
+  stood_committed h = sym (committed_stands s.committed s.accesses (sym sound.last ∙ h)) ∙ ap (λ (t : LineageState). value_standing t.committed t.accesses) e

@@ -52,27 +52,27 @@ abbrev pub written_by : RunId → List Access → Option ℕ
 written_by r accesses = option_and_then (λ x. x.wrote) (access_of r accesses)
 
 -- the accesses before that of the run
-abbrev pub before : RunId → List Access → List Access
-before r [] = []
-before r (x ∷ xs) = if is_of r x then [] else (x ∷ before r xs)
+abbrev pub accesses_before : RunId → List Access → List Access
+accesses_before r [] = []
+accesses_before r (x ∷ xs) = if is_of r x then [] else (x ∷ accesses_before r xs)
 
 -- the accesses behind that of the run
-abbrev pub behind : RunId → List Access → List Access
-behind r [] = []
-behind r (x ∷ xs) = if is_of r x then xs else behind r xs
+abbrev pub accesses_behind : RunId → List Access → List Access
+accesses_behind r [] = []
+accesses_behind r (x ∷ xs) = if is_of r x then xs else accesses_behind r xs
 
 -- the accesses behind that of this run, all where no run is named
 abbrev pub behind_run : Option RunNo → List Access → List Access
 behind_run None accesses = accesses
-behind_run (Some r) accesses = behind r.0 accesses
+behind_run (Some r) accesses = accesses_behind r.0 accesses
 
 -- the run of the access immediately behind that of the run
 abbrev pub run_behind : RunId → List Access → Option RunNo
-run_behind r accesses = option_map (λ x. x.run) (slice_get (behind r accesses) 0)
+run_behind r accesses = option_map (λ x. x.run) (slice_get (accesses_behind r accesses) 0)
 
 -- the accesses of the other runs
-abbrev pub without : RunId → List Access → List Access
-without r accesses = filter (λ x. not (is_of r x)) accesses
+abbrev pub accesses_without : RunId → List Access → List Access
+accesses_without r accesses = filter (λ x. not (is_of r x)) accesses
 
 -- the access of the run is changed
 abbrev pub with_change : RunId → (Access → Access) → List Access → List Access
@@ -85,9 +85,9 @@ put_before_run r access [] = access ∷ []
 put_before_run r access (x ∷ xs) = if is_of r x then (access ∷ x ∷ xs) else (x ∷ put_before_run r access xs)
 
 -- the access stands immediately before that of this run, last where no run is named
-abbrev pub put_before : Option RunNo → Access → List Access → List Access
-put_before None access accesses = accesses ++ access ∷ []
-put_before (Some r) access accesses = put_before_run r.0 access accesses
+abbrev pub put_access_before : Option RunNo → Access → List Access → List Access
+put_access_before None access accesses = accesses ++ access ∷ []
+put_access_before (Some r) access accesses = put_before_run r.0 access accesses
 
 -- the place, counted from 0, where it will stand
 abbrev pub place_before : Option RunNo → List Access → Option ℕ
@@ -96,7 +96,7 @@ place_before (Some r) accesses = position (is_of r.0) accesses
 
 -- the run of the first access before that of r of which the test holds
 abbrev pub first_before : (Access → Bool) → RunId → List Access → Option RunNo
-first_before test r accesses = option_map (λ x. x.run) (find test (before r accesses))
+first_before test r accesses = option_map (λ x. x.run) (find test (accesses_before r accesses))
 
 -- it is found by a test that gives these answers
 abbrev pub IsFirstBefore : (Access → Bool → Type 0) → RunId → List Access → Option RunNo → Type 0
@@ -105,8 +105,8 @@ IsFirstBefore answers r accesses found = (test : Access → Bool) → ((x : Acce
 -- What was written
 
 -- the value that stands: the last one written, else the committed one
-abbrev pub standing_value : ℕ → List Access → ℕ
-standing_value committed accesses = fold (λ value x. unwrap_or x.wrote value) committed accesses
+abbrev pub value_standing : ℕ → List Access → ℕ
+value_standing committed accesses = fold (λ value x. unwrap_or x.wrote value) committed accesses
 
 -- the run of the last access that has a written value
 abbrev pub effective_writer : List Access → Option RunNo

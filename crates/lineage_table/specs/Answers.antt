@@ -16,8 +16,8 @@ MayAnswer r accesses = (status_of r accesses ≡ Some Acquired) ⊎ ((status_of 
 abbrev pub answered_access : View → Option ℕ → Bool → Access → Access
 answered_access view wrote last x = record x { status = if last then Released else Acquired; view = if is_scheduled x.status then Some view else x.view; wrote = option_or wrote x.wrote }
 
-abbrev pub answered : RunId → View → Option ℕ → Bool → LineageState → LineageState
-answered r view wrote last s = record s { accesses = with_change r (answered_access view wrote last) s.accesses }
+abbrev pub lineage_answered : RunId → View → Option ℕ → Bool → LineageState → LineageState
+lineage_answered r view wrote last s = record s { accesses = with_change r (answered_access view wrote last) s.accesses }
 
 abbrev pub answered_if : Bool → RunId → View → Option ℕ → Bool → LineageState → LineageState
-answered_if noted r view wrote last s = if noted then answered r view wrote last s else s
+answered_if noted r view wrote last s = if noted then lineage_answered r view wrote last s else s

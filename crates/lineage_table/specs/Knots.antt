@@ -7,7 +7,7 @@ use Rattle.lineage_table.specs.declared.accesses.Access.{Access}
 use Rattle.std.specs.Prelude.{List, None, Option, Some, false, true, ◌++◌, ◌∷◌, ◌≡◌}
 
 -- the pairs are cut at the first access of the run, which has this knot
-pub record CutAt (r : RunId) (k : Knot) (ps : List (Knot × Access)) : Type 0 where
+pub record CutAtKnot (r : RunId) (k : Knot) (ps : List (Knot × Access)) : Type 0 where
   pub front : List (Knot × Access)
   pub access : Access
   pub rest : List (Knot × Access)
@@ -18,4 +18,4 @@ pub record CutAt (r : RunId) (k : Knot) (ps : List (Knot × Access)) : Type 0 wh
 -- it is cut there, or the run has no access
 abbrev pub IsKnotOf : RunId → List (Knot × Access) → Option Knot → Type 0
 IsKnotOf r ps None = has_access r (values_of ps) ≡ false
-IsKnotOf r ps (Some k) = CutAt r k ps
+IsKnotOf r ps (Some k) = CutAtKnot r k ps

@@ -6,7 +6,7 @@ use Rattle.home_types.specs.Numbers.{DeviceId, RunId}
 use Rattle.home_types.specs.declared.commands.View.{View}
 use Rattle.home_types.specs.declared.numbers.RunNo.{RunNo}
 use Rattle.home_types.specs.declared.worlds.Stand.{Stand}
-use Rattle.lineage_table.specs.Accesses.{IsDisciplined, access_of, behind, put_before, standing_value, with_change, without, written_by}
+use Rattle.lineage_table.specs.Accesses.{IsDisciplined, access_of, accesses_behind, accesses_without, put_access_before, value_standing, with_change, written_by}
 use Rattle.lineage_table.specs.declared.accesses.Access.{Access}
 use Rattle.lineage_table.specs.declared.accesses.Status.TheVariants.{Acquired, Released}
 use Rattle.std.specs.List.{list_any}
@@ -23,15 +23,15 @@ pub record LineageState : Type 0 where
 
 -- an access is put into its place, and takes room
 abbrev pub scheduled : Option RunNo → Access → LineageState → LineageState
-scheduled before access s = record s { accesses = put_before before access s.accesses; room = s.room - 1 }
+scheduled before access s = record s { accesses = put_access_before before access s.accesses; room = s.room - 1 }
 
 -- the run has its first answer on the device, and sees it so from then on
 abbrev pub acquired : RunId → View → LineageState → LineageState
 acquired r view s = record s { accesses = with_change r (λ x. record x { status = Acquired; view = Some view }) s.accesses }
 
 -- the run wrote the value
-abbrev pub written : RunId → ℕ → LineageState → LineageState
-written r v s = record s { accesses = with_change r (λ x. record x { wrote = Some v }) s.accesses }
+abbrev pub with_value_written : RunId → ℕ → LineageState → LineageState
+with_value_written r v s = record s { accesses = with_change r (λ x. record x { wrote = Some v }) s.accesses }
 
 -- the run is done with the device
 abbrev pub released : RunId → LineageState → LineageState
@@ -47,11 +47,11 @@ with_left accesses s = record s { accesses = accesses; room = s.room + (length s
 
 -- the access of the run is gone
 abbrev pub removed : RunId → LineageState → LineageState
-removed r s = with_left (without r s.accesses) s
+removed r s = with_left (accesses_without r s.accesses) s
 
 -- the run's value is committed: its access and those before it are gone
 abbrev pub settled : RunId → LineageState → LineageState
-settled r s = record (with_left (behind r s.accesses) s) { committed = unwrap_or (written_by r s.accesses) s.committed }
+settled r s = record (with_left (accesses_behind r s.accesses) s) { committed = unwrap_or (written_by r s.accesses) s.committed }
 
 -- where the run wrote the device, its value is committed, and its access and those before it leave; else its access alone leaves
 abbrev pub without_access : RunId → Access → LineageState → LineageState
@@ -102,17 +102,17 @@ abbrev pub runs_on : List Run → DeviceId → ℕ
 runs_on runs d = count_by (λ run. list_any (is_on d) run.commands) runs
 
 -- a lineage as a window opens: nothing but what the device has, with room for so many accesses
-pub record IsNew (stand : Stand) (runs : ℕ) (s : LineageState) : Type 0 where
+pub record IsNewLineage (stand : Stand) (runs : ℕ) (s : LineageState) : Type 0 where
   pub committed : s.committed ≡ stand.value
   pub up : s.up ≡ stand.up
   pub none : s.accesses ≡ []
   pub room : runs ≤ s.room
 
 -- each device of the home has a new lineage, with room for the runs that have it in their footprint
-pub record IsOpened (runs : List Run) (home : List Stand) (table : List LineageState) : Type 0 where
+pub record TableIsOpened (runs : List Run) (home : List Stand) (table : List LineageState) : Type 0 where
   pub devices : length table ≡ length home
-  pub each : (d : DeviceId) → d < length home → IsNew (stand_at home d) (runs_on runs d) (lineage_at table d)
+  pub each : (d : DeviceId) → d < length home → IsNewLineage (stand_at home d) (runs_on runs d) (lineage_at table d)
 
 -- the value that stands on the device
-abbrev pub stand_of : LineageState → ℕ
-stand_of s = standing_value s.committed s.accesses
+abbrev pub stand_of_lineage : LineageState → ℕ
+stand_of_lineage s = value_standing s.committed s.accesses

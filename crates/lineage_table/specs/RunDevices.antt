@@ -15,7 +15,7 @@ abbrev pub AreOfAccesses : List Devices → List LineageState → Type 0
 AreOfAccesses sets table = (r : RunId) (d : DeviceId) → r < length sets → is_in sets r d ≡ has_access r (accesses_at table d)
 
 -- a table, with the devices of its runs
-pub record IsSound (sets : List Devices) (lineages : List LineageState) : Type 0 where
+pub record TableIsSound (sets : List Devices) (lineages : List LineageState) : Type 0 where
   pub table : IsTable lineages
   pub devices : AreOfAccesses sets lineages
 

@@ -3,11 +3,11 @@ ghost use Rattle.std.specs.Prelude.{◌≡◌, ◌+◌, ◌<◌, [], false, IfOk
 ghost use Rattle.chain_arena.specs.Chains.{values_of};
 ghost use Rattle.std.specs.Option.{ForSome};
 ghost use Rattle.lineage_table.specs.declared.accesses.Access.{Access};
-ghost use Rattle.lineage_table.specs.Accesses.{IsDisciplined, IsFirstBefore, access_of, before, effective_writer, has_access, put_before, run_behind, some_acquired, some_scheduled, standing_value, status_of, without, written_by};
+ghost use Rattle.lineage_table.specs.Accesses.{IsDisciplined, IsFirstBefore, access_of, accesses_before, accesses_without, effective_writer, has_access, put_access_before, run_behind, some_acquired, some_scheduled, status_of, value_standing, written_by};
 ghost use Rattle.lineage_table.specs.Answers.{MayAnswer, answered_access, answered_if};
 ghost use Rattle.home_types.specs.declared.numbers.RunNo.{RunNo};
-ghost use Rattle.lineage_table.specs.Knots.{CutAt, IsKnotOf};
-ghost use Rattle.lineage_table.specs.Lineages.{IsNew, acquired, counted_up, released, removed, scheduled, settled, undone, with_committed, written};
+ghost use Rattle.lineage_table.specs.Knots.{CutAtKnot, IsKnotOf};
+ghost use Rattle.lineage_table.specs.Lineages.{IsNewLineage, acquired, counted_up, released, removed, scheduled, settled, undone, with_committed, with_value_written};
 
 use crate::accesses::{Access, Status};
 use chain_arena::{Chain, Knot};
@@ -42,7 +42,7 @@ impl Model for Lineage {
 impl Lineage {
     /// Opens the lineage of a device that stands so, with room for `runs` accesses.
     pub fn open(alloc: Global, stand: Stand, runs: usize) -> Result<Lineage, NoMemory>
-        ensures { IfOk result (IsNew stand runs) }
+        ensures { IfOk result (IsNewLineage stand runs) }
     {
         if runs > u32::MAX as usize {
             return Err(NoMemory);
@@ -74,7 +74,7 @@ impl Lineage {
     pub fn acquire(&mut self, r: RunNo, view: View)
         requires scheduled { status_of r.0 self.old.accesses ≡ Some Status.Scheduled }
         requires none_acquired { some_acquired self.old.accesses ≡ false }
-        requires first { some_scheduled (before r.0 self.old.accesses) ≡ false }
+        requires first { some_scheduled (accesses_before r.0 self.old.accesses) ≡ false }
         ensures { self.new ≡ acquired r.0 view self.old }
     {
         self.accesses.kept();
@@ -87,7 +87,7 @@ impl Lineage {
     /// The run wrote the value.
     pub fn note_write(&mut self, r: RunNo, v: Value)
         requires acquired { status_of r.0 self.old.accesses ≡ Some Status.Acquired }
-        ensures { self.new ≡ written r.0 v self.old }
+        ensures { self.new ≡ with_value_written r.0 v self.old }
     {
         self.accesses.kept();
         let k = knot(&self.accesses, r);
@@ -101,7 +101,7 @@ impl Lineage {
     /// Answers false, and changes nothing, where a scheduled access stands before its own.
     pub fn note(&mut self, r: RunNo, view: View, wrote: Option<Value>, is_last: bool) -> bool
         requires { MayAnswer r.0 self.old.accesses }
-        ensures turn { result ≡ not (some_scheduled (before r.0 self.old.accesses)) }
+        ensures turn { result ≡ not (some_scheduled (accesses_before r.0 self.old.accesses)) }
         ensures noted { self.new ≡ answered_if result r.0 view wrote is_last self.old }
     {
         self.accesses.kept();
@@ -254,7 +254,7 @@ impl Lineage {
 
     /// The value that stands: the last one written, else the committed one.
     pub fn stand(&self) -> Value
-        ensures { result ≡ standing_value self.now.committed self.now.accesses }
+        ensures { result ≡ value_standing self.now.committed self.now.accesses }
     {
         match self.writer {
             Some(r) => {
@@ -268,7 +268,7 @@ impl Lineage {
 
     /// The value that stands without the run's access: the last one that another run wrote, else the committed one.
     pub fn stand_without(&self, r: RunNo) -> Value
-        ensures { result ≡ standing_value self.now.committed (without r.0 self.now.accesses) }
+        ensures { result ≡ value_standing self.now.committed (accesses_without r.0 self.now.accesses) }
     {
         self.accesses
             .iter()
@@ -293,7 +293,7 @@ impl Lineage {
 fn put_in(accesses: &mut Chain<Access>, before: Option<RunNo>, access: Access)
     requires room { 0 < accesses.old.spare }
     requires before { ForSome before (λ r. IsTrue (has_access r.0 (values_of accesses.old.pairs))) }
-    ensures items { values_of accesses.new.pairs ≡ put_before before access (values_of accesses.old.pairs) }
+    ensures items { values_of accesses.new.pairs ≡ put_access_before before access (values_of accesses.old.pairs) }
     ensures spare { accesses.new.spare + 1 ≡ accesses.old.spare }
 {
     accesses.kept();
@@ -311,7 +311,7 @@ fn put_in(accesses: &mut Chain<Access>, before: Option<RunNo>, access: Access)
 /// The knot of the run's access. It has one.
 fn knot(accesses: &Chain<Access>, r: RunNo) -> Knot
     requires { IsTrue (has_access r.0 (values_of accesses.now.pairs)) }
-    ensures { CutAt r.0 result accesses.now.pairs }
+    ensures { CutAtKnot r.0 result accesses.now.pairs }
 {
     knot_of(accesses, r).unwrap()
 }
@@ -331,8 +331,8 @@ pub(crate) fn knot_of(accesses: &Chain<Access>, r: RunNo) -> Option<Knot>
 /// The knot of the run's access, and whether a scheduled access stands before it. The run has one.
 fn knot_in_turn(accesses: &Chain<Access>, r: RunNo) -> (Knot, bool)
     requires { IsTrue (has_access r.0 (values_of accesses.now.pairs)) }
-    ensures knot { CutAt r.0 result.0 accesses.now.pairs }
-    ensures waits { result.1 ≡ some_scheduled (before r.0 (values_of accesses.now.pairs)) }
+    ensures knot { CutAtKnot r.0 result.0 accesses.now.pairs }
+    ensures waits { result.1 ≡ some_scheduled (accesses_before r.0 (values_of accesses.now.pairs)) }
 {
     let mut waits = false;
     'accesses: for (k, access) in accesses.iter() {

@@ -5,12 +5,12 @@ ghost use Rattle.std.specs.FinSet as set;
 ghost use Rattle.std.specs.Option.{ForSome};
 ghost use Rattle.chain_arena.specs.Chains.{values_of};
 ghost use Rattle.command_rules.specs.Rosters.{is_on, runs_of};
-ghost use Rattle.lineage_table.specs.Accesses.{IsDisciplined, IsFirstBefore, access_of, before, effective_writer, has_access, run_behind, some_acquired, some_scheduled, standing_value, status_of, without, written_by};
+ghost use Rattle.lineage_table.specs.Accesses.{IsDisciplined, IsFirstBefore, access_of, accesses_before, accesses_without, effective_writer, has_access, run_behind, some_acquired, some_scheduled, status_of, value_standing, written_by};
 ghost use Rattle.home_types.specs.DeviceSets.{IsFirstFrom};
 ghost use Rattle.home_types.specs.Limits.{most_devices};
 ghost use Rattle.lineage_table.specs.Answers.{MayAnswer, answered_if};
 ghost use Rattle.lineage_table.specs.RunDevices.{HasLess};
-ghost use Rattle.lineage_table.specs.Lineages.{IsOpened, accesses_at, acquired, counted_up, lineage_at, released, removed, runs_on, scheduled, settled, undone, with_committed, with_lineage, written};
+ghost use Rattle.lineage_table.specs.Lineages.{TableIsOpened, accesses_at, acquired, counted_up, lineage_at, released, removed, runs_on, scheduled, settled, undone, with_committed, with_lineage, with_value_written};
 
 use crate::accesses::{Access, Status};
 use crate::lineages::Lineage;
@@ -36,13 +36,13 @@ pub struct Table {
 impl Model for Table {
     ghost use Rattle.std.specs.Prelude.{List};
     ghost use Rattle.lineage_table.specs.Lineages.{LineageState};
-    ghost use Rattle.lineage_table.specs.RunDevices.{IsSound};
+    ghost use Rattle.lineage_table.specs.RunDevices.{TableIsSound};
 
     ghost Value = { List LineageState };
 
     ghost view = { λ t. t.lineages.items };
 
-    ghost invariant = { λ t. IsSound t.devices t.lineages.items };
+    ghost invariant = { λ t. TableIsSound t.devices t.lineages.items };
 }
 
 impl Table {
@@ -51,7 +51,7 @@ impl Table {
     /// Answers `NoMemory` where there is none to be had.
     pub fn open(alloc: Global, world: &World, roster: &Roster) -> Result<Table, NoMemory>
         requires few { length world.now.devices.items ≤ most_devices }
-        ensures { IfOk result (IsOpened (runs_of roster.now) world.now.devices.items) }
+        ensures { IfOk result (TableIsOpened (runs_of roster.now) world.now.devices.items) }
     {
         let stands = world.devices.as_slice();
         let Ok(mut lineages) = Vec::with_capacity(alloc, stands.len()) else {
@@ -89,7 +89,7 @@ impl Table {
         requires device { d.0 < length self.old }
         requires scheduled { status_of r.0 (accesses_at self.old d.0) ≡ Some Status.Scheduled }
         requires none_acquired { some_acquired (accesses_at self.old d.0) ≡ false }
-        requires first { some_scheduled (before r.0 (accesses_at self.old d.0)) ≡ false }
+        requires first { some_scheduled (accesses_before r.0 (accesses_at self.old d.0)) ≡ false }
         ensures { self.new ≡ with_lineage self.old d.0 (acquired r.0 view) }
     {
         self.lineages[d.0 as usize].acquire(r, view);
@@ -100,7 +100,7 @@ impl Table {
     pub fn note_write(&mut self, d: DeviceNo, r: RunNo, v: Value)
         requires device { d.0 < length self.old }
         requires acquired { status_of r.0 (accesses_at self.old d.0) ≡ Some Status.Acquired }
-        ensures { self.new ≡ with_lineage self.old d.0 (written r.0 v) }
+        ensures { self.new ≡ with_lineage self.old d.0 (with_value_written r.0 v) }
     {
         self.lineages[d.0 as usize].note_write(r, v);
         self.lineages[d.0 as usize].kept();
@@ -121,7 +121,7 @@ impl Table {
     ) -> bool
         requires device { d.0 < length self.old }
         requires may { MayAnswer r.0 (accesses_at self.old d.0) }
-        ensures turn { result ≡ not (some_scheduled (before r.0 (accesses_at self.old d.0))) }
+        ensures turn { result ≡ not (some_scheduled (accesses_before r.0 (accesses_at self.old d.0))) }
         ensures noted { self.new ≡ with_lineage self.old d.0 (answered_if result r.0 view wrote is_last) }
     {
         let noted = self.lineages[d.0 as usize].note(r, view, wrote, is_last);
@@ -273,7 +273,7 @@ impl Table {
     /// The value that stands on the device: the last one written, else the committed one.
     pub fn stand(&self, d: DeviceNo) -> Value
         requires { d.0 < length self.now }
-        ensures { result ≡ standing_value (lineage_at self.now d.0).committed (accesses_at self.now d.0) }
+        ensures { result ≡ value_standing (lineage_at self.now d.0).committed (accesses_at self.now d.0) }
     {
         self.lineages[d.0 as usize].stand()
     }
@@ -281,7 +281,7 @@ impl Table {
     /// The value that would stand on the device without the run's access: what an undo of the run drives.
     pub fn stand_without(&self, d: DeviceNo, r: RunNo) -> Value
         requires { d.0 < length self.now }
-        ensures { result ≡ standing_value (lineage_at self.now d.0).committed (without r.0 (accesses_at self.now d.0)) }
+        ensures { result ≡ value_standing (lineage_at self.now d.0).committed (accesses_without r.0 (accesses_at self.now d.0)) }
     {
         self.lineages[d.0 as usize].stand_without(r)
     }
@@ -345,7 +345,7 @@ impl Table {
 fn take_out_through(devices: &mut RunDevices, accesses: &Chain<Access>, d: DeviceNo, r: RunNo)
     requires device { d.0 < most_devices }
     requires access { IsTrue (has_access r.0 (values_of accesses.now.pairs)) }
-    ensures { HasLess (λ q. has_access q (before r.0 (values_of accesses.now.pairs)) || (q == r.0)) d.0 devices.old devices.new }
+    ensures { HasLess (λ q. has_access q (accesses_before r.0 (values_of accesses.now.pairs)) || (q == r.0)) d.0 devices.old devices.new }
 {
     'leaving: for (_, access) in accesses.iter() {
         devices.remove(access.run, d);

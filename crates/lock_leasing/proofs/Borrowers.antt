@@ -11,7 +11,7 @@ use Rattle.home_types.specs.declared.commands.Command.{Command}
 use Rattle.home_types.specs.declared.numbers.RunNo.{RunNo}
 use Rattle.lineage_table.proofs.RunAccesses.{found_has}
 use Rattle.lineage_table.proofs.RunSets.{has_homed}
-use Rattle.lineage_table.specs.Accesses.{access_of, before, first_before, has_access, is_released}
+use Rattle.lineage_table.specs.Accesses.{access_of, accesses_before, first_before, has_access, is_released}
 use Rattle.lineage_table.specs.Lineages.{LineageState, accesses_at}
 use Rattle.lineage_table.specs.declared.accesses.Access.{Access}
 use Rattle.lock_leasing.proofs.Facts.{Facts, facts_of}
@@ -108,16 +108,16 @@ pub found_access : (test : Access → Bool) (r : ℕ) (xs : List Access) (q : Ru
 found_access test r [] q found = absurd (cc)
 found_access test r (x ∷ xs) q found = at (x.run.0 == r) (test x) refl (found_access test r xs q) found
   where
-    at : (a b : Bool) → test x ≡ b → (first_before test r xs ≡ Some q → has_access q.0 xs ≡ true) → option_map (λ y. y.run) (find test (cond a [] (x ∷ before r xs))) ≡ Some q → ((x.run.0 == q.0) || has_access q.0 xs) ≡ true
+    at : (a b : Bool) → test x ≡ b → (first_before test r xs ≡ Some q → has_access q.0 xs ≡ true) → option_map (λ y. y.run) (find test (cond a [] (x ∷ accesses_before r xs))) ≡ Some q → ((x.run.0 == q.0) || has_access q.0 xs) ≡ true
     at true b e behind found = absurd (cc)
     at false true e behind found =
-        let head : option_map (λ y. y.run) (cond true (Some x) (find test (before r xs))) ≡ Some q = ap (λ c. option_map (λ y. y.run) (cond c (Some x) (find test (before r xs)))) (sym e) ∙ found in
+        let head : option_map (λ y. y.run) (cond true (Some x) (find test (accesses_before r xs))) ≡ Some q = ap (λ c. option_map (λ y. y.run) (cond c (Some x) (find test (accesses_before r xs)))) (sym e) ∙ found in
         let same : x.run ≡ q = ap (λ o. unwrap_or o q) head in
         let own : (x.run.0 == x.run.0) ≡ true = grind (arith, common_steps) in
         let its : (x.run.0 == q.0) ≡ true = subst (λ z. (x.run.0 == z.0) ≡ true) same own in
         rw its refl
     at false false e behind found =
-        let tail : option_map (λ y. y.run) (find test (before r xs)) ≡ Some q = ap (λ c. option_map (λ y. y.run) (cond c (Some x) (find test (before r xs)))) (sym e) ∙ found in
+        let tail : option_map (λ y. y.run) (find test (accesses_before r xs)) ≡ Some q = ap (λ c. option_map (λ y. y.run) (cond c (Some x) (find test (accesses_before r xs)))) (sym e) ∙ found in
         let rest : has_access q.0 xs ≡ true = behind tail in
         grind (arith, common_steps)
 

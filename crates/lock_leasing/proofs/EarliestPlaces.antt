@@ -1,7 +1,7 @@
 -- No set of items plans an earlier end of a run than that of the timeline does.
 use Rattle.command_rules.proofs.ClosedLeasts.{grown_least}
 use Rattle.command_rules.specs.Apart.{meet}
-use Rattle.command_rules.specs.ClosedSets.{IsLeast, IsPart, Rises, chosen}
+use Rattle.command_rules.specs.ClosedSets.{BarsRise, IsLeast, IsPart, chosen}
 use Rattle.command_rules.specs.Rosters.{commands_of, reads_first, touches, writes_on}
 use Rattle.history_book.proofs.Splits.{base_length}
 use Rattle.history_book.specs.Gaps.{bars, base_of, gap_set}
@@ -149,7 +149,7 @@ plan_later w n r m bs cs p = by_scheduler (scheduler_of w.mode)
 -- The least set
 
 -- a larger set bars more
-pub bars_rise : (w : Setting) (n : Reading) (r m : ℕ) → Rises (bars w n r m)
+pub bars_rise : (w : Setting) (n : Reading) (r m : ℕ) → BarsRise (bars w n r m)
 bars_rise w n r m bs cs (Ran x) p barred = by_live (is_live n x.0) barred
   where
     later : (d : ℕ) → planned_end (planned_times w n r (chosen bs n.line) m) d ≤ planned_end (planned_times w n r (chosen cs n.line) m) d

@@ -11,7 +11,7 @@ use Rattle.home_types.specs.declared.commands.Command.{Command}
 use Rattle.home_types.specs.declared.items.Item.TheVariants.{Back, Failed, Ran}
 use Rattle.home_types.specs.declared.items.Item.{Item}
 use Rattle.home_types.specs.declared.numbers.RunNo.{RunNo}
-use Rattle.lineage_table.specs.Accesses.{access_of, before, effective_writer, first_before, is_released}
+use Rattle.lineage_table.specs.Accesses.{access_of, accesses_before, effective_writer, first_before, is_released}
 use Rattle.lineage_table.specs.declared.accesses.Access.{Access}
 use Rattle.lock_leasing.proofs.AccessRuns.{EachTail, HasAccess, has_work, workers_have_access}
 use Rattle.lock_leasing.proofs.Facts.{Facts, command_pends, undone_doomed}
@@ -70,7 +70,7 @@ module _ (w : Setting) (n : Reading) (g : Grips) (f : Facts w n g) (d : ℕ) whe
       -- its access is the next one
       next : (ys : List Access) → uses w n d q.0 ≡ true → map (λ x. x.run.0) ys ≡ r ∷ runs_with_access w n d is → run_in w n g f d (first_before test r ys) ≡ None
       next [] used same = absurd (cc)
-      next (x ∷ ys) used same = let own : x.run.0 ≡ r = ap (λ l. head_or l 0) same in let mine : (x.run.0 == r) ≡ true = grind (arith, common_steps) in ap (λ b. run_in w n g f d (option_map (λ y. y.run) (find test (if b then [] else x ∷ before r ys)))) mine
+      next (x ∷ ys) used same = let own : x.run.0 ≡ r = ap (λ l. head_or l 0) same in let mine : (x.run.0 == r) ≡ true = grind (arith, common_steps) in ap (λ b. run_in w n g f d (option_map (λ y. y.run) (find test (if b then [] else x ∷ accesses_before r ys)))) mine
 
       passes : (ys : List Access) → (q.0 == r) ≡ false → uses w n d q.0 ≡ true → map (λ x. x.run.0) ys ≡ q.0 ∷ runs_with_access w n d is → EachTellsOfRun w n g d ys
           → run_in w n g f d (first_before test r ys) ≡ cond (held q.0) (Some q.0) (find held (live_runs n bs))
@@ -80,11 +80,11 @@ module _ (w : Setting) (n : Reading) (g : Grips) (f : Facts w n g) (d : ℕ) whe
           let rest : map (λ y. y.run.0) ys ≡ runs_with_access w n d is = ap tail_of same in
           let not_mine : (x.run.0 == r) ≡ false = ap (λ k. k == r) own ∙ other in
           let told : test x ≡ held q.0 = tells x ys all.0 (ap (λ k. uses w n d k) own ∙ used) ∙ ap held own in
-          ap (λ b. run_in w n g f d (option_map (λ y. y.run) (find test (if b then [] else x ∷ before r ys)))) not_mine
-          ∙ ap (λ b. run_in w n g f d (option_map (λ y. y.run) (cond b (Some x) (find test (before r ys))))) told
+          ap (λ b. run_in w n g f d (option_map (λ y. y.run) (find test (if b then [] else x ∷ accesses_before r ys)))) not_mine
+          ∙ ap (λ b. run_in w n g f d (option_map (λ y. y.run) (cond b (Some x) (find test (accesses_before r ys))))) told
           ∙ either (held q.0) own (behind ys (rest, all.1))
         where
-          either : (b : Bool) → x.run.0 ≡ q.0 → Same held test r is ys → run_in w n g f d (option_map (λ y. y.run) (cond b (Some x) (find test (before r ys)))) ≡ cond b (Some q.0) (find held (live_runs n bs))
+          either : (b : Bool) → x.run.0 ≡ q.0 → Same held test r is ys → run_in w n g f d (option_map (λ y. y.run) (cond b (Some x) (find test (accesses_before r ys)))) ≡ cond b (Some q.0) (find held (live_runs n bs))
           either true own after = ap Some own
           either false own after = after
 

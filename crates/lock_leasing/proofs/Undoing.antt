@@ -8,7 +8,7 @@ use Rattle.home_types.specs.declared.items.Item.TheVariants.{Back, Failed, Ran}
 use Rattle.home_types.specs.declared.items.Item.{Item}
 use Rattle.home_types.specs.declared.numbers.RunNo.{RunNo}
 use Rattle.command_rules.specs.Rosters.{touches}
-use Rattle.lineage_table.specs.Accesses.{effective_writer, standing_value, without}
+use Rattle.lineage_table.specs.Accesses.{accesses_without, effective_writer, value_standing}
 use Rattle.lineage_table.specs.declared.accesses.Access.{Access}
 use Rattle.lock_leasing.proofs.AccessRuns.{EachTail, last_from}
 use Rattle.lock_leasing.proofs.Effects.{effect_is}
@@ -88,7 +88,7 @@ module _ (w : Setting) (n : Reading) (g : Grips) (f : Facts w n g) (d r : ℕ) (
   Follows c is xs best known value =
       map (λ x. x.run.0) xs ≡ runs_with_access w n d is → EachTellsOfRun w n g d xs → unwrap_or (committed_from known is) (stand_at w.first d).value ≡ c
       → (list_any (covers n d) is ≡ true → value ≡ c) → (list_any (covers n d) is ≡ false → value ≡ value_in best)
-      → standing_value value (without r xs) ≡ value_in (last_from w n g f d best (line_without r is))
+      → value_standing value (accesses_without r xs) ≡ value_in (last_from w n g f d best (line_without r is))
 
   -- the access of a run is passed, or its value stands
   shown : (x : Access) (rest : List Access) (q : ℕ) (best : Option Write) (value : ℕ) → TellsOfRun w n g d x rest → x.run.0 ≡ q → value ≡ value_in best → unwrap_or x.wrote value ≡ value_in (option_or (write_of n g d (Ran (run_no q))) best)
@@ -122,20 +122,20 @@ module _ (w : Setting) (n : Reading) (g : Grips) (f : Facts w n g) (d r : ℕ) (
 
       -- its access is passed over ..
       passed : (ys : List Access) → (q.0 == r) ≡ true → list_any (covers n d) is ≡ false → map (λ x. x.run.0) ys ≡ q.0 ∷ runs_with_access w n d is → EachTellsOfRun w n g d ys → value ≡ value_in best
-          → standing_value value (without r ys) ≡ value_in (last_from w n g f d best (line_without r is))
+          → value_standing value (accesses_without r ys) ≡ value_in (last_from w n g f d best (line_without r is))
       passed [] mine uncovered same all before = absurd (cc)
       passed (x ∷ ys) mine uncovered same all before =
           let first : x.run.0 ≡ q.0 = ap (λ l. head_or l 0) same in
-          ap (λ b. standing_value value (if not b then (x ∷ without r ys) else without r ys)) (ap (λ k. k == r) first ∙ mine)
+          ap (λ b. value_standing value (if not b then (x ∷ accesses_without r ys) else accesses_without r ys)) (ap (λ k. k == r) first ∙ mine)
           ∙ behind ys best later value (ap tail_of same) all.1 committed (λ covered. absurd (cc)) (λ e. before)
 
       -- .. or stands
       accessed : (ys : List Access) → (q.0 == r) ≡ false → list_any (covers n d) is ≡ false → map (λ x. x.run.0) ys ≡ q.0 ∷ runs_with_access w n d is → EachTellsOfRun w n g d ys → value ≡ value_in best
-          → standing_value value (without r ys) ≡ value_in (last_from w n g f d next (line_without r is))
+          → value_standing value (accesses_without r ys) ≡ value_in (last_from w n g f d next (line_without r is))
       accessed [] other uncovered same all before = absurd (cc)
       accessed (x ∷ ys) other uncovered same all before =
           let first : x.run.0 ≡ q.0 = ap (λ l. head_or l 0) same in
-          ap (λ b. standing_value value (if not b then (x ∷ without r ys) else without r ys)) (ap (λ k. k == r) first ∙ other)
+          ap (λ b. value_standing value (if not b then (x ∷ accesses_without r ys) else accesses_without r ys)) (ap (λ k. k == r) first ∙ other)
           ∙ behind ys next later (unwrap_or x.wrote value) (ap tail_of same) all.1 committed (λ covered. absurd (cc)) (λ e. shown x ys q.0 best value all.0 first before)
 
       -- it is the run itself, which is live
@@ -148,7 +148,7 @@ module _ (w : Setting) (n : Reading) (g : Grips) (f : Facts w n g) (d r : ℕ) (
 
       mine : (q.0 == r) ≡ true → (a u : Bool) → list_any (covers n d) is ≡ a → uses w n d q.0 ≡ u → map (λ x. x.run.0) xs ≡ (if u && not a then (q.0 ∷ runs_with_access w n d is) else runs_with_access w n d is)
           → ((covers n d (Ran q) || a) ≡ true → value ≡ c) → ((covers n d (Ran q) || a) ≡ false → value ≡ value_in best)
-          → standing_value value (without r xs) ≡ value_in (last_from w n g f d best (line_without r is))
+          → value_standing value (accesses_without r xs) ≡ value_in (last_from w n g f d best (line_without r is))
       mine same true true covered used runs' own' none' = behind xs best later value runs' tells committed (λ e. own' (or_right (covers n d (Ran q)) true refl)) (λ e. absurd (cc))
       mine same true false covered used runs' own' none' = behind xs best later value runs' tells committed (λ e. own' (or_right (covers n d (Ran q)) true refl)) (λ e. absurd (cc))
       mine same false true covered used runs' own' none' = passed xs same covered runs' tells (none' (rw (not_covering same (covers n d (Ran q)) refl) refl))
@@ -156,7 +156,7 @@ module _ (w : Setting) (n : Reading) (g : Grips) (f : Facts w n g) (d r : ℕ) (
 
       another : (q.0 == r) ≡ false → (a b u : Bool) → list_any (covers n d) is ≡ a → covers n d (Ran q) ≡ b → uses w n d q.0 ≡ u → map (λ x. x.run.0) xs ≡ (if u && not a then (q.0 ∷ runs_with_access w n d is) else runs_with_access w n d is)
           → ((b || a) ≡ true → value ≡ c) → ((b || a) ≡ false → value ≡ value_in best)
-          → standing_value value (without r xs) ≡ value_in (last_from w n g f d next (line_without r is))
+          → value_standing value (accesses_without r xs) ≡ value_in (last_from w n g f d next (line_without r is))
       another other true b true covered own-cover used runs' own' none' = behind xs next later value runs' tells committed (λ e. own' (or_right b true refl)) (λ e. absurd (cc))
       another other true b false covered own-cover used runs' own' none' = behind xs next later value runs' tells committed (λ e. own' (or_right b true refl)) (λ e. absurd (cc))
       another other false true true covered own-cover used runs' own' none' = let uncommitted : is_committed n q.0 ≡ false = live_uncommitted n q.0 (grind (arith, common_steps)) in absurd (grind (arith, common_steps))
@@ -166,7 +166,7 @@ module _ (w : Setting) (n : Reading) (g : Grips) (f : Facts w n g) (d r : ℕ) (
       another other false false false covered own-cover used runs' own' none' =
           behind xs next later value runs' tells committed (λ e. absurd (cc)) (λ e. none' refl ∙ sym (ap (λ o. value_in (option_or o best)) (no_write w n g f d q stays own-cover used)))
 
-      by_own : (b : Bool) → (q.0 == r) ≡ b → standing_value value (without r xs) ≡ value_in (last_from w n g f d best (cond (not b) (Ran q ∷ line_without r is) (line_without r is)))
+      by_own : (b : Bool) → (q.0 == r) ≡ b → value_standing value (accesses_without r xs) ≡ value_in (last_from w n g f d best (cond (not b) (Ran q ∷ line_without r is) (line_without r is)))
       by_own true same = mine same (list_any (covers n d) is) (uses w n d q.0) refl refl runs own none
       by_own false other = another other (list_any (covers n d) is) (covers n d (Ran q)) (uses w n d q.0) refl refl refl runs own none
 
@@ -178,7 +178,7 @@ module _ (w : Setting) (n : Reading) (g : Grips) (f : Facts w n g) (d r : ℕ) (
   along c (Back e k ∷ is) xs best known value stays runs tells committed own none = along c is xs best known value stays.1 runs tells committed own none
 
   -- the value that the accesses of the other runs tell is the one that would stand
-  pub stands_without : (c : ℕ) (xs : List Access) → c ≡ committed_value w n d → map (λ x. x.run.0) xs ≡ runs_with_access w n d n.line → EachTellsOfRun w n g d xs → standing_value c (without r xs) ≡ value_without w n g r d
+  pub stands_without : (c : ℕ) (xs : List Access) → c ≡ committed_value w n d → map (λ x. x.run.0) xs ≡ runs_with_access w n d n.line → EachTellsOfRun w n g d xs → value_standing c (accesses_without r xs) ≡ value_without w n g r d
   stands_without c xs is runs tells =
       along c n.line xs None None c (all_stay w n g f d) runs tells (sym is) (λ e. refl)
       (λ e. is ∙ ap (λ o. unwrap_or o (stand_at w.first d).value) (none_committed n.line None e))

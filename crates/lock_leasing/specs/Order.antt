@@ -3,7 +3,7 @@ use Rattle.command_rules.specs.Items.{is_ran, of_run}
 use Rattle.command_rules.specs.Rosters.{run_no}
 use Rattle.history_book.specs.Histories.{answers_in, executed}
 use Rattle.history_book.specs.Lines.{is_event_on}
-use Rattle.history_book.specs.Readings.{Event, First, Last, Mark, Reading, did, has_written, is_committed, is_doomed, is_event, is_live, is_open, sees_up, span_of}
+use Rattle.history_book.specs.Readings.{Event, First, Last, LogMark, Reading, did, has_written, is_committed, is_doomed, is_event, is_live, is_open, sees_up, span_of}
 use Rattle.history_book.specs.Settings.{Setting, device_numbers}
 use Rattle.home_types.specs.HomeStates.{stand_at}
 use Rattle.home_types.specs.Numbers.{DeviceId, RunId}
@@ -60,7 +60,7 @@ firsts_of_line n d = filter_map first n.line
 abbrev pub firsts_of_log : Reading → DeviceId → List RunId
 firsts_of_log n d = filter_map first (n.log d)
   where
-    first : Mark → Option RunId
+    first : LogMark → Option RunId
     first (First r) = if is_in_line n r then Some r else None
     first (Event i) = None
     first (Last r) = None
@@ -73,7 +73,7 @@ marks_of_line n d = filter (λ i. is_event_on d i || of_run (λ r. did n r d && 
 abbrev pub marks_of_log : Reading → DeviceId → List Item
 marks_of_log n d = filter_map mark (n.log d)
   where
-    mark : Mark → Option Item
+    mark : LogMark → Option Item
     mark (First r) = if is_in_line n r && not (is_late n r d) then Some (Ran (run_no r)) else None
     mark (Event i) = Some i
     mark (Last r) = None

@@ -44,11 +44,11 @@ dirty_wait w n g r c =
     then find (λ x. has_effect n g x c.device.0) (live_before n r) else None
 
 -- under the model, r does not go on while x is live before it
-abbrev pub bars : Visibility → List Run → RunId → RunId → Bool
-bars Weak runs r x = false
-bars Global runs r x = true
-bars Partitioned runs r x = shares runs x r
-bars Eventual runs r x = false
+abbrev pub model_bars : Visibility → List Run → RunId → RunId → Bool
+model_bars Weak runs r x = false
+model_bars Global runs r x = true
+model_bars Partitioned runs r x = shares runs x r
+model_bars Eventual runs r x = false
 
 -- the first live run before r under the global model, the first that shares a device with r under the partitioned one
 abbrev pub strict_wait : Setting → Reading → RunId → Option RunId

@@ -2,10 +2,10 @@
 use Rattle.home_types.specs.declared.items.Item.TheVariants.{Back, Failed, Ran}
 use Rattle.home_types.specs.declared.items.Item.{Item}
 use Rattle.home_types.specs.declared.worlds.Stand.{Stand}
-use Rattle.order_checker.specs.OrderLines.{with_event}
+use Rattle.order_checker.specs.OrderLines.{home_with_event}
 use Rattle.std.proofs.Common.{List, length, length-set, refl, ◌≡◌}
 
-pub length-event : (home : List Stand) (item : Item) → length (with_event home item) ≡ length home
+pub length-event : (home : List Stand) (item : Item) → length (home_with_event home item) ≡ length home
 length-event home (Ran r) = refl
 length-event home (Failed d k) = length-set home d.0 _
 length-event home (Back d k) = length-set home d.0 _

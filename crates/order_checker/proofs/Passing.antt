@@ -7,7 +7,7 @@ use Rattle.home_types.specs.declared.items.Item.{Item}
 use Rattle.home_types.specs.declared.worlds.Stand.{Stand}
 use Rattle.order_checker.proofs.Walking.{walk-passed, walk-refused}
 use Rattle.order_checker.specs.Ends.{plain_end, plain_ends}
-use Rattle.order_checker.specs.HomeLines.{next_device, next_stand, stand_of, stands_so}
+use Rattle.order_checker.specs.HomeLines.{next_device_told, next_stand, stand_by_word, stands_so}
 use Rattle.order_checker.specs.OrderLines.{OrderSetting, item_of, next_item, next_stands, order_place}
 use Rattle.order_checker.specs.RunLines.{next_answer}
 use Rattle.order_checker.specs.Steps.{required, walk, ◌>>=◌}
@@ -26,15 +26,15 @@ use Rattle.std.specs.Prelude.{is_none, ok_or, slice_get, slice_index_or, ◌||�
 -- ---- where devices stand
 
 pub device-off : (told home : List Stand) (i : ℕ) (d : Stand) → i < length home → option_map_or (λ t. stands_so t (get_or home i d)) (slice_get told i) false ≡ false
-    → walk (next_device told) i (drop i home) ≡ Err (Device (device_no i))
+    → walk (next_device_told told) i (drop i home) ≡ Err (Device (device_no i))
 device-off told home i d within off =
-    walk-refused (next_device told) i home i (get_or home i d) within (get_or_default home i d (get_or home i d) within) (Device (device_no i))
+    walk-refused (next_device_told told) i home i (get_or home i d) within (get_or_default home i d (get_or home i d) within) (Device (device_no i))
     (ap (λ so. required so (Device (device_no i)) >>= (λ so. Ok (i + 1))) off)
 
 pub device-so : (told home : List Stand) (i : ℕ) (d : Stand) → i < length home → option_map_or (λ t. stands_so t (get_or home i d)) (slice_get told i) false ≡ true
-    → walk (next_device told) i (drop i home) ≡ walk (next_device told) (i + 1) (drop (i + 1) home)
+    → walk (next_device_told told) i (drop i home) ≡ walk (next_device_told told) (i + 1) (drop (i + 1) home)
 device-so told home i d within so =
-    walk-passed (next_device told) i home i (get_or home i d) within (get_or_default home i d (get_or home i d) within) (i + 1)
+    walk-passed (next_device_told told) i home i (get_or home i d) within (get_or_default home i d (get_or home i d) within) (i + 1)
     (ap (λ so. required so (Device (device_no i)) >>= (λ so. Ok (i + 1))) so)
 
 -- ---- committed runs in the order
@@ -91,15 +91,15 @@ answer-passed devices commands words place earlier i e d answer within same coun
     (ap (λ answer. ok_or answer place >>= (λ answer. Ok (earlier ++ answer ∷ []))) (ap (answer_of devices (get_or commands i e)) (word-at words i (length earlier) d (omega (arith, within, same)) count) ∙ some))
 
 pub stand-refused : (devices : List DeviceText) (words : List (Bor (List ℕ))) (earlier : List Stand) (i : ℕ) (device : DeviceText) (d : Bor (List ℕ))
-    → i < length devices → device ≡ get_or devices i device → length words ≡ length devices → length earlier ≡ i → stand_of device (get_or words i d).now ≡ None
+    → i < length devices → device ≡ get_or devices i device → length words ≡ length devices → length earlier ≡ i → stand_by_word device (get_or words i d).now ≡ None
     → walk (next_stand (texts words)) earlier (drop i devices) ≡ Err Home
 stand-refused devices words earlier i device d within is same count none =
     walk-refused (next_stand (texts words)) earlier devices i device within is Home
-    (ap (λ stand. ok_or stand Home >>= (λ stand. Ok (earlier ++ stand ∷ []))) (ap (stand_of device) (word-at words i (length earlier) d (omega (arith, within, same)) count) ∙ none))
+    (ap (λ stand. ok_or stand Home >>= (λ stand. Ok (earlier ++ stand ∷ []))) (ap (stand_by_word device) (word-at words i (length earlier) d (omega (arith, within, same)) count) ∙ none))
 
 pub stand-passed : (devices : List DeviceText) (words : List (Bor (List ℕ))) (earlier : List Stand) (i : ℕ) (device : DeviceText) (d : Bor (List ℕ)) (stand : Stand)
-    → i < length devices → device ≡ get_or devices i device → length words ≡ length devices → length earlier ≡ i → stand_of device (get_or words i d).now ≡ Some stand
+    → i < length devices → device ≡ get_or devices i device → length words ≡ length devices → length earlier ≡ i → stand_by_word device (get_or words i d).now ≡ Some stand
     → walk (next_stand (texts words)) earlier (drop i devices) ≡ walk (next_stand (texts words)) (earlier ++ stand ∷ []) (drop (i + 1) devices)
 stand-passed devices words earlier i device d stand within is same count some =
     walk-passed (next_stand (texts words)) earlier devices i device within is (earlier ++ stand ∷ [])
-    (ap (λ stand. ok_or stand Home >>= (λ stand. Ok (earlier ++ stand ∷ []))) (ap (stand_of device) (word-at words i (length earlier) d (omega (arith, within, same)) count) ∙ some))
+    (ap (λ stand. ok_or stand Home >>= (λ stand. Ok (earlier ++ stand ∷ []))) (ap (stand_by_word device) (word-at words i (length earlier) d (omega (arith, within, same)) count) ∙ some))

@@ -2,7 +2,7 @@
 use Rattle.order_checker.proofs.Walking.{walk-passed, walk-refused}
 use Rattle.order_checker.specs.Ends.{plain_end, plain_ends}
 use Rattle.order_checker.specs.Steps.{walk, ◌>>=◌}
-use Rattle.order_checker.specs.Windows.{next_run, run_text_told}
+use Rattle.order_checker.specs.Windows.{next_run_told, run_text_told}
 use Rattle.order_checker.specs.declared.run_lines.RunEnd.{RunEnd}
 use Rattle.order_checker.specs.declared.verdicts.Place.{Place}
 use Rattle.routine_reader.specs.declared.scripts.RunText.{RunText}
@@ -15,20 +15,20 @@ counted ends i count = length-map ends plain_end ∙ count
 
 pub run-refused : (script : Script) (n : ℕ) (ends : List RunEnd) (lines : List (Option (List ℕ))) (runs : List RunText) (i : ℕ) (d : RunText)
     → i < length runs → length ends ≡ i → (place : Place) → run_text_told script n (i + 1) (get_or runs i d) lines ≡ Err place
-    → walk (next_run script n) (record { ends = plain_ends ends; lines = lines }) (drop i runs) ≡ Err place
+    → walk (next_run_told script n) (record { ends = plain_ends ends; lines = lines }) (drop i runs) ≡ Err place
 run-refused script n ends lines runs i d within count place refused =
-    walk-refused (next_run script n) (record { ends = plain_ends ends; lines = lines }) runs i (get_or runs i d) within (get_or_default runs i d (get_or runs i d) within) place
+    walk-refused (next_run_told script n) (record { ends = plain_ends ends; lines = lines }) runs i (get_or runs i d) within (get_or_default runs i d (get_or runs i d) within) place
     (ap (λ told. told >>= (λ told. Ok (record { ends = plain_ends ends ++ told ∷ []; lines = drop 1 lines })))
     (ap (λ k. run_text_told script n (k + 1) (get_or runs i d) lines) (counted ends i count) ∙ refused))
 
 pub run-passed : (script : Script) (n : ℕ) (ends more : List RunEnd) (lines left : List (Option (List ℕ))) (runs : List RunText) (i : ℕ) (d : RunText) (end : RunEnd)
     → i < length runs → length ends ≡ i → run_text_told script n (i + 1) (get_or runs i d) lines ≡ Ok (plain_end end) → more ≡ ends ++ end ∷ [] → left ≡ drop 1 lines
-    → walk (next_run script n) (record { ends = plain_ends ends; lines = lines }) (drop i runs)
-    ≡ walk (next_run script n) (record { ends = plain_ends more; lines = left }) (drop (i + 1) runs)
+    → walk (next_run_told script n) (record { ends = plain_ends ends; lines = lines }) (drop i runs)
+    ≡ walk (next_run_told script n) (record { ends = plain_ends more; lines = left }) (drop (i + 1) runs)
 run-passed script n ends more lines left runs i d end within count passed pushed rest =
-    walk-passed (next_run script n) (record { ends = plain_ends ends; lines = lines }) runs i (get_or runs i d) within (get_or_default runs i d (get_or runs i d) within)
+    walk-passed (next_run_told script n) (record { ends = plain_ends ends; lines = lines }) runs i (get_or runs i d) within (get_or_default runs i d (get_or runs i d) within)
     (record { ends = plain_ends ends ++ plain_end end ∷ []; lines = drop 1 lines })
     (ap (λ told. told >>= (λ told. Ok (record { ends = plain_ends ends ++ told ∷ []; lines = drop 1 lines })))
     (ap (λ k. run_text_told script n (k + 1) (get_or runs i d) lines) (counted ends i count) ∙ passed))
-    ∙ ap (λ es. walk (next_run script n) (record { ends = es; lines = drop 1 lines }) (drop (i + 1) runs)) (sym (ap plain_ends pushed ∙ map-append plain_end ends (end ∷ [])))
-    ∙ ap (λ ls. walk (next_run script n) (record { ends = plain_ends more; lines = ls }) (drop (i + 1) runs)) (sym rest)
+    ∙ ap (λ es. walk (next_run_told script n) (record { ends = es; lines = drop 1 lines }) (drop (i + 1) runs)) (sym (ap plain_ends pushed ∙ map-append plain_end ends (end ∷ [])))
+    ∙ ap (λ ls. walk (next_run_told script n) (record { ends = plain_ends more; lines = ls }) (drop (i + 1) runs)) (sym rest)

@@ -6,7 +6,7 @@ use Rattle.home_types.specs.declared.commands.Command.{Command}
 use Rattle.order_checker.specs.Readers.{IsReader}
 use Rattle.order_checker.specs.declared.order_lines.OrderReader.{OrderReader}
 use Rattle.routine_reader.proofs.RosterLemmas.{runs-there}
-use Rattle.routine_reader.specs.Rosters.{routine_at, run_of_text, script_runs}
+use Rattle.routine_reader.specs.Rosters.{routine_commands, run_of_text, script_runs}
 use Rattle.routine_reader.specs.Scripts.{plain_device, plain_routine, plain_script, plain_window}
 use Rattle.routine_reader.specs.Sound.{IsSound, IsSoundRoutine, IsSoundWindow}
 use Rattle.routine_reader.specs.declared.scripts.RoutineText.{RoutineText}
@@ -41,7 +41,7 @@ record Fit (script : Script) (commands : List Command) : Type 0 where
 none_fit : (script : Script) → Fit script []
 none_fit script = record { few = omega arith; on = λ k d within. absurd (let no_place : ⊥ = omega (arith, within) in no_place) }
 
-routine_fits : (script : Script) (i : ℕ) → IsSound (plain_script script) → Fit script (routine_at script i)
+routine_fits : (script : Script) (i : ℕ) → IsSound (plain_script script) → Fit script (routine_commands script i)
 routine_fits script i sound = by_text (slice_get script.routines.items i) refl
   where
     by_text : (o : Option RoutineText) → slice_get script.routines.items i ≡ o → Fit script (unwrap_or (option_map (λ t. t.routine.commands.items) o) [])

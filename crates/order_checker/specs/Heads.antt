@@ -22,18 +22,18 @@ abbrev pub digit : ℕ → ℕ
 digit n = 48 + n
 
 -- a number in two digits
-abbrev pub two_digits : ℕ → List ℕ
-two_digits n = digit (n / 10) ∷ digit (n % 10) ∷ []
+abbrev pub digit_pair : ℕ → List ℕ
+digit_pair n = digit (n / 10) ∷ digit (n % 10) ∷ []
 
 -- a time as YYYY-MM-DDThh:mm:ss
-abbrev pub time_text : When → List ℕ
-time_text at =
-    two_digits (at.year / 100) ++ two_digits (at.year % 100) ++ codes "-" ++ two_digits at.month ++ codes "-" ++ two_digits at.day
-    ++ codes "T" ++ two_digits at.hour ++ codes ":" ++ two_digits at.minute ++ codes ":" ++ two_digits at.second
+abbrev pub written_time : When → List ℕ
+written_time at =
+    digit_pair (at.year / 100) ++ digit_pair (at.year % 100) ++ codes "-" ++ digit_pair at.month ++ codes "-" ++ digit_pair at.day
+    ++ codes "T" ++ digit_pair at.hour ++ codes ":" ++ digit_pair at.minute ++ codes ":" ++ digit_pair at.second
 
 -- the words of the first line of the window with this number, from 1, at this time
 abbrev pub are_window_words : ℕ → When → List (List ℕ) → Bool
-are_window_words k at (word ∷ number ∷ time ∷ []) = bytes_eq word (codes "window") && is_number k number && bytes_eq time (time_text at)
+are_window_words k at (word ∷ number ∷ time ∷ []) = bytes_eq word (codes "window") && is_number k number && bytes_eq time (written_time at)
 are_window_words k at words = false
 
 -- the first line of a window

@@ -18,15 +18,15 @@ stand_written device text (Some parts) =
     if length parts.back == 0 then option_map (λ v. record { value = v; up = false }) (value_of device parts.front) else None
 
 -- where a device stands, by a word `NAME=VALUE` or `NAME=VALUE!` with its name and one of its values
-unfoldable pub stand_of : DeviceText → List ℕ → Option Stand
-stand_of device word =
+unfoldable pub stand_by_word : DeviceText → List ℕ → Option Stand
+stand_by_word device word =
     option_and_then
     (λ parts. if bytes_eq parts.front device.name then stand_written device parts.back (cut_at 33 parts.back) else None)
     (cut_at 61 word)
 
 abbrev pub next_stand : List (List ℕ) → List Stand → DeviceText → Result (List Stand) Place
 next_stand words earlier device = do
-  stand ← ok_or (stand_of device (slice_index_or words (length earlier) [])) Home
+  stand ← ok_or (stand_by_word device (slice_index_or words (length earlier) [])) Home
   Ok (earlier ++ stand ∷ [])
 
 -- where each device stands, by the words behind the first; a home without devices has the word for nothing
@@ -54,8 +54,8 @@ abbrev pub stands_so : Stand → Stand → Bool
 stands_so a b = a.value == b.value && (if a.up then b.up else not b.up)
 
 -- the next device stands as it is told
-abbrev pub next_device : List Stand → ℕ → Stand → Result ℕ Place
-next_device told d stand = do
+abbrev pub next_device_told : List Stand → ℕ → Stand → Result ℕ Place
+next_device_told told d stand = do
   so ← required (option_map_or (λ t. stands_so t stand) (slice_get told d) false) (Device (device_no d))
   Ok (d + 1)
 
@@ -63,4 +63,4 @@ next_device told d stand = do
 unfoldable pub home_agrees : List DeviceText → List Stand → Option (List ℕ) → Result ℕ Place
 home_agrees devices home line = do
   told ← home_told devices line
-  walk (next_device told) 0 home
+  walk (next_device_told told) 0 home

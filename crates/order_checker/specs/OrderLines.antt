@@ -6,7 +6,7 @@ use Rattle.home_types.specs.declared.commands.Answer.{Answer}
 use Rattle.home_types.specs.declared.items.Item.TheVariants.{Back, Failed, Ran}
 use Rattle.home_types.specs.declared.items.Item.{Item}
 use Rattle.home_types.specs.declared.worlds.Stand.{Stand}
-use Rattle.order_checker.specs.RunLines.{is_committed}
+use Rattle.order_checker.specs.RunLines.{is_told_committed}
 use Rattle.order_checker.specs.Steps.{required, walk, ◌>>=◌}
 use Rattle.order_checker.specs.Values.{device_named}
 use Rattle.order_checker.specs.Words.{Parts, cut_at, is_none_word, number_of, words_of}
@@ -25,13 +25,13 @@ order_place k = Order (min k (2 ^ 32 - 1))
 -- ---- a run
 
 -- the run that this one follows does not stand behind it: it is not committed, or stands earlier
-abbrev pub may_follow : List Run → List (Option (List Answer)) → List Item → ℕ → Bool
-may_follow runs ends earlier r =
-    option_map_or (λ f. not (is_committed ends f.0) || list_any (is_ran f.0) earlier) (followed_by runs r) true
+abbrev pub may_stand_here : List Run → List (Option (List Answer)) → List Item → ℕ → Bool
+may_stand_here runs ends earlier r =
+    option_map_or (λ f. not (is_told_committed ends f.0) || list_any (is_ran f.0) earlier) (followed_by runs r) true
 
 -- a committed run of the window that does not stand earlier, and not before the committed one that it follows
 abbrev pub may_run : List Run → List (Option (List Answer)) → List Item → ℕ → Bool
-may_run runs ends earlier r = is_committed ends r && not (list_any (is_ran r) earlier) && may_follow runs ends earlier r
+may_run runs ends earlier r = is_told_committed ends r && not (list_any (is_ran r) earlier) && may_stand_here runs ends earlier r
 
 abbrev pub run_item : List Run → List (Option (List Answer)) → List Item → List ℕ → Option Item
 run_item runs ends earlier word =
@@ -51,14 +51,14 @@ abbrev pub event_device : List DeviceText → List ℕ → List ℕ → Option �
 event_device devices kind word = option_and_then (device_named devices) (option_and_then (name_in kind) (cut_at 40 word))
 
 -- the home with a failure or a restart; runs leave which devices are up
-abbrev pub with_event : List Stand → Item → List Stand
-with_event home (Ran r) = home
-with_event home (Failed d k) = with_up home d.0 false
-with_event home (Back d k) = with_up home d.0 true
+abbrev pub home_with_event : List Stand → Item → List Stand
+home_with_event home (Ran r) = home
+home_with_event home (Failed d k) = with_up home d.0 false
+home_with_event home (Back d k) = with_up home d.0 true
 
 -- the device is up behind these items
 abbrev pub is_up_behind : List Stand → List Item → ℕ → Bool
-is_up_behind home earlier d = (stand_at (fold with_event home earlier) d).up
+is_up_behind home earlier d = (stand_at (fold home_with_event home earlier) d).up
 
 -- a failure of a device that is up there; the order does not print which failure of the window it is
 abbrev pub failure_item : List DeviceText → List Stand → List Item → List ℕ → Option Item

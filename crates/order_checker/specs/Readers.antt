@@ -16,8 +16,8 @@ use Rattle.order_checker.specs.declared.windows.Progress.{Progress}
 use Rattle.order_checker.specs.declared.windows.RunLines.{RunLines}
 use Rattle.std.specs.Prelude.{All, Err, Ok, Result, length, ℕ, ⊤, ◌<◌, ◌≡◌, ◌≤◌}
 
-abbrev pub setting_of : OrderReader → OrderSetting
-setting_of reader =
+abbrev pub setting_for_order : OrderReader → OrderSetting
+setting_for_order reader =
     record {
       devices = reader.devices.now;
       home = reader.home.now.items;
@@ -39,8 +39,8 @@ abbrev pub runs_told : RunLines → RunsTold
 runs_told told = record { ends = plain_ends told.ends.items; lines = lines_of told.rest.now }
 
 -- what was read of a record so far
-abbrev pub progress_of : Progress → DayProgress
-progress_of so_far =
+abbrev pub progress_told : Progress → DayProgress
+progress_told so_far =
     record {
       windows = so_far.windows;
       home = so_far.home.items;
@@ -51,7 +51,7 @@ progress_of so_far =
 
 -- the answer of a walk over windows: what was read, or the place with its window, or want of memory
 abbrev pub AreWindowsTold : Result Progress (ℕ × Halt) → Result DayProgress Verdict → Type 0
-AreWindowsTold (Ok so_far) told = told ≡ Ok (progress_of so_far)
+AreWindowsTold (Ok so_far) told = told ≡ Ok (progress_told so_far)
 AreWindowsTold (Err (k, Memory)) told = ⊤
 AreWindowsTold (Err (k, At place)) told = told ≡ Err (Differs k place)
 

@@ -118,5 +118,5 @@ abbrev pub told_of : List (Option (List Answer)) → ℕ → Option (List Answer
 told_of ends r = if r == 0 then None else option_and_then (λ told. told) (slice_get ends (r - 1))
 
 -- the run is committed
-abbrev pub is_committed : List (Option (List Answer)) → ℕ → Bool
-is_committed ends r = is_some (told_of ends r)
+abbrev pub is_told_committed : List (Option (List Answer)) → ℕ → Bool
+is_told_committed ends r = is_some (told_of ends r)

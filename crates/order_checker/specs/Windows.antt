@@ -11,7 +11,7 @@ use Rattle.order_checker.specs.RunLines.{run_told}
 use Rattle.order_checker.specs.Steps.{required, walk, ◌>>=◌}
 use Rattle.order_checker.specs.declared.verdicts.Place.TheVariants.{Window}
 use Rattle.order_checker.specs.declared.verdicts.Place.{Place}
-use Rattle.routine_reader.specs.Rosters.{kinds_of, routine_at, run_of_text}
+use Rattle.routine_reader.specs.Rosters.{kinds_of, routine_commands, run_of_text}
 use Rattle.routine_reader.specs.declared.scripts.RunText.{RunText}
 use Rattle.routine_reader.specs.declared.scripts.Script.{Script}
 use Rattle.routine_reader.specs.declared.scripts.WindowText.{WindowText}
@@ -27,8 +27,8 @@ pub record DayProgress : Type 0 where
   pub committed : ℕ
 
 -- the name of a routine
-abbrev pub routine_name : Script → ℕ → List ℕ
-routine_name script i = unwrap_or (option_map (λ routine. routine.name) (slice_get script.routines.items i)) []
+abbrev pub named_routine : Script → ℕ → List ℕ
+named_routine script i = unwrap_or (option_map (λ routine. routine.name) (slice_get script.routines.items i)) []
 
 -- how the runs so far ended, and the lines that are left
 pub record RunsTold : Type 0 where
@@ -38,11 +38,11 @@ pub record RunsTold : Type 0 where
 -- how the run with this number ended, of a window with so many, by the next of these lines
 abbrev pub run_text_told : Script → ℕ → ℕ → RunText → List (Option (List ℕ)) → Result (Option (List Answer)) Place
 run_text_told script runs r run lines =
-    run_told script.devices.items runs r (routine_name script run.routine) (routine_at script run.routine) (line_at lines 0)
+    run_told script.devices.items runs r (named_routine script run.routine) (routine_commands script run.routine) (line_at lines 0)
 
 -- how the next run ended, by the next line
-abbrev pub next_run : Script → ℕ → RunsTold → RunText → Result RunsTold Place
-next_run script runs earlier run = do
+abbrev pub next_run_told : Script → ℕ → RunsTold → RunText → Result RunsTold Place
+next_run_told script runs earlier run = do
   told ← run_text_told script runs (length earlier.ends + 1) run earlier.lines
   Ok (record { ends = earlier.ends ++ told ∷ []; lines = drop 1 earlier.lines })
 
@@ -63,7 +63,7 @@ order_end_told script home window told =
 unfoldable pub window_told : Script → DayProgress → WindowText → Result DayProgress Place
 window_told script before window = do
   lines ← window_line_told (before.windows + 1) window.at before.lines
-  told ← walk (next_run script (length window.runs.items)) (record { ends = []; lines = lines }) window.runs.items
+  told ← walk (next_run_told script (length window.runs.items)) (record { ends = []; lines = lines }) window.runs.items
   home ← order_end_told script before.home window told
   agrees ← home_agrees script.devices.items home (line_at (drop 1 told.lines) 0)
   Ok (record { windows = before.windows + 1; home = home; lines = drop 1 (drop 1 told.lines); runs = before.runs + length window.runs.items; committed = before.committed + count_by is_some told.ends })

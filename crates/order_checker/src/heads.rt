@@ -2,7 +2,7 @@
 ghost use Rattle.std.specs.Prelude.{◌≡◌, ◌<◌, IfSome, IfNone, IfOk, drop, false, true};
 ghost use Rattle.std.specs.List.{list_any};
 ghost use Rattle.std.specs.Str.{bytes_eq};
-ghost use Rattle.order_checker.specs.Heads.{are_window_words, digit, is_head, mode_lines, time_text};
+ghost use Rattle.order_checker.specs.Heads.{are_window_words, digit, is_head, mode_lines, written_time};
 ghost use Rattle.order_checker.specs.Lines.{line_at, lines_of};
 ghost use Rattle.order_checker.specs.Words.{words_of};
 
@@ -47,7 +47,7 @@ fn digit(n: u16) -> u8
 
 /// Whether the word is this time, as `YYYY-MM-DDThh:mm:ss`.
 fn is_time(word: &[u8], at: When) -> bool
-    ensures { result ≡ bytes_eq word.now (time_text at) }
+    ensures { result ≡ bytes_eq word.now (written_time at) }
 {
     let (century, year) = (at.year / 100, at.year % 100);
     let (month, day) = (at.month as u16, at.day as u16);

@@ -2,7 +2,7 @@
 ghost use Rattle.std.specs.Prelude.{◌≡◌, ◌≤◌, Some, [], false, length, slice_get};
 ghost use Rattle.std.specs.Option.{option_map_or};
 ghost use Rattle.home_types.specs.Limits.{most_devices};
-ghost use Rattle.order_checker.specs.HomeLines.{home_agrees, home_words_told, next_device, next_stand, stand_of, stand_written, stands_so, stands_told};
+ghost use Rattle.order_checker.specs.HomeLines.{home_agrees, home_words_told, next_device_told, next_stand, stand_by_word, stand_written, stands_so, stands_told};
 ghost use Rattle.order_checker.specs.Steps.{IsTold, walk};
 ghost use Rattle.order_checker.specs.Words.{cut_at, texts, words_of};
 
@@ -31,9 +31,9 @@ fn stand_written(device: &DeviceText, text: &[u8]) -> Option<Stand>
 }
 
 /// Where the device stands, by a word `NAME=VALUE` or `NAME=VALUE!` with its name and one of its values.
-#[tactic(auto, unfolding(crate::specs::HomeLines::stand_of))]
+#[tactic(auto, unfolding(crate::specs::HomeLines::stand_by_word))]
 fn stand_of(device: &DeviceText, word: &[u8]) -> Option<Stand>
-    ensures { result ≡ stand_of device.now word.now }
+    ensures { result ≡ stand_by_word device.now word.now }
 {
     let (name, text) = cut_at(word, b'=')?;
     if !reads(name, device.name.as_str()) {
@@ -110,7 +110,7 @@ fn is_told(told: &[Stand], device: usize, stand: Stand) -> bool
 /// Asks that each device stands as it is told.
 fn all_stand_so(told: &[Stand], home: &[Stand]) -> Result<(), Halt>
     requires { length home.now ≤ most_devices }
-    ensures { IsTold (λ _. length home.now) result (walk (next_device told.now) 0 home.now) }
+    ensures { IsTold (λ _. length home.now) result (walk (next_device_told told.now) 0 home.now) }
 {
     'stands: for (i, stand) in home.iter().enumerate() {
         if !is_told(told, i, *stand) {

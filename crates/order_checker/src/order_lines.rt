@@ -6,9 +6,9 @@ ghost use Rattle.command_rules.specs.Rosters.{is_run, runs_of};
 ghost use Rattle.home_types.specs.Limits.{most_devices};
 ghost use Rattle.serial_meaning.specs.Conditions.{IsItemOf};
 ghost use Rattle.order_checker.specs.Ends.{plain_end, plain_ends};
-ghost use Rattle.order_checker.specs.OrderLines.{event_device, is_up_behind, item_of, items_told, may_follow, next_item, next_stands, order_line_told, order_place, order_words_told, run_item, with_event};
-ghost use Rattle.order_checker.specs.Readers.{IsInHome, IsReader, setting_of};
-ghost use Rattle.order_checker.specs.RunLines.{is_committed, told_of};
+ghost use Rattle.order_checker.specs.OrderLines.{event_device, home_with_event, is_up_behind, item_of, items_told, may_stand_here, next_item, next_stands, order_line_told, order_place, order_words_told, run_item};
+ghost use Rattle.order_checker.specs.Readers.{IsInHome, IsReader, setting_for_order};
+ghost use Rattle.order_checker.specs.RunLines.{is_told_committed, told_of};
 ghost use Rattle.order_checker.specs.Steps.{IsTold, walk};
 ghost use Rattle.order_checker.specs.Values.{device_named};
 ghost use Rattle.order_checker.specs.Words.{texts, words_of};
@@ -87,7 +87,7 @@ fn event_device(devices: &[DeviceText], kind: &str, word: &[u8]) -> Option<Devic
 /// Turns the device of a failure or a restart. A run leaves which devices are up.
 pub fn turn(home: &mut List<Stand>, item: Item)
     requires { IsInHome (length home.old.items) item }
-    ensures { home.new.items ≡ with_event home.old.items item }
+    ensures { home.new.items ≡ home_with_event home.old.items item }
 {
     let (device, up) = match item {
         Item::Ran(_) => return,
@@ -112,7 +112,7 @@ impl<'a> OrderReader<'a> {
     /// Whether the run that this one follows stands earlier, if it is committed.
     fn may_follow(&self, earlier: &[Item], run: RunNo) -> bool
         requires { IsTrue (is_run (runs_of self.now.roster.now) run.0) }
-        ensures { result ≡ may_follow (runs_of self.now.roster.now) (plain_ends self.now.ends.now) earlier.now run.0 }
+        ensures { result ≡ may_stand_here (runs_of self.now.roster.now) (plain_ends self.now.ends.now) earlier.now run.0 }
     {
         match self.roster.followed_by(run) {
             Some(followed) => {
@@ -142,9 +142,9 @@ impl<'a> OrderReader<'a> {
     #[tactic(auto, unfolding(crate::specs::OrderLines::item_of))]
     fn item_of(&self, home: &List<Stand>, earlier: &List<Item>, word: &[u8]) -> Option<Item>
         requires reader { IsReader self.now }
-        requires home { home.now.items ≡ fold with_event self.now.home.now.items earlier.now.items }
+        requires home { home.now.items ≡ fold home_with_event self.now.home.now.items earlier.now.items }
         requires same { length home.now.items ≡ length self.now.home.now.items }
-        ensures item { result ≡ item_of (setting_of self.now) earlier.now.items word.now }
+        ensures item { result ≡ item_of (setting_for_order self.now) earlier.now.items word.now }
         ensures of_roster { IfSome result (IsItemOf self.now.home.now.items self.now.roster.now) }
     {
         if let Some(item) = self.run_item(earlier.as_slice(), word) {
@@ -166,7 +166,7 @@ impl<'a> OrderReader<'a> {
     /// Reads the items that the words are, one by one.
     fn read_each_item(&self, alloc: Global, words: &[&[u8]]) -> Result<List<Item>, Halt>
         requires { IsReader self.now }
-        ensures items { IsTold (λ items. items.items) result (walk (next_item (setting_of self.now)) [] (texts words.now)) }
+        ensures items { IsTold (λ items. items.items) result (walk (next_item (setting_for_order self.now)) [] (texts words.now)) }
         ensures of_roster { IfOk result (λ items. All (IsItemOf self.now.home.now.items self.now.roster.now) items.items) }
     {
         let mut items = List::new(alloc);
@@ -185,7 +185,7 @@ impl<'a> OrderReader<'a> {
     /// Reads the items that the words are.
     fn read_items(&self, alloc: Global, words: &[&[u8]]) -> Result<List<Item>, Halt>
         requires { IsReader self.now }
-        ensures items { IsTold (λ items. items.items) result (items_told (setting_of self.now) (texts words.now)) }
+        ensures items { IsTold (λ items. items.items) result (items_told (setting_for_order self.now) (texts words.now)) }
         ensures of_roster { IfOk result (λ items. All (IsItemOf self.now.home.now.items self.now.roster.now) items.items) }
     {
         if is_none_word(words) {
@@ -211,7 +211,7 @@ impl<'a> OrderReader<'a> {
     #[tactic(auto, unfolding(crate::specs::OrderLines::order_words_told))]
     fn read_words(&self, alloc: Global, words: &[&[u8]]) -> Result<List<Item>, Halt>
         requires { IsReader self.now }
-        ensures items { IsTold (λ items. items.items) result (order_words_told (setting_of self.now) (texts words.now)) }
+        ensures items { IsTold (λ items. items.items) result (order_words_told (setting_for_order self.now) (texts words.now)) }
         ensures of_roster { IfOk result (λ items. All (IsItemOf self.now.home.now.items self.now.roster.now) items.items) }
     {
         let items = self.read_items(alloc, words)?;
@@ -222,7 +222,7 @@ impl<'a> OrderReader<'a> {
     /// Reads the order line.
     pub fn read(&self, alloc: Global, line: &[u8]) -> Result<List<Item>, Halt>
         requires { IsReader self.now }
-        ensures items { IsTold (λ items. items.items) result (order_line_told (setting_of self.now) (words_of line.now)) }
+        ensures items { IsTold (λ items. items.items) result (order_line_told (setting_for_order self.now) (words_of line.now)) }
         ensures of_roster { IfOk result (λ items. All (IsItemOf self.now.home.now.items self.now.roster.now) items.items) }
     {
         let words = words_of(alloc, line)?;

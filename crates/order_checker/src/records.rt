@@ -1,9 +1,9 @@
 //! A record against a script.
 ghost use Rattle.std.specs.Prelude.{◌≡◌, ◌≤◌, IfOk, length, map};
 ghost use Rattle.home_types.specs.Limits.{most_windows};
-ghost use Rattle.order_checker.specs.Readers.{AreWindowsTold, progress_of};
+ghost use Rattle.order_checker.specs.Readers.{AreWindowsTold, progress_told};
 ghost use Rattle.order_checker.specs.Steps.{walk};
-ghost use Rattle.order_checker.specs.Records.{next_window, verdict_of};
+ghost use Rattle.order_checker.specs.Records.{next_window_told, verdict_of};
 ghost use Rattle.routine_reader.specs.Rosters.{start_stand};
 ghost use Rattle.routine_reader.specs.Scripts.{plain_script};
 ghost use Rattle.routine_reader.specs.Sound.{IsSound};
@@ -44,7 +44,7 @@ fn read_windows<'a>(
     requires home { length first.home.items ≡ length script.now.devices.items }
     requires runs { first.runs ≡ 0 }
     requires committed { first.committed ≡ 0 }
-    ensures told { AreWindowsTold result (walk (next_window script.now) (progress_of first.entry) windows.now) }
+    ensures told { AreWindowsTold result (walk (next_window_told script.now) (progress_told first.entry) windows.now) }
     ensures counts { IfOk result (λ last. (last.windows ≤ most_windows) × (last.committed ≤ last.runs)) }
 {
     let mut so_far = first;

@@ -4,12 +4,12 @@ ghost use Rattle.std.specs.List.{count_by};
 ghost use Rattle.home_types.specs.Limits.{most_devices, most_runs};
 ghost use Rattle.order_checker.specs.Ends.{plain_end, plain_ends};
 ghost use Rattle.order_checker.specs.Lines.{line_at, lines_of};
-ghost use Rattle.order_checker.specs.Readers.{IsReader, progress_of, runs_told, setting_of};
+ghost use Rattle.order_checker.specs.Readers.{IsReader, progress_told, runs_told, setting_for_order};
 ghost use Rattle.order_checker.specs.HomeLines.{home_agrees};
 ghost use Rattle.order_checker.specs.OrderLines.{order_told};
 ghost use Rattle.serial_meaning.specs.Conditions.{IsItemOf};
 ghost use Rattle.order_checker.specs.Steps.{IsTold, walk};
-ghost use Rattle.order_checker.specs.Windows.{next_run, order_end_told, run_text_told, window_line_told, window_told};
+ghost use Rattle.order_checker.specs.Windows.{next_run_told, order_end_told, run_text_told, window_line_told, window_told};
 ghost use Rattle.routine_reader.specs.Scripts.{plain_script};
 ghost use Rattle.routine_reader.specs.Sound.{IsSound};
 
@@ -88,7 +88,7 @@ fn read_runs<'a>(
 ) -> Result<RunLines<'a>, Halt>
     requires few { length runs.now ≤ most_runs }
     requires routines { All (λ run. run.routine < length script.now.routines.items) runs.now }
-    ensures told { IsTold runs_told result (walk (next_run script.now (length runs.now)) (record { ends = []; lines = lines_of text.now }) runs.now) }
+    ensures told { IsTold runs_told result (walk (next_run_told script.now (length runs.now)) (record { ends = []; lines = lines_of text.now }) runs.now) }
     ensures count { IfOk result (λ told. length told.ends.items ≡ length runs.now) }
 {
     let mut ends = List::new(alloc);
@@ -143,7 +143,7 @@ fn read_order<'a>(
     text: &'a [u8],
 ) -> Result<OrderLine<'a>, Halt>
     requires { IsReader reader.now }
-    ensures told { IsTold (λ told. told.items.items) result (order_told (setting_of reader.now) (line_at (lines_of text.now) 0)) }
+    ensures told { IsTold (λ told. told.items.items) result (order_told (setting_for_order reader.now) (line_at (lines_of text.now) 0)) }
     ensures of_roster { IfOk result (λ told. All (IsItemOf reader.now.home.now.items reader.now.roster.now) told.items.items) }
     ensures rest { IfOk result (λ told. lines_of told.rest.now ≡ drop 1 (lines_of text.now)) }
 {
@@ -226,7 +226,7 @@ pub fn read_window<'a>(
     requires home { length before.home.items ≡ length script.now.devices.items }
     requires runs { before.runs ≤ before.windows * most_runs }
     requires committed { before.committed ≤ before.runs }
-    ensures told { IsTold progress_of result (window_told script.now (progress_of before.entry) window.now) }
+    ensures told { IsTold progress_told result (window_told script.now (progress_told before.entry) window.now) }
     ensures home { IfOk result (λ next. length next.home.items ≡ length script.now.devices.items) }
     ensures windows { IfOk result (λ next. next.windows ≡ before.entry.windows + 1) }
     ensures runs { IfOk result (λ next. next.runs ≤ next.windows * most_runs) }

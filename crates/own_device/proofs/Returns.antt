@@ -9,9 +9,9 @@ use Rattle.device_gate.specs.declared.slips.Task.TheVariants.{Drive, Probe, Sens
 use Rattle.device_gate.specs.declared.slips.Task.{Task}
 use Rattle.device_gate.specs.declared.slips.Told.{Told}
 use Rattle.device_gate.specs.declared.strangers.Stranger.{Stranger}
-use Rattle.hub_core.specs.HubCalls.{GoesOut, IsGiven, IsProbeGiven, IsProbed, carried_by}
+use Rattle.hub_core.specs.HubCalls.{DeviceGoesOut, IsGiven, IsProbeGiven, IsProbed, carried_by}
 use Rattle.hub_core.specs.HubSteps.{Carried, Chose, HubState, HubStep, IsSlipOf, ProbeTaken, Probed, Refused, Returned, SlipFits, Take, give_if, is_kept, same_optional, same_slip, same_task, take}
-use Rattle.hub_core.specs.OpenHubs.{OpenHub, configuration_of, state_of}
+use Rattle.hub_core.specs.OpenHubs.{OpenHub, configuration_of, hub_state_of}
 use Rattle.hub_core.specs.Steps.{HandsOut, at_moment, may_probe}
 use Rattle.lock_leasing.specs.Configurations.{Configuration, Purpose}
 use Rattle.std.proofs.Common.{ap, arith, refl, subst, sym, ◌∙◌}
@@ -46,7 +46,7 @@ same_task_self (Probe v) = same_optional_self v
 same_slip_self : (slip : Slip) → same_slip slip slip ≡ true
 same_slip_self slip = grind (arith, common_steps)
 
-passes : {D : Type 0} (t : OpenHub D) (done : Gripped D Done) → IsKept t.places done.slip done.task → is_kept (state_of t) (carried_by done) ≡ true
+passes : {D : Type 0} (t : OpenHub D) (done : Gripped D Done) → IsKept t.places done.slip done.task → is_kept (hub_state_of t) (carried_by done) ≡ true
 passes t done kept = rw kept (rw (same_slip_self done.slip, same_task_self done.task) refl)
 
 refused_if : (b : Bool) (s : HubState) (c : Configuration) (told : Carried) (result : Told) (x : Stranger) → b ≡ true → Returned (Refused x) ≡ Returned (give_if b s c told result).answer → ⊥
@@ -60,12 +60,12 @@ maker_is s t r m d slip purpose step =
     let same : HandsOut d purpose ≡ (take s r m slip).choice = (let chosen = step.0 in cc) in
     let fits : SlipFits r (HandsOut d purpose) slip = subst (λ c. SlipFits r c slip) (sym same) step.2 in fits.maker
 
-pub run_returns : {D : Type 0} (s t u : OpenHub D) (r m n : ℕ) (grip : Gripped D Ready) (done back : Gripped D Done) (x : Stranger) → 0 < r → GoesOut s r m grip t → done.slip ≡ grip.slip → done.task ≡ grip.task → IsGiven t done n (Err (back, x)) u → ⊥
+pub run_returns : {D : Type 0} (s t u : OpenHub D) (r m n : ℕ) (grip : Gripped D Ready) (done back : Gripped D Done) (x : Stranger) → 0 < r → DeviceGoesOut s r m grip t → done.slip ≡ grip.slip → done.task ≡ grip.task → IsGiven t done n (Err (back, x)) u → ⊥
 run_returns s t u r m n grip done back x run out slip task given =
     let kept = still_out s t grip.slip.device.0 grip done refl out.home out.places slip task in
-    let maker = ap (λ (y : Slip). y.maker) slip ∙ maker_is (state_of s) (state_of t) r m grip.slip.device.0 grip.slip out.purpose out.step in
+    let maker = ap (λ (y : Slip). y.maker) slip ∙ maker_is (hub_state_of s) (hub_state_of t) r m grip.slip.device.0 grip.slip out.purpose out.step in
     let low : nat_lt 0 done.slip.maker ≡ true = grind (arith, common_steps, maker, run) in
-    refused_if (is_kept (state_of t) (carried_by done) && nat_lt 0 done.slip.maker) (state_of t) (at_moment (configuration_of t) n) (carried_by done) done.stage.told x (rw (passes t done kept, low) refl) given.0.0
+    refused_if (is_kept (hub_state_of t) (carried_by done) && nat_lt 0 done.slip.maker) (hub_state_of t) (at_moment (configuration_of t) n) (carried_by done) done.stage.told x (rw (passes t done kept, low) refl) given.0.0
 
 -- The grip of the detector
 
@@ -75,8 +75,8 @@ went false x s task answer = absurd (cc)
 
 pub probe_returns : {D : Type 0} (s t u : OpenHub D) (d : ℕ) (grip : Gripped D Ready) (done back : Gripped D Done) (x : Stranger) → IsProbed s d (Some grip) t → done.slip ≡ grip.slip → done.task ≡ grip.task → IsProbeGiven t done (Err (back, x)) u → ⊥
 probe_returns s t u d grip done back x out slip task given =
-    let own : IsSlipOf 0 d grip.slip = out.0.2 (went (may_probe (configuration_of s) d) _ (state_of s) grip.task out.0.0) in
+    let own : IsSlipOf 0 d grip.slip = out.0.2 (went (may_probe (configuration_of s) d) _ (hub_state_of s) grip.task out.0.0) in
     let kept = still_out s t d grip done own.device out.1 out.2 slip task in
     let maker = ap (λ (y : Slip). y.maker) slip ∙ own.maker in
     let zero' : (done.slip.maker == 0) ≡ true = grind (arith, common_steps, maker) in
-    refused_if (is_kept (state_of t) (carried_by done) && (done.slip.maker == 0)) (state_of t) (configuration_of t) (carried_by done) done.stage.told x (rw (passes t done kept, zero') refl) given.0.0
+    refused_if (is_kept (hub_state_of t) (carried_by done) && (done.slip.maker == 0)) (hub_state_of t) (configuration_of t) (carried_by done) done.stage.told x (rw (passes t done kept, zero') refl) given.0.0

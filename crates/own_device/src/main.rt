@@ -19,7 +19,7 @@ use radio_devices::{RadioBench, RadioDevice};
 use routine_reader::{Script, read_script};
 use std::io::Write;
 use std::process::ExitCode;
-use windows::{MODE, MOST_TURNS, open_window, work};
+use windows::{MOST_TURNS, WINDOW_MODE, open_window, work};
 
 /// After so many turns the order is printed as far as it is final.
 const FIRST_TURNS: u64 = 7;
@@ -110,7 +110,7 @@ fn print_item(rt: &HostRuntime, script: &Script, item: Item) -> Option<()> {
 fn print_window(rt: &HostRuntime, script: &Script, closed: &WindowRecord) -> Option<()>
     requires sound { IsSound (plain_script script.now) }
 {
-    let text = window_text(rt.alloc(), script, 0, closed, MODE, true).ok()?;
+    let text = window_text(rt.alloc(), script, 0, closed, WINDOW_MODE, true).ok()?;
     rt.stdout().write_all(text.as_slice()).ok()
 }
 

@@ -12,7 +12,7 @@ use routine_reader::{Script, roster};
 use std::alloc::Global;
 
 /// How the window is opened.
-pub const MODE: Mode = Mode {
+pub const WINDOW_MODE: Mode = Mode {
     model: Visibility::Eventual,
     scheduler: Scheduler::Fcfs,
 };
@@ -45,7 +45,7 @@ pub fn open_window(
         return None;
     };
     home.kept();
-    match home.open_window(alloc, roster, MODE, window.probes) {
+    match home.open_window(alloc, roster, WINDOW_MODE, window.probes) {
         Ok(hub) => Some(hub),
         Err((home, _)) => {
             drop(home);

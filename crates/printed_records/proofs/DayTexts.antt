@@ -9,7 +9,7 @@ use Rattle.home_types.specs.declared.worlds.Stand.{Stand}
 use Rattle.order_checker.proofs.SoundRuns.{window_sound}
 use Rattle.order_checker.specs.Heads.{is_head}
 use Rattle.order_checker.specs.Lines.{line_at, lines_of}
-use Rattle.order_checker.specs.Records.{first_progress, in_window, next_window, record_told, verdict, verdict_of}
+use Rattle.order_checker.specs.Records.{first_progress, in_window, next_window_told, record_told, verdict, verdict_of}
 use Rattle.order_checker.specs.Steps.{required, walk, ◌>>=◌}
 use Rattle.order_checker.specs.Totals.{is_total}
 use Rattle.order_checker.specs.Windows.{window_told}
@@ -18,7 +18,7 @@ use Rattle.order_checker.specs.declared.verdicts.Verdict.TheVariants.{Agrees, Di
 use Rattle.printed_records.proofs.Heads.{head-printed}
 use Rattle.printed_records.proofs.Totals.{total-printed}
 use Rattle.printed_records.proofs.WindowTexts.{window-printed}
-use Rattle.printed_records.specs.Ends.{ends_of}
+use Rattle.printed_records.specs.Ends.{ends_told}
 use Rattle.printed_records.specs.FitWindows.{DayFits, WindowFits, home_before}
 use Rattle.printed_records.specs.Modes.{has_order, prints_order}
 use Rattle.routine_reader.specs.Rosters.{start_home}
@@ -55,7 +55,7 @@ module _ (script : Script) (mode : Mode) (trace : Bool) (records : List WindowRe
   windows-from : (front windows : List WindowText) (earlier later : List WindowRecord) (k runs committed : ℕ) (home : List Stand) (rest : List ℕ)
       → front ++ windows ≡ script.windows.items → earlier ++ later ≡ records → k ≡ length front → k ≡ length earlier → length windows ≡ length later
       → home ≡ home_before script records k → k + length windows < 2 ^ 32
-      → (last : List Stand) × (walk (next_window script)
+      → (last : List Stand) × (walk (next_window_told script)
       (record { windows = k; home = home; lines = lines_of (flat_map (λ (i, closed). window_text script i closed mode trace) (enumerate_from k later) ++ rest); runs = runs; committed = committed }) windows
       ≡ Ok (record { windows = k + length windows; home = last; lines = lines_of rest; runs = runs + (commit_count later + abort_count later); committed = committed + commit_count later }))
   unfolding walk commit_count abort_count window_text
@@ -74,7 +74,7 @@ module _ (script : Script) (mode : Mode) (trace : Bool) (records : List WindowRe
       ap (λ t. (t ++ more) ++ rest) own ∙ append_assoc (window_lines script k window closed mode trace) more rest in
       let printed = window-printed script k window closed mode trace home runs committed (more ++ rest) sound (window_sound script k window sound at) (not-weak mode.model mode.scheduler has) (omega (arith, few)) fit in
       let n = length window.runs.items in
-      let m = count_by is_some (ends_of window closed.history.items) in
+      let m = count_by is_some (ends_told window closed.history.items) in
       let next : home_before script records (k + 1) ≡ closed.last.devices.items =
       ap (home_before script records) {x = k + 1} {y = suc k} (omega arith) ∙ ap (λ o. unwrap_or (option_map (λ (c : WindowRecord). c.last.devices.items) o) []) record_at in
       let tail = windows-from (front ++ window ∷ []) windows (earlier ++ closed ∷ []) later (k + 1) (runs + n) (committed + m) closed.last.devices.items rest
@@ -86,8 +86,8 @@ module _ (script : Script) (mode : Mode) (trace : Bool) (records : List WindowRe
       let ran : runs + n + (sum_by commits later + sum_by aborts later) ≡ runs + (sum_by commits (closed ∷ later) + sum_by aborts (closed ∷ later)) = omega (arith, commits_are, aborts_are, fit.ended) in
       let did : committed + m + sum_by commits later ≡ committed + sum_by commits (closed ∷ later) = omega (arith, commits_are, fit.committed) in (
         tail.0,
-        ap (λ t. in_window (k + 1) (window_told script (record { windows = k; home = home; lines = lines_of t; runs = runs; committed = committed }) window) >>= (λ next. walk (next_window script) next windows)) text
-            ∙ ap (λ o. in_window (k + 1) o >>= (λ next. walk (next_window script) next windows)) printed
+        ap (λ t. in_window (k + 1) (window_told script (record { windows = k; home = home; lines = lines_of t; runs = runs; committed = committed }) window) >>= (λ next. walk (next_window_told script) next windows)) text
+            ∙ ap (λ o. in_window (k + 1) o >>= (λ next. walk (next_window_told script) next windows)) printed
             ∙ tail.1
             ∙ (λ i. Ok (record { windows = count i; home = tail.0; lines = lines_of rest; runs = ran i; committed = did i })),
       )
@@ -129,10 +129,10 @@ module _ (script : Script) (mode : Mode) (trace : Bool) (records : List WindowRe
       let ran : 0 + (commit_count records + abort_count records) ≡ commit_count records + abort_count records = omega arith in
       let did : 0 + commit_count records ≡ commit_count records = omega arith in
       ap (λ ls. verdict (required (is_head (line_at ls 0) (line_at ls 1)) (Differs 0 Head)
-      >>= (λ h. walk (next_window script) (first_progress script ls) windows
+      >>= (λ h. walk (next_window_told script) (first_progress script ls) windows
       >>= (λ last. required (is_total (record { windows = last.windows; runs = last.runs; committed = last.committed }) last.lines) (Differs last.windows Total))))) lines
       ∙ ap (λ b. verdict (required b (Differs 0 Head)
-      >>= (λ h. walk (next_window script) (record { windows = 0; home = start_home script; lines = lines_of (texts ++ rest); runs = 0; committed = 0 }) windows
+      >>= (λ h. walk (next_window_told script) (record { windows = 0; home = start_home script; lines = lines_of (texts ++ rest); runs = 0; committed = 0 }) windows
       >>= (λ last. required (is_total (record { windows = last.windows; runs = last.runs; committed = last.committed }) last.lines) (Differs last.windows Total))))) head.1.is
       ∙ ap (λ o. verdict (o >>= (λ last. required (is_total (record { windows = last.windows; runs = last.runs; committed = last.committed }) last.lines) (Differs last.windows Total)))) walked.1
       ∙ (λ i. verdict (required (is_total (record { windows = counted i; runs = ran i; committed = did i }) (lines_of rest)) (Differs (counted i) Total)))

@@ -16,7 +16,7 @@ use Rattle.history_book.specs.declared.entries.Entry.{Entry}
 use Rattle.history_book.specs.declared.entries.Kept.{Kept}
 use Rattle.legal_days.proofs.Lists.{count_cons}
 use Rattle.printed_records.proofs.CausesKept.{run-among}
-use Rattle.printed_records.specs.Ends.{ends_of, told_end}
+use Rattle.printed_records.specs.Ends.{ends_told, told_end}
 use Rattle.routine_reader.specs.declared.scripts.RunText.{RunText}
 use Rattle.routine_reader.specs.declared.scripts.WindowText.{WindowText}
 use Rattle.std.proofs.Common.{Bool, List, None, Option, Some, [], ap, ap₂, arith, cond, false, fold, length, map, refl, suc, sym, true, true≢false, zero, ℕ, ◌+◌, ◌<◌, ◌==◌, ◌≤◌, ◌∙◌, ◌≡◌, ◌∷◌}
@@ -201,8 +201,8 @@ told-from w h k (run ∷ runs) ok =
 
 -- the ends that are told are as many as the commits of the history
 pub ends-committed : (w : Setting) (window : WindowText) (h : List Kept) → IsWellFormed w (entries_of h) → length w.runs ≡ length window.runs.items
-    → count_by is_some (ends_of window h) ≡ count_by (λ kept. is_commit kept.entry) h
-unfolding ends_of
+    → count_by is_some (ends_told window h) ≡ count_by (λ kept. is_commit kept.entry) h
+unfolding ends_told
 ends-committed w window h ok same =
     told-from w h 1 window.runs.items ok
     ∙ ap (λ m. count_by (λ r. commits ((reading w (entries_of h)).run r).ended) (range_with_len 1 m)) (sym same)

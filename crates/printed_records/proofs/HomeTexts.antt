@@ -4,7 +4,7 @@ use Rattle.day_report.specs.Words.{value_text}
 use Rattle.home_types.specs.HomeStates.{stand_at}
 use Rattle.home_types.specs.Kinds.{has_value}
 use Rattle.home_types.specs.declared.worlds.Stand.{Stand}
-use Rattle.order_checker.specs.HomeLines.{home_told, home_words_told, next_stand, stand_of, stand_written, stands_told}
+use Rattle.order_checker.specs.HomeLines.{home_told, home_words_told, next_stand, stand_by_word, stand_written, stands_told}
 use Rattle.order_checker.specs.Lines.{lines_of}
 use Rattle.order_checker.specs.Steps.{required, walk, ◌>>=◌}
 use Rattle.order_checker.specs.Words.{cut_at, is_none_word}
@@ -53,8 +53,8 @@ stand-written device value false sound has =
 
 -- the word of a device is read as where it stands
 pub stand-read : (device : DeviceText) (stand : Stand) → IsSoundDevice (plain_device device) → has_value device.kind stand.value ≡ true
-    → stand_of device (stand_text device stand) ≡ Some stand
-unfolding stand_of
+    → stand_by_word device (stand_text device stand) ≡ Some stand
+unfolding stand_by_word
 stand-read device stand sound has =
     let back = value_text device.states.items stand.value ++ mark stand in
     let plain : IsPlain device.name = name-plain device.name sound.name in
@@ -88,7 +88,7 @@ stand_texts [] home = []
 stand_texts (device ∷ devices) [] = []
 stand_texts (device ∷ devices) (stand ∷ home) = stand_text device stand ∷ stand_texts devices home
 
-texts-read : (devices : List DeviceText) (home : List Stand) → StandWell devices home → AreRead stand_of devices (stand_texts devices home) home
+texts-read : (devices : List DeviceText) (home : List Stand) → StandWell devices home → AreRead stand_by_word devices (stand_texts devices home) home
 texts-read [] [] well = tt
 texts-read [] (stand ∷ home) well = absurd well
 texts-read (device ∷ devices) [] well = absurd well
@@ -153,10 +153,10 @@ home-texts-told (device ∷ devices) home well =
     let words = stand_texts all home in
     let read = texts-read all home well in
     let some : (length all == 0) ≡ false = grind (arith, common_steps) in
-    let as_many : (length words == length all) ≡ true = grind (arith, common_steps, read-length stand_of all words home read) in
+    let as_many : (length words == length all) ≡ true = grind (arith, common_steps, read-length stand_by_word all words home read) in
     ap (λ b. if b then (required (is_none_word words) Home >>= (λ nothing. Ok [])) else (required (length words == length all) Home >>= (λ as_many. walk (next_stand words) [] all))) some
     ∙ ap (λ b. required b Home >>= (λ as_many. walk (next_stand words) [] all)) as_many
-    ∙ reads stand_of Home all words home read
+    ∙ reads stand_by_word Home all words home read
 
 pub home-printed : (devices : List DeviceText) (home : List Stand) → StandWell devices home → (line : List ℕ) × IsHomeLine devices home line
 home-printed devices home well =

@@ -30,7 +30,7 @@ use Rattle.printed_records.proofs.SerialAnswers.{AreTold, behind_is}
 use Rattle.printed_records.proofs.StandingItems.{IsHomed, IsOrderOf, all_stand, items_stand, ran_committed}
 use Rattle.printed_records.proofs.ToldEnds.{told_at}
 use Rattle.printed_records.proofs.ValuesKept.{items-values, script-filled, values-length, window-suits}
-use Rattle.printed_records.specs.Ends.{ends_of}
+use Rattle.printed_records.specs.Ends.{ends_told}
 use Rattle.printed_records.specs.FitWindows.{HaveValues, order_setting}
 use Rattle.printed_records.specs.Fits.{AllStand, ItemsMayStand, RunFits, plain_item}
 use Rattle.printed_records.specs.SmallTimes.{CausesAreSmall, IsSmall}
@@ -92,7 +92,7 @@ module _ (script : Script) (mode : Mode) (home : List Stand) (window : WindowTex
   abbrev n : Reading
   n = reading w (entries_of history)
 
-  same : (r : ℕ) → checked.is_committed (ends_of window history) r ≡ is_committed n r
+  same : (r : ℕ) → checked.is_told_committed (ends_told window history) r ≡ is_committed n r
   same r = same_committed w window (run_of_text script) history r legal.well_formed refl
 
   kind_count : length home ≡ length (kinds_of script)
@@ -113,15 +113,15 @@ module _ (script : Script) (mode : Mode) (home : List Stand) (window : WindowTex
   pub items_fit : ItemsMayStand (order_setting script home window closed) [] closed.order.items
   items_fit = items_stand (order_setting script home window closed) (kinds_of script) closed.order.items is_order
 
-  stood : (k : ℕ) (told : Option (List Answer)) → slice_get (ends_of window history) k ≡ Some told → is_none told ≡ false → checked.is_committed (ends_of window history) (k + 1) ≡ true
+  stood : (k : ℕ) (told : Option (List Answer)) → slice_get (ends_told window history) k ≡ Some told → is_none told ≡ false → checked.is_told_committed (ends_told window history) (k + 1) ≡ true
   stood k None at some = absurd (cc)
-  stood k (Some answers) at some = let next : k + 1 ≡ suc k = omega arith in ap (checked.is_committed (ends_of window history)) next ∙ ap is_some (told_at (ends_of window history) k) ∙ ap (λ o. is_some (option_and_then (λ x. x) o)) at
+  stood k (Some answers) at some = let next : k + 1 ≡ suc k = omega arith in ap (checked.is_told_committed (ends_told window history)) next ∙ ap is_some (told_at (ends_told window history) k) ∙ ap (λ o. is_some (option_and_then (λ x. x) o)) at
 
   -- each committed run stands among them
-  pub all_fit : AllStand (map plain_item closed.order.items) 0 (ends_of window history)
+  pub all_fit : AllStand (map plain_item closed.order.items) 0 (ends_told window history)
   all_fit = all_stand (order_setting script home window closed) (kinds_of script) closed.order.items is_order stood
 
-  told_from : (front back : List Item) → front ++ back ≡ closed.order.items → AreTold n (ends_of window history) back
+  told_from : (front back : List Item) → front ++ back ≡ closed.order.items → AreTold n (ends_told window history) back
   told_from front [] there = tt
   told_from front (Ran r ∷ back) there = (
     told_whole w window (run_of_text script) history r.0 legal.well_formed refl
@@ -132,9 +132,9 @@ module _ (script : Script) (mode : Mode) (home : List Stand) (window : WindowTex
   told_from front (Back d k ∷ back) there = told_from (front ++ Back d k ∷ []) back (append_assoc front (Back d k ∷ []) back ∙ there)
 
   -- the serial execution answers what is printed, and leaves the last home
-  pub serial_fits : home_behind w.runs (kinds_of script) (ends_of window history) home (map plain_item closed.order.items) ≡ Ok closed.last.devices.items
+  pub serial_fits : home_behind w.runs (kinds_of script) (ends_told window history) home (map plain_item closed.order.items) ≡ Ok closed.last.devices.items
   serial_fits =
-      behind_is w.runs (kinds_of script) n (ends_of window history) home closed.last.devices.items closed.order.items
+      behind_is w.runs (kinds_of script) n (ends_told window history) home closed.last.devices.items closed.order.items
       legal.agrees.applies legal.agrees.answers legal.agrees.home (told_from [] closed.order.items refl)
 
   -- .. in which each device has a value of its kind

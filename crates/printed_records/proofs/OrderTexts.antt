@@ -8,7 +8,7 @@ use Rattle.home_types.specs.declared.modes.Visibility.TheVariants.{Eventual, Glo
 use Rattle.home_types.specs.declared.modes.Visibility.{Visibility}
 use Rattle.order_checker.specs.Lines.{lines_of}
 use Rattle.order_checker.specs.OrderLines.{OrderSetting, event_device, failure_item, is_up_behind, item_of, items_told, may_run, name_in, next_item, next_stands, order_line_told, order_place, order_told, order_words_told, restart_item}
-use Rattle.order_checker.specs.RunLines.{is_committed}
+use Rattle.order_checker.specs.RunLines.{is_told_committed}
 use Rattle.order_checker.specs.Steps.{required, walk, ◌>>=◌}
 use Rattle.order_checker.specs.Values.{device_named}
 use Rattle.order_checker.specs.Words.{cut_at, number_of}
@@ -97,7 +97,7 @@ told-few (told ∷ ends) zero some = omega arith
 told-few (told ∷ ends) (suc i) some = let rest = told-few ends i some in omega arith
 
 -- a committed run is one of those whose ends are told
-committed-few : (ends : List (Option (List Answer))) (r : ℕ) → is_committed ends r ≡ true → r ≤ length ends
+committed-few : (ends : List (Option (List Answer))) (r : ℕ) → is_told_committed ends r ≡ true → r ≤ length ends
 committed-few ends zero committed = omega arith
 committed-few ends (suc i) committed = let within = told-few ends i (sym (ap is_some (told_at ends i)) ∙ committed) in omega arith
 

@@ -1,6 +1,6 @@
 -- The line of a run, read again.
 use Rattle.command_rules.specs.Rosters.{run_no}
-use Rattle.day_report.specs.Lines.{end_text, run_line}
+use Rattle.day_report.specs.Lines.{end_text, line_of_run}
 use Rattle.history_book.specs.Books.{end_of}
 use Rattle.history_book.specs.declared.entries.End.TheVariants.{Aborted, Committed}
 use Rattle.history_book.specs.declared.entries.End.{End}
@@ -19,10 +19,10 @@ use Rattle.printed_records.proofs.Names.{name-word, sound-routine}
 use Rattle.printed_records.proofs.Numerals.{decimal-word, is_number-decimal}
 use Rattle.printed_records.proofs.Plain.{AreWords, IsWord, word-seen}
 use Rattle.printed_records.proofs.Runs.{IsRunOf, name-checked, name-printed, routine-commands, run-commands}
-use Rattle.printed_records.specs.Ends.{answers_in, numbered_answers, told_end}
+use Rattle.printed_records.specs.Ends.{answers_of_run, numbered_answers, told_end}
 use Rattle.printed_records.specs.Fits.{EndFits, RunFits}
 use Rattle.printed_records.specs.Typed.{AreTyped}
-use Rattle.routine_reader.specs.Rosters.{kinds_of, routine_at, run_of_text}
+use Rattle.routine_reader.specs.Rosters.{kinds_of, routine_commands, run_of_text}
 use Rattle.routine_reader.specs.Scripts.{plain_script}
 use Rattle.routine_reader.specs.Sound.{IsSound}
 use Rattle.routine_reader.specs.declared.scripts.RoutineText.{RoutineText}
@@ -52,8 +52,8 @@ line-parts number name end = simp append_assoc
 
 -- the line of a run, in front of others: it tells how the run ended
 pub record IsRunLine (script : Script) (window : WindowText) (history : List Kept) (r routine : ℕ) (line : List ℕ) : Type 0 where
-  pub lines : (rest : List ℕ) → lines_of (run_line script window history r routine ++ rest) ≡ Some line ∷ lines_of rest
-  pub told : run_told script.devices.items (length window.runs.items) r (checked.routine_name script routine) (routine_at script routine) (Some line)
+  pub lines : (rest : List ℕ) → lines_of (line_of_run script window history r routine ++ rest) ≡ Some line ∷ lines_of rest
+  pub told : run_told script.devices.items (length window.runs.items) r (checked.named_routine script routine) (routine_commands script routine) (Some line)
       ≡ Ok (told_end r history (end_of history r))
 
 module _ (script : Script) (window : WindowText) (r : ℕ) (run : RunText) (routine : RoutineText) (sound : IsSound (plain_script script)) (is : IsRunOf script window r run routine) where
@@ -66,7 +66,7 @@ module _ (script : Script) (window : WindowText) (r : ℕ) (run : RunText) (rout
       ≡ (required (is_number r (decimal r) && bytes_eq routine.name routine.name) (place.Run (run_no r)) >>= (λ this_run. Ok (told_end r history (Some end)))))
   unfolding run_words_told end_told
   end-told history Committed few_runs fits =
-      let answers = answers_in r history in
+      let answers = answers_of_run r history in
       let commands = routine.routine.commands.items in
       let typed : AreTyped (kinds_of script) commands answers =
       subst (λ cs. AreTyped (kinds_of script) cs answers) (run-commands script window r run routine is) fits.1 in
@@ -83,8 +83,8 @@ module _ (script : Script) (window : WindowText) (r : ℕ) (run : RunText) (rout
       )
 
   run-spaced : (history : List Kept) (end : End) → end_of history r ≡ Some end
-      → run_line script window history r run.routine ≡ codes "run" ++ spaced (decimal r ∷ routine.name ∷ end_words script window history r end) (10 ∷ [])
-  unfolding run_line
+      → line_of_run script window history r run.routine ≡ codes "run" ++ spaced (decimal r ∷ routine.name ∷ end_words script window history r end) (10 ∷ [])
+  unfolding line_of_run
   run-spaced history end ended =
       ap₂ (λ n e. codes "run " ++ decimal r ++ codes " " ++ n ++ end_text script window history r e ++ codes "\n") (name-printed script window r run routine is) ended
       ∙ line-parts (decimal r) routine.name (end_text script window history r (Some end))

@@ -7,7 +7,7 @@ use Rattle.home_types.specs.declared.commands.Command.{Command}
 use Rattle.home_types.specs.declared.kinds.Kind.TheVariants.{States}
 use Rattle.order_checker.specs.Windows as checked
 use Rattle.printed_records.proofs.Names.{sound-routine}
-use Rattle.routine_reader.specs.Rosters.{kinds_of, routine_at, run_of_text}
+use Rattle.routine_reader.specs.Rosters.{kinds_of, routine_commands, run_of_text}
 use Rattle.routine_reader.specs.Scripts.{plain_device, plain_script}
 use Rattle.routine_reader.specs.Sound.{IsSound, IsSoundCommand}
 use Rattle.routine_reader.specs.declared.scripts.DeviceText.{DeviceText}
@@ -40,12 +40,12 @@ run-commands script window (suc i) run routine is =
     ∙ ap (λ o. unwrap_or (option_map (λ (t : RoutineText). t.routine.commands.items) o) []) is.routine_is
 
 pub routine-commands : (script : Script) (window : WindowText) (r : ℕ) (run : RunText) (routine : RoutineText) → IsRunOf script window r run routine
-    → routine_at script run.routine ≡ routine.routine.commands.items
+    → routine_commands script run.routine ≡ routine.routine.commands.items
 routine-commands script window r run routine is = ap (λ o. unwrap_or (option_map (λ (t : RoutineText). t.routine.commands.items) o) []) is.routine_is
 
 -- the name of its routine
 pub name-checked : (script : Script) (window : WindowText) (r : ℕ) (run : RunText) (routine : RoutineText) → IsRunOf script window r run routine
-    → checked.routine_name script run.routine ≡ routine.name
+    → checked.named_routine script run.routine ≡ routine.name
 name-checked script window r run routine is = ap (λ o. unwrap_or (option_map (λ (t : RoutineText). t.name) o) []) is.routine_is
 
 pub name-printed : (script : Script) (window : WindowText) (r : ℕ) (run : RunText) (routine : RoutineText) → IsRunOf script window r run routine

@@ -19,8 +19,8 @@ use Rattle.home_types.specs.declared.kinds.Kind.{Kind}
 use Rattle.home_types.specs.declared.numbers.DeviceNo.{DeviceNo}
 use Rattle.home_types.specs.declared.numbers.RunNo.{RunNo}
 use Rattle.home_types.specs.declared.worlds.Stand.{Stand}
-use Rattle.order_checker.specs.OrderLines.{OrderSetting, is_up_behind, may_run, with_event}
-use Rattle.order_checker.specs.RunLines.{is_committed}
+use Rattle.order_checker.specs.OrderLines.{OrderSetting, home_with_event, is_up_behind, may_run}
+use Rattle.order_checker.specs.RunLines.{is_told_committed}
 use Rattle.printed_records.proofs.SerialAnswers.{served_first}
 use Rattle.printed_records.specs.Fits.{AllStand, ItemsMayStand, MayStand, plain_item}
 use Rattle.std.proofs.Common.{ap, append_assoc, arith, refl, subst, sym, ◌∙◌}
@@ -91,17 +91,17 @@ routine_keeps kinds x other (c ∷ commands) same =
     routine_keeps kinds (execute kinds x c) other commands
     (set_keeps x.home other c.device.0 _ (effect_keeps (kind_at kinds c.device.0) c.when c.job x.register (stand_at x.home c.device.0)) same)
 
-item_keeps : (runs : List Run) (kinds : List Kind) (s : SerialRun) (other : List Stand) (item : Item) → SameUps s.home other → SameUps (serve runs kinds s item).home (with_event other item)
+item_keeps : (runs : List Run) (kinds : List Kind) (s : SerialRun) (other : List Stand) (item : Item) → SameUps s.home other → SameUps (serve runs kinds s item).home (home_with_event other item)
 item_keeps runs kinds s other (Ran r) same = routine_keeps kinds (record { home = s.home; register = 0; answers = []; refused = false }) other (commands_of runs r.0) same
 item_keeps runs kinds s other (Failed d k) same = set_alike s.home other d.0 _ _ refl same
 item_keeps runs kinds s other (Back d k) same = set_alike s.home other d.0 _ _ refl same
 
-items_keep : (runs : List Run) (kinds : List Kind) (s : SerialRun) (other : List Stand) (items : List Item) → SameUps s.home other → SameUps (fold (serve runs kinds) s items).home (fold with_event other items)
+items_keep : (runs : List Run) (kinds : List Kind) (s : SerialRun) (other : List Stand) (items : List Item) → SameUps s.home other → SameUps (fold (serve runs kinds) s items).home (fold home_with_event other items)
 items_keep runs kinds s other [] same = same
-items_keep runs kinds s other (item ∷ items) same = items_keep runs kinds (serve runs kinds s item) (with_event other item) items (item_keeps runs kinds s other item same)
+items_keep runs kinds s other (item ∷ items) same = items_keep runs kinds (serve runs kinds s item) (home_with_event other item) items (item_keeps runs kinds s other item same)
 
 -- .. without the numbers of the events
-events_alike : (home : List Stand) (items : List Item) → fold with_event home (map plain_item items) ≡ fold with_event home items
+events_alike : (home : List Stand) (items : List Item) → fold home_with_event home (map plain_item items) ≡ fold home_with_event home items
 events_alike home [] = refl
 events_alike home (Ran r ∷ items) = events_alike home items
 events_alike home (Failed d k ∷ items) = events_alike (with_up home d.0 false) items
@@ -117,7 +117,7 @@ starts home = record { home = home; answers = []; refused = false }
 
 up_there : (runs : List Run) (kinds : List Kind) (home : List Stand) (front : List Item) (d : ℕ) → (stand_at (fold (serve runs kinds) (starts home) front).home d).up ≡ is_up_behind home (map plain_item front) d
 up_there runs kinds home front d =
-    up_alike (fold (serve runs kinds) (starts home) front).home (fold with_event home front) d (items_keep runs kinds (starts home) home front (same_ups home))
+    up_alike (fold (serve runs kinds) (starts home) front).home (fold home_with_event home front) d (items_keep runs kinds (starts home) home front (same_ups home))
     ∙ ap (λ h. (stand_at h d).up) (sym (events_alike home front))
 
 -- the execution behind these items and one more is not refused
@@ -214,19 +214,19 @@ IsHomed devices (Back d k) = d.0 < devices
 -- the order is one of the window
 pub record IsOrderOf (w : OrderSetting) (kinds : List Kind) (order : List Item) : Type 0 where
   pub calm : (fold (serve w.runs kinds) (record { home = w.home; answers = []; refused = false }) order).refused ≡ false
-  pub once : (r : ℕ) → count_by (is_ran r) order ≡ (if is_committed w.ends r then 1 else 0)
-  pub following : (r f : ℕ) → IsTrue (follows w.runs r f && is_committed w.ends r && is_committed w.ends f) → IsTrue (list_any (is_ran r) (behind f order))
+  pub once : (r : ℕ) → count_by (is_ran r) order ≡ (if is_told_committed w.ends r then 1 else 0)
+  pub following : (r f : ℕ) → IsTrue (follows w.runs r f && is_told_committed w.ends r && is_told_committed w.ends f) → IsTrue (list_any (is_ran r) (behind f order))
   pub homed : (front : List Item) (item : Item) (back : List Item) → front ++ item ∷ back ≡ order → IsHomed (length w.devices) item
 
 -- a run of the order is committed
 pub ran_committed : (w : OrderSetting) (kinds : List Kind) (order : List Item) (front : List Item) (r : RunNo) (back : List Item)
-    → IsOrderOf w kinds order → front ++ Ran r ∷ back ≡ order → is_committed w.ends r.0 ≡ true
-ran_committed w kinds order front r back is there = of_bool (is_committed w.ends r.0) refl
+    → IsOrderOf w kinds order → front ++ Ran r ∷ back ≡ order → is_told_committed w.ends r.0 ≡ true
+ran_committed w kinds order front r back is there = of_bool (is_told_committed w.ends r.0) refl
   where
-    counted : count_by (is_ran r.0) (front ++ Ran r ∷ back) ≡ (if is_committed w.ends r.0 then 1 else 0)
+    counted : count_by (is_ran r.0) (front ++ Ran r ∷ back) ≡ (if is_told_committed w.ends r.0 then 1 else 0)
     counted = ap (λ items. count_by (is_ran r.0) items) there ∙ is.once r.0
 
-    of_bool : (b : Bool) → is_committed w.ends r.0 ≡ b → is_committed w.ends r.0 ≡ true
+    of_bool : (b : Bool) → is_told_committed w.ends r.0 ≡ b → is_told_committed w.ends r.0 ≡ true
     of_bool true e = e
     of_bool false e =
         let own : (r.0 == r.0) ≡ true = grind (arith, common_steps) in
@@ -242,13 +242,13 @@ run_stands w kinds order front r back is there =
     let next = after_followed (followed_by w.runs r.0) refl in
     rw committed (rw first next)
   where
-    committed : is_committed w.ends r.0 ≡ true
+    committed : is_told_committed w.ends r.0 ≡ true
     committed = ran_committed w kinds order front r back is there
 
     alone : StandsApart r.0 front back
     alone = apart r front back (ap (λ items. count_by (is_ran r.0) items) there ∙ is.once r.0 ∙ ap (λ b. if b then 1 else 0) committed)
 
-    after_committed : (f : RunNo) → followed_by w.runs r.0 ≡ Some f → (b : Bool) → is_committed w.ends f.0 ≡ b → (not b || list_any (is_ran f.0) (map plain_item front)) ≡ true
+    after_committed : (f : RunNo) → followed_by w.runs r.0 ≡ Some f → (b : Bool) → is_told_committed w.ends f.0 ≡ b → (not b || list_any (is_ran f.0) (map plain_item front)) ≡ true
     after_committed f followed false e = refl
     after_committed f followed true e =
         let same : (f.0 == f.0) ≡ true = grind (arith, common_steps) in
@@ -258,9 +258,9 @@ run_stands w kinds order front r back is there =
         (ap (λ items. list_any (is_ran r.0) (behind f.0 items)) there ∙ grind (arith, common_steps, is.following r.0 f.0))
 
     after_followed : (followed : Option RunNo) → followed_by w.runs r.0 ≡ followed
-        → option_map_or (λ f. not (is_committed w.ends f.0) || list_any (is_ran f.0) (map plain_item front)) followed true ≡ true
+        → option_map_or (λ f. not (is_told_committed w.ends f.0) || list_any (is_ran f.0) (map plain_item front)) followed true ≡ true
     after_followed None e = refl
-    after_followed (Some f) e = after_committed f e (is_committed w.ends f.0) refl
+    after_followed (Some f) e = after_committed f e (is_told_committed w.ends f.0) refl
 
 item_stands : (w : OrderSetting) (kinds : List Kind) (order : List Item) (front : List Item) (item : Item) (back : List Item)
     → IsOrderOf w kinds order → front ++ item ∷ back ≡ order → MayStand w (map plain_item front) item
@@ -300,20 +300,20 @@ any_once p items one = of_bool (list_any p items) refl
     of_bool false e = let none = none_any p items e in absurd (omega (arith, none, one))
 
 all_from : (w : OrderSetting) (kinds : List Kind) (order : List Item) (r : ℕ) (ends : List (Option (List Answer))) → IsOrderOf w kinds order
-    → ((k : ℕ) (told : Option (List Answer)) → slice_get ends k ≡ Some told → is_none told ≡ false → is_committed w.ends (r + k + 1) ≡ true) → AllStand (map plain_item order) r ends
+    → ((k : ℕ) (told : Option (List Answer)) → slice_get ends k ≡ Some told → is_none told ≡ false → is_told_committed w.ends (r + k + 1) ≡ true) → AllStand (map plain_item order) r ends
 unfolding AllStand
 all_from w kinds order r [] is told = tt
 all_from w kinds order r (None ∷ ends) is told =
-    (refl, all_from w kinds order (r + 1) ends is (λ k t at some. let same : r + 1 + k + 1 ≡ r + suc k + 1 = omega arith in ap (is_committed w.ends) same ∙ told (suc k) t at some))
+    (refl, all_from w kinds order (r + 1) ends is (λ k t at some. let same : r + 1 + k + 1 ≡ r + suc k + 1 = omega arith in ap (is_told_committed w.ends) same ∙ told (suc k) t at some))
 all_from w kinds order r (Some answers ∷ ends) is told =
-    let here : is_committed w.ends (r + 1) ≡ true = let same : r + 1 ≡ r + 0 + 1 = omega arith in ap (is_committed w.ends) same ∙ told 0 (Some answers) refl refl in
+    let here : is_told_committed w.ends (r + 1) ≡ true = let same : r + 1 ≡ r + 0 + 1 = omega arith in ap (is_told_committed w.ends) same ∙ told 0 (Some answers) refl refl in
     let one : count_by (is_ran (r + 1)) order ≡ 1 = is.once (r + 1) ∙ ap (λ b. if b then 1 else 0) here in (
       any_plain (r + 1) order ∙ any_once (is_ran (r + 1)) order one,
-      all_from w kinds order (r + 1) ends is (λ k t at some. let same : r + 1 + k + 1 ≡ r + suc k + 1 = omega arith in ap (is_committed w.ends) same ∙ told (suc k) t at some),
+      all_from w kinds order (r + 1) ends is (λ k t at some. let same : r + 1 + k + 1 ≡ r + suc k + 1 = omega arith in ap (is_told_committed w.ends) same ∙ told (suc k) t at some),
     )
 
 -- each committed run stands in the order
 pub all_stand : (w : OrderSetting) (kinds : List Kind) (order : List Item) → IsOrderOf w kinds order
-    → ((k : ℕ) (told : Option (List Answer)) → slice_get w.ends k ≡ Some told → is_none told ≡ false → is_committed w.ends (k + 1) ≡ true) → AllStand (map plain_item order) 0 w.ends
+    → ((k : ℕ) (told : Option (List Answer)) → slice_get w.ends k ≡ Some told → is_none told ≡ false → is_told_committed w.ends (k + 1) ≡ true) → AllStand (map plain_item order) 0 w.ends
 all_stand w kinds order is told =
-    all_from w kinds order 0 w.ends is (λ k t at some. let same : 0 + k + 1 ≡ k + 1 = omega arith in ap (is_committed w.ends) same ∙ told k t at some)
+    all_from w kinds order 0 w.ends is (λ k t at some. let same : 0 + k + 1 ≡ k + 1 = omega arith in ap (is_told_committed w.ends) same ∙ told k t at some)

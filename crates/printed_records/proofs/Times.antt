@@ -37,11 +37,11 @@ split n m = which (nat_lt n m) refl
     which false is = inr (grind (arith, common_steps))
 
 -- two digits are printed as they are checked
-two-same : (n : ℕ) → n < 100 → printed.two_digits n ≡ checked.two_digits n
+two-same : (n : ℕ) → n < 100 → printed.two_digits n ≡ checked.digit_pair n
 unfolding printed.two_digits
 two-same n below = by (split n 10)
   where
-    by : (n < 10) ⊎ (10 ≤ n) → printed.two_digits n ≡ checked.two_digits n
+    by : (n < 10) ⊎ (10 ≤ n) → printed.two_digits n ≡ checked.digit_pair n
     by (inl one) =
         let tens : n / 10 ≡ 0 = omega arith in
         let ones : n % 10 ≡ n = omega arith in
@@ -49,14 +49,14 @@ two-same n below = by (split n 10)
     by (inr two) = ap₂ (λ a b. a ++ b) (no-zero 10 n two) (two-decimal n two below)
 
 abbrev four : ℕ → List ℕ
-four n = checked.two_digits (n / 100) ++ checked.two_digits (n % 100)
+four n = checked.digit_pair (n / 100) ++ checked.digit_pair (n % 100)
 
 -- and so are four
 four-same : (n : ℕ) → n < 10000 → printed.four_digits n ≡ four n
 unfolding printed.four_digits printed.two_digits
 four-same n below = by (split n 100)
   where
-    last : (100 ≤ n) → decimal n ≡ decimal (n / 100) ++ checked.two_digits (n % 100)
+    last : (100 ≤ n) → decimal n ≡ decimal (n / 100) ++ checked.digit_pair (n % 100)
     last above =
         let tens : n / 10 / 10 ≡ n / 100 = omega arith in
         let a : n / 10 % 10 ≡ n % 100 / 10 = omega arith in
@@ -73,20 +73,20 @@ four-same n below = by (split n 100)
         let rest : n % 100 ≡ n = omega arith in
         ap₂ (λ a b. a ++ b ++ printed.two_digits n) (one-zero 1000 n (omega arith)) (one-zero 100 n small)
         ∙ ap (λ ds. 48 ∷ 48 ∷ ds) (two-same n small)
-        ∙ ap₂ (λ a b. checked.two_digits a ++ checked.two_digits b) (sym hundreds) (sym rest)
+        ∙ ap₂ (λ a b. checked.digit_pair a ++ checked.digit_pair b) (sym hundreds) (sym rest)
 
     three : (100 ≤ n) → (n < 1000) → printed.four_digits n ≡ four n
     three above small =
         let tens : n / 100 / 10 ≡ 0 = omega arith in
         let ones : n / 100 % 10 ≡ n / 100 = omega arith in
         ap₂ (λ a b. a ++ b ++ printed.two_digits n) (one-zero 1000 n small) (no-zero 100 n above)
-        ∙ ap₂ (λ a b. 48 ∷ (a ++ b)) (no-zero 10 n (omega arith)) (last above ∙ ap (λ ds. ds ++ checked.two_digits (n % 100)) (decimal_digit (n / 100) (omega arith)))
-        ∙ ap₂ (λ a b. digit a ∷ digit b ∷ checked.two_digits (n % 100)) (sym tens) (sym ones)
+        ∙ ap₂ (λ a b. 48 ∷ (a ++ b)) (no-zero 10 n (omega arith)) (last above ∙ ap (λ ds. ds ++ checked.digit_pair (n % 100)) (decimal_digit (n / 100) (omega arith)))
+        ∙ ap₂ (λ a b. digit a ∷ digit b ∷ checked.digit_pair (n % 100)) (sym tens) (sym ones)
 
     more : (1000 ≤ n) → printed.four_digits n ≡ four n
     more above =
         ap₂ (λ a b. a ++ b ++ printed.two_digits n) (no-zero 1000 n above) (no-zero 100 n (omega arith))
-        ∙ ap₂ (λ a b. a ++ b) (no-zero 10 n (omega arith)) (last (omega arith) ∙ ap (λ ds. ds ++ checked.two_digits (n % 100)) (two-decimal (n / 100) (omega arith) (omega arith)))
+        ∙ ap₂ (λ a b. a ++ b) (no-zero 10 n (omega arith)) (last (omega arith) ∙ ap (λ ds. ds ++ checked.digit_pair (n % 100)) (two-decimal (n / 100) (omega arith) (omega arith)))
 
     by_hundreds : (100 ≤ n) → (n < 1000) ⊎ (1000 ≤ n) → printed.four_digits n ≡ four n
     by_hundreds above (inl small) = three above small
@@ -97,7 +97,7 @@ four-same n below = by (split n 100)
     by (inr above) = by_hundreds above (split n 1000)
 
 -- a time is printed as it is checked
-pub time-same : (at : When) → IsCivilTime at → printed.time_text at ≡ checked.time_text at
+pub time-same : (at : When) → IsCivilTime at → printed.time_text at ≡ checked.written_time at
 unfolding printed.time_text
 time-same at civil =
     ap₂ (λ a b. a ++ codes ":" ++ b)
@@ -113,21 +113,21 @@ time-same at civil =
 digit-plain : (d : ℕ) → d < 10 → is_plain (digit d) ≡ true
 digit-plain d small = grind (arith, common_steps)
 
-two-plain : (n : ℕ) → n < 100 → IsPlain (checked.two_digits n)
+two-plain : (n : ℕ) → n < 100 → IsPlain (checked.digit_pair n)
 two-plain n small =
     ap₂ (λ a b. a && (b && true)) (digit-plain (n / 10) (omega arith)) (digit-plain (n % 10) (omega arith))
 
-pub time-plain : (at : When) → IsCivilTime at → IsPlain (checked.time_text at)
+pub time-plain : (at : When) → IsCivilTime at → IsPlain (checked.written_time at)
 time-plain at civil =
     let year : IsPlain (four at.year) =
-    plain-append (checked.two_digits (at.year / 100)) (checked.two_digits (at.year % 100)) (two-plain (at.year / 100) (omega (arith, civil.year))) (two-plain (at.year % 100) (omega arith)) in
-    let month = plain-append (four at.year ++ codes "-") (checked.two_digits at.month) (plain-append (four at.year) (codes "-") year refl) (two-plain at.month (omega (arith, civil.month.1))) in
-    let day = plain-append (four at.year ++ codes "-" ++ checked.two_digits at.month ++ codes "-") (checked.two_digits at.day) (plain-append (four at.year ++ codes "-" ++ checked.two_digits at.month) (codes "-") month refl) (two-plain at.day (omega (arith, civil.day.1))) in
-    let date = four at.year ++ codes "-" ++ checked.two_digits at.month ++ codes "-" ++ checked.two_digits at.day in
-    let hour = plain-append (date ++ codes "T") (checked.two_digits at.hour) (plain-append date (codes "T") day refl) (two-plain at.hour (omega (arith, civil.hour))) in
-    let minute = plain-append (date ++ codes "T" ++ checked.two_digits at.hour ++ codes ":") (checked.two_digits at.minute) (plain-append (date ++ codes "T" ++ checked.two_digits at.hour) (codes ":") hour refl) (two-plain at.minute (omega (arith, civil.minute))) in
-    plain-append (date ++ codes "T" ++ checked.two_digits at.hour ++ codes ":" ++ checked.two_digits at.minute ++ codes ":") (checked.two_digits at.second)
-    (plain-append (date ++ codes "T" ++ checked.two_digits at.hour ++ codes ":" ++ checked.two_digits at.minute) (codes ":") minute refl) (two-plain at.second (omega (arith, civil.second)))
+    plain-append (checked.digit_pair (at.year / 100)) (checked.digit_pair (at.year % 100)) (two-plain (at.year / 100) (omega (arith, civil.year))) (two-plain (at.year % 100) (omega arith)) in
+    let month = plain-append (four at.year ++ codes "-") (checked.digit_pair at.month) (plain-append (four at.year) (codes "-") year refl) (two-plain at.month (omega (arith, civil.month.1))) in
+    let day = plain-append (four at.year ++ codes "-" ++ checked.digit_pair at.month ++ codes "-") (checked.digit_pair at.day) (plain-append (four at.year ++ codes "-" ++ checked.digit_pair at.month) (codes "-") month refl) (two-plain at.day (omega (arith, civil.day.1))) in
+    let date = four at.year ++ codes "-" ++ checked.digit_pair at.month ++ codes "-" ++ checked.digit_pair at.day in
+    let hour = plain-append (date ++ codes "T") (checked.digit_pair at.hour) (plain-append date (codes "T") day refl) (two-plain at.hour (omega (arith, civil.hour))) in
+    let minute = plain-append (date ++ codes "T" ++ checked.digit_pair at.hour ++ codes ":") (checked.digit_pair at.minute) (plain-append (date ++ codes "T" ++ checked.digit_pair at.hour) (codes ":") hour refl) (two-plain at.minute (omega (arith, civil.minute))) in
+    plain-append (date ++ codes "T" ++ checked.digit_pair at.hour ++ codes ":" ++ checked.digit_pair at.minute ++ codes ":") (checked.digit_pair at.second)
+    (plain-append (date ++ codes "T" ++ checked.digit_pair at.hour ++ codes ":" ++ checked.digit_pair at.minute) (codes ":") minute refl) (two-plain at.second (omega (arith, civil.second)))
 
 -- the first line of a window, in front of the others, is one of the window of this number and time
 pub record IsWindowLine (k : ℕ) (at : When) (line : List ℕ) : Type 0 where
@@ -142,10 +142,10 @@ pub window-line : (k : ℕ) (at : When) → IsCivilTime at → k + 1 < 2 ^ 64 �
 window-line k at civil small =
     let words = decimal (k + 1) ∷ printed.time_text at ∷ [] in
     let first : IsWord (codes "window") = word-seen (codes "window") refl refl in
-    let time : IsWord (printed.time_text at) = subst IsWord (sym (time-same at civil)) (word-plain (checked.time_text at) (time-plain at civil)) in
+    let time : IsWord (printed.time_text at) = subst IsWord (sym (time-same at civil)) (word-plain (checked.written_time at) (time-plain at civil)) in
     let are : AreWords words = (decimal-word (k + 1) small, (time, tt)) in
-    let same : bytes_eq (printed.time_text at) (checked.time_text at) ≡ true =
-    ap (λ t. bytes_eq t (checked.time_text at)) (time-same at civil) ∙ bytes_eq-self (checked.time_text at) in (
+    let same : bytes_eq (printed.time_text at) (checked.written_time at) ≡ true =
+    ap (λ t. bytes_eq t (checked.written_time at)) (time-same at civil) ∙ bytes_eq-self (checked.written_time at) in (
       line_with (codes "window") words,
       record {
         lines = λ rest. ap (λ t. lines_of (t ++ rest)) (window-spaced k at) ∙ lines-words (codes "window") words rest first are refl;

@@ -1,7 +1,7 @@
 -- The last line.
 use Rattle.day_report.specs.Days.{counts_line}
 use Rattle.order_checker.specs.Lines.{lines_of}
-use Rattle.order_checker.specs.Totals.{Counts, are_total_words, is_total}
+use Rattle.order_checker.specs.Totals.{RecordCounts, are_total_words, is_total}
 use Rattle.order_checker.specs.Words.{is_number}
 use Rattle.printed_records.proofs.LineTexts.{line_with, lines-nothing, spaced, lines-words, words-line}
 use Rattle.printed_records.proofs.Numerals.{decimal-word, is_number-decimal}
@@ -18,7 +18,7 @@ counts-spaced : (windows committed aborted : ℕ) → counts_line windows commit
 counts-spaced windows committed aborted = simp append_assoc
 
 -- the printed total is the total of so many windows and runs
-pub total-printed : (n : Counts) (aborted : ℕ) → n.runs ≡ n.committed + aborted → n.windows < 2 ^ 64 → n.runs < 2 ^ 64
+pub total-printed : (n : RecordCounts) (aborted : ℕ) → n.runs ≡ n.committed + aborted → n.windows < 2 ^ 64 → n.runs < 2 ^ 64
     → is_total n (lines_of (counts_line n.windows n.committed aborted)) ≡ true
 total-printed n aborted runs few_windows few_runs =
     let words = total_words n.windows n.committed aborted in

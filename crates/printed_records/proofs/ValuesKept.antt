@@ -20,7 +20,7 @@ use Rattle.printed_records.proofs.Runs.{IsRunOf, device-kind, device-there, run-
 use Rattle.printed_records.specs.FitWindows.{HaveValues}
 use Rattle.routine_reader.specs.Rosters.{kinds_of, run_of_text, start_home, start_stand}
 use Rattle.routine_reader.specs.Scripts.{plain_device, plain_routine, plain_script, plain_window}
-use Rattle.routine_reader.specs.Sound.{IsSound, IsSoundCommand, IsSoundDevice, IsSoundKind, IsSoundWindow, device_kinds, suits}
+use Rattle.routine_reader.specs.Sound.{IsSound, IsSoundCommand, IsSoundDevice, IsSoundKind, IsSoundWindow, device_kinds, suits_device}
 use Rattle.routine_reader.specs.declared.scripts.DeviceText.{DeviceText}
 use Rattle.routine_reader.specs.declared.scripts.RunText.{RunText}
 use Rattle.routine_reader.specs.declared.scripts.Script.{Script}
@@ -41,7 +41,7 @@ sound-fills (States n) states sound v = let some : 0 < n = omega (arith, sound.0
 sound-fills (Range low high) states sound v = let ordered = sound.1 in grind (arith, common_steps)
 
 -- what a command leaves is a value of the kind
-done-value : (kind : Kind) (job : Job) (register value : ℕ) (up : Bool) → Fills kind → suits kind job ≡ true → has_value kind value ≡ true
+done-value : (kind : Kind) (job : Job) (register value : ℕ) (up : Bool) → Fills kind → suits_device kind job ≡ true → has_value kind value ≡ true
     → has_value kind (done_effect kind job register (record { value = value; up = up })).stand.value ≡ true
 done-value kind job register value false fills suit has = has
 done-value kind (Set v) register value true fills suit has = suit
@@ -49,7 +49,7 @@ done-value kind (Check v) register value true fills suit has = has
 done-value kind Load register value true fills suit has = has
 done-value kind Store register value true fills suit has = fills register
 
-effect-value : (kind : Kind) (guard : Guard) (job : Job) (register : ℕ) (stand : Stand) → Fills kind → suits kind job ≡ true → has_value kind stand.value ≡ true
+effect-value : (kind : Kind) (guard : Guard) (job : Job) (register : ℕ) (stand : Stand) → Fills kind → suits_device kind job ≡ true → has_value kind stand.value ≡ true
     → has_value kind (command_effect kind guard job register stand).stand.value ≡ true
 effect-value kind guard job register stand fills suit has =
     either (holds guard register) (done-value kind job register stand.value stand.up fills suit has)
@@ -87,27 +87,27 @@ up-values : (kinds : List Kind) (home : List Stand) (d : ℕ) (up : Bool) → Ha
 up-values kinds home d up values = set-values kinds home d (record { value = (stand_at home d).value; up = up }) values (value-at kinds home d values)
 
 module _ (kinds : List Kind) (filled : AreFilled kinds) where
-  execute-values : (x : Execution) (c : Command) → suits (kind_at kinds c.device.0) c.job ≡ true → HaveValues kinds x.home → HaveValues kinds (execute kinds x c).home
+  execute-values : (x : Execution) (c : Command) → suits_device (kind_at kinds c.device.0) c.job ≡ true → HaveValues kinds x.home → HaveValues kinds (execute kinds x c).home
   execute-values x c suit values =
       let d = c.device.0 in
       let stand = stand_at x.home d in
       set-values kinds x.home d (command_effect (kind_at kinds d) c.when c.job x.register stand).stand values
       (λ within. effect-value (kind_at kinds d) c.when c.job x.register stand (filled d (omega (arith, within, values-length kinds x.home values))) suit (value-at kinds x.home d values within))
 
-  commands-values : (x : Execution) (commands : List Command) → ((k : ℕ) (c : Command) → slice_get commands k ≡ Some c → suits (kind_at kinds c.device.0) c.job ≡ true)
+  commands-values : (x : Execution) (commands : List Command) → ((k : ℕ) (c : Command) → slice_get commands k ≡ Some c → suits_device (kind_at kinds c.device.0) c.job ≡ true)
       → HaveValues kinds x.home → HaveValues kinds (fold (execute kinds) x commands).home
   commands-values x [] suit values = values
   commands-values x (c ∷ commands) suit values =
       commands-values (execute kinds x c) commands (λ k other at. suit (suc k) other at) (execute-values x c (suit 0 c refl) values)
 
-  serve-values : (runs : List Run) (s : SerialRun) (item : Item) → ((r k : ℕ) (c : Command) → slice_get (commands_of runs r) k ≡ Some c → suits (kind_at kinds c.device.0) c.job ≡ true)
+  serve-values : (runs : List Run) (s : SerialRun) (item : Item) → ((r k : ℕ) (c : Command) → slice_get (commands_of runs r) k ≡ Some c → suits_device (kind_at kinds c.device.0) c.job ≡ true)
       → HaveValues kinds s.home → HaveValues kinds (serve runs kinds s item).home
   serve-values runs s (Ran r) suit values = commands-values _ (commands_of runs r.0) (λ k c at. suit r.0 k c at) values
   serve-values runs s (Failed d k) suit values = up-values kinds s.home d.0 false values
   serve-values runs s (Back d k) suit values = up-values kinds s.home d.0 true values
 
   -- the items leave values of their kinds
-  pub items-values : (runs : List Run) (s : SerialRun) (items : List Item) → ((r k : ℕ) (c : Command) → slice_get (commands_of runs r) k ≡ Some c → suits (kind_at kinds c.device.0) c.job ≡ true)
+  pub items-values : (runs : List Run) (s : SerialRun) (items : List Item) → ((r k : ℕ) (c : Command) → slice_get (commands_of runs r) k ≡ Some c → suits_device (kind_at kinds c.device.0) c.job ≡ true)
       → HaveValues kinds s.home → HaveValues kinds (fold (serve runs kinds) s items).home
   items-values runs s [] suit values = values
   items-values runs s (item ∷ items) suit values = items-values runs (serve runs kinds s item) items suit (serve-values runs s item suit values)
@@ -138,11 +138,11 @@ none-some x same = absurd cc
 
 -- each command of a run of a window suits its device
 pub window-suits : (script : Script) (window : WindowText) → IsSound (plain_script script) → IsSoundWindow (length (map plain_routine script.routines.items)) (plain_window window)
-    → (r k : ℕ) (c : Command) → slice_get (commands_of (map (run_of_text script) window.runs.items) r) k ≡ Some c → suits (kind_at (kinds_of script) c.device.0) c.job ≡ true
+    → (r k : ℕ) (c : Command) → slice_get (commands_of (map (run_of_text script) window.runs.items) r) k ≡ Some c → suits_device (kind_at (kinds_of script) c.device.0) c.job ≡ true
 window-suits script window sound well zero k c at = absurd (none-some c at)
 window-suits script window sound well (suc i) k c at = by (slice_get window.runs.items i) refl
   where
-    by : (o : Option RunText) → slice_get window.runs.items i ≡ o → suits (kind_at (kinds_of script) c.device.0) c.job ≡ true
+    by : (o : Option RunText) → slice_get window.runs.items i ≡ o → suits_device (kind_at (kinds_of script) c.device.0) c.job ≡ true
     by None there =
         let nothing : commands_of (map (run_of_text script) window.runs.items) (suc i) ≡ [] =
         ap (λ o. unwrap_or (option_map (λ (x : Run). x.commands) o) []) (slice_get-map (run_of_text script) window.runs.items i ∙ ap (option_map (run_of_text script)) there) in
@@ -155,4 +155,4 @@ window-suits script window sound well (suc i) k c at = by (slice_get window.runs
         let own : IsSoundCommand (map plain_device script.devices.items) (get_or commands k c) =
         All-get_or (IsSoundCommand (map plain_device script.devices.items)) commands k c (slice_get_within commands k c here) (sound-routine script run.routine routine.0 sound routine.1).commands in
         let of_c : IsSoundCommand (map plain_device script.devices.items) c = subst (IsSoundCommand (map plain_device script.devices.items)) (get_or_from_slice_get commands k c c here) own in
-        subst (λ ks. suits (kind_at ks c.device.0) c.job ≡ true) (plain-kinds script.devices.items) of_c.value
+        subst (λ ks. suits_device (kind_at ks c.device.0) c.job ≡ true) (plain-kinds script.devices.items) of_c.value

@@ -1,6 +1,6 @@
 -- The lines of a window, read again.
 use Rattle.day_report.specs.Days.{window_lines}
-use Rattle.day_report.specs.Lines.{home_line, order_line, run_line, run_lines, trace_lines, window_line}
+use Rattle.day_report.specs.Lines.{home_line, line_of_run, order_line, run_lines, trace_lines, window_line}
 use Rattle.day_report.specs.Words.{run_at}
 use Rattle.history_book.specs.Books.{end_of}
 use Rattle.history_book.specs.declared.entries.Kept.{Kept}
@@ -11,12 +11,12 @@ use Rattle.home_types.specs.declared.modes.Visibility.TheVariants.{Weak}
 use Rattle.home_types.specs.declared.worlds.Stand.{Stand}
 use Rattle.legal_days.proofs.Lists.{at_place}
 use Rattle.order_checker.specs.Answers.{home_behind}
-use Rattle.order_checker.specs.HomeLines.{home_agrees, home_told, next_device, stands_so}
+use Rattle.order_checker.specs.HomeLines.{home_agrees, home_told, next_device_told, stands_so}
 use Rattle.order_checker.specs.Lines.{line_at, lines_of}
 use Rattle.order_checker.specs.OrderLines.{order_told}
 use Rattle.order_checker.specs.RunLines.{run_told}
 use Rattle.order_checker.specs.Steps.{required, walk, ◌>>=◌}
-use Rattle.order_checker.specs.Windows.{DayProgress, RunsTold, next_run, order_end_told, routine_name, window_line_told, window_told}
+use Rattle.order_checker.specs.Windows.{DayProgress, RunsTold, named_routine, next_run_told, order_end_told, window_line_told, window_told}
 use Rattle.order_checker.specs.declared.verdicts.Place.TheVariants.{Device, Window}
 use Rattle.order_checker.specs.declared.verdicts.Place.{Place}
 use Rattle.printed_records.proofs.HomeTexts.{StandWell, home-printed}
@@ -26,10 +26,10 @@ use Rattle.printed_records.proofs.RunTexts.{run-printed}
 use Rattle.printed_records.proofs.Runs.{IsRunOf}
 use Rattle.printed_records.proofs.Times.{window-line}
 use Rattle.printed_records.proofs.Traces.{trace-passed}
-use Rattle.printed_records.specs.Ends.{ends_of, told_end}
+use Rattle.printed_records.specs.Ends.{ends_told, told_end}
 use Rattle.printed_records.specs.FitWindows.{HaveValues, WindowFits, order_setting}
 use Rattle.printed_records.specs.Fits.{RunFits}
-use Rattle.routine_reader.specs.Rosters.{kinds_of, routine_at, run_of_text}
+use Rattle.routine_reader.specs.Rosters.{kinds_of, routine_commands, run_of_text}
 use Rattle.routine_reader.specs.Scripts.{plain_device, plain_routine, plain_script, plain_window}
 use Rattle.routine_reader.specs.Sound.{IsSound, IsSoundDevice, IsSoundWindow}
 use Rattle.routine_reader.specs.declared.scripts.DeviceText.{DeviceText}
@@ -58,22 +58,22 @@ get-after [] stand rest = refl
 get-after (s ∷ front) stand rest = get-after front stand rest
 
 -- each device stands as it is told by itself
-agrees-from : (front rest : List Stand) (d : ℕ) → d ≡ length front → walk (next_device (front ++ rest)) d rest ≡ Ok (d + length rest)
+agrees-from : (front rest : List Stand) (d : ℕ) → d ≡ length front → walk (next_device_told (front ++ rest)) d rest ≡ Ok (d + length rest)
 unfolding walk
 agrees-from front [] d number = ap Ok (omega arith)
 agrees-from front (stand ∷ rest) d number =
     let all = front ++ stand ∷ rest in
     let at : slice_get all d ≡ Some stand = ap (slice_get all) number ∙ get-after front stand rest in
     let count : d + 1 + length rest ≡ d + length (stand ∷ rest) = omega arith in
-    ap (λ o. required (option_map_or (λ t. stands_so t stand) o false) (Device (record { 0 = d })) >>= (λ so. Ok (d + 1)) >>= (λ next. walk (next_device all) next rest)) at
-    ∙ ap (λ b. required b (Device (record { 0 = d })) >>= (λ so. Ok (d + 1)) >>= (λ next. walk (next_device all) next rest)) (stand-self stand)
-    ∙ ap (λ h. walk (next_device h) (d + 1) rest) (sym (append_assoc front (stand ∷ []) rest))
+    ap (λ o. required (option_map_or (λ t. stands_so t stand) o false) (Device (record { 0 = d })) >>= (λ so. Ok (d + 1)) >>= (λ next. walk (next_device_told all) next rest)) at
+    ∙ ap (λ b. required b (Device (record { 0 = d })) >>= (λ so. Ok (d + 1)) >>= (λ next. walk (next_device_told all) next rest)) (stand-self stand)
+    ∙ ap (λ h. walk (next_device_told h) (d + 1) rest) (sym (append_assoc front (stand ∷ []) rest))
     ∙ agrees-from (front ++ stand ∷ []) rest (d + 1) (omega (arith, number, length-append front (stand ∷ [])))
     ∙ ap Ok count
 
 pub home-agrees : (devices : List DeviceText) (home : List Stand) (line : Option (List ℕ)) → home_told devices line ≡ Ok home → home_agrees devices home line ≡ Ok (length home)
 unfolding home_agrees
-home-agrees devices home line told = ap (λ o. o >>= (λ t. walk (next_device t) 0 home)) told ∙ agrees-from [] home 0 refl ∙ ap Ok (omega arith)
+home-agrees devices home line told = ap (λ o. o >>= (λ t. walk (next_device_told t) 0 home)) told ∙ agrees-from [] home 0 refl ∙ ap Ok (omega arith)
 
 stand-well : (devices : List DeviceText) (home : List Stand) → ((d : ℕ) (device : DeviceText) → slice_get devices d ≡ Some device → IsSoundDevice (plain_device device))
     → HaveValues (map (λ (x : DeviceText). x.kind) devices) home → StandWell devices home
@@ -92,8 +92,8 @@ get-run (f ∷ front) run rest = get-run front run rest
 module _ (script : Script) (window : WindowText) (history : List Kept) (sound : IsSound (plain_script script)) (well : IsSoundWindow (length (map plain_routine script.routines.items)) (plain_window window))
     (fits : (r : ℕ) → 1 ≤ r → r ≤ length window.runs.items → RunFits (kinds_of script) (map (run_of_text script) window.runs.items) r history) where
   runs-from : (front runs : List RunText) (k : ℕ) (ends : List (Option (List Answer))) (rest : List ℕ) → front ++ runs ≡ window.runs.items → k ≡ length front + 1 → length ends ≡ length front
-      → walk (next_run script (length window.runs.items))
-      (record { ends = ends; lines = lines_of (flat_map (λ (r, run). run_line script window history r run.routine) (enumerate_from k runs) ++ rest) }) runs
+      → walk (next_run_told script (length window.runs.items))
+      (record { ends = ends; lines = lines_of (flat_map (λ (r, run). line_of_run script window history r run.routine) (enumerate_from k runs) ++ rest) }) runs
       ≡ Ok (record { ends = ends ++ map (λ (r, run). told_end r history (end_of history r)) (enumerate_from k runs); lines = lines_of rest })
   unfolding walk
   runs-from front [] k ends rest all number told = ap (λ e. Ok (record { ends = e; lines = lines_of rest })) (sym (append-nil ends))
@@ -107,27 +107,27 @@ module _ (script : Script) (window : WindowText) (history : List Kept) (sound : 
       let few : n < 2 ^ 64 = omega (arith, well.few_runs) in
       let small : k < 2 ^ 64 = omega (arith, number, few, within) in
       let printed = run-printed script window k run routine.0 sound is history small few (fits k (omega (arith, number)) (omega (arith, number, within))) in
-      let more = flat_map (λ (r, run). run_line script window history r run.routine) (enumerate_from (k + 1) runs) in
-      let lines : lines_of ((run_line script window history k run.routine ++ more) ++ rest) ≡ Some printed.0 ∷ lines_of (more ++ rest) =
-      ap lines_of (append_assoc (run_line script window history k run.routine) more rest) ∙ printed.1.lines (more ++ rest) in
+      let more = flat_map (λ (r, run). line_of_run script window history r run.routine) (enumerate_from (k + 1) runs) in
+      let lines : lines_of ((line_of_run script window history k run.routine ++ more) ++ rest) ≡ Some printed.0 ∷ lines_of (more ++ rest) =
+      ap lines_of (append_assoc (line_of_run script window history k run.routine) more rest) ∙ printed.1.lines (more ++ rest) in
       let end = told_end k history (end_of history k) in
       let number_is : length ends + 1 ≡ k = omega (arith, number, told) in
       let step : (ls : List (Option (List ℕ))) → Result RunsTold Place =
-      λ ls. run_told script.devices.items n (length ends + 1) (routine_name script run.routine) (routine_at script run.routine) (line_at ls 0)
+      λ ls. run_told script.devices.items n (length ends + 1) (named_routine script run.routine) (routine_commands script run.routine) (line_at ls 0)
       >>= (λ t. Ok (record { ends = ends ++ t ∷ []; lines = drop 1 ls })) in
-      let one : step (lines_of ((run_line script window history k run.routine ++ more) ++ rest)) ≡ Ok (record { ends = ends ++ end ∷ []; lines = lines_of (more ++ rest) }) =
+      let one : step (lines_of ((line_of_run script window history k run.routine ++ more) ++ rest)) ≡ Ok (record { ends = ends ++ end ∷ []; lines = lines_of (more ++ rest) }) =
       ap step lines
-      ∙ ap (λ m. run_told script.devices.items n m (routine_name script run.routine) (routine_at script run.routine) (Some printed.0) >>= (λ t. Ok (record { ends = ends ++ t ∷ []; lines = lines_of (more ++ rest) }))) number_is
+      ∙ ap (λ m. run_told script.devices.items n m (named_routine script run.routine) (routine_commands script run.routine) (Some printed.0) >>= (λ t. Ok (record { ends = ends ++ t ∷ []; lines = lines_of (more ++ rest) }))) number_is
       ∙ ap (λ o. o >>= (λ t. Ok (record { ends = ends ++ t ∷ []; lines = lines_of (more ++ rest) }))) printed.1.told in
-      ap (λ o. o >>= (λ next. walk (next_run script n) next runs)) one
+      ap (λ o. o >>= (λ next. walk (next_run_told script n) next runs)) one
       ∙ runs-from (front ++ run ∷ []) runs (k + 1) (ends ++ end ∷ []) rest (append_assoc front (run ∷ []) runs ∙ all) (omega (arith, number, length-append front (run ∷ []))) (omega (arith, told, length-append front (run ∷ []), length-append ends (end ∷ [])))
       ∙ ap (λ e. Ok (record { ends = e; lines = lines_of rest })) (append_assoc ends (end ∷ []) (map (λ (r, run). told_end r history (end_of history r)) (enumerate_from (k + 1) runs)))
 
   -- the lines of all the runs tell their ends
   pub runs-printed : (rest : List ℕ)
-      → walk (next_run script (length window.runs.items)) (record { ends = []; lines = lines_of (run_lines script window history ++ rest) }) window.runs.items
-      ≡ Ok (record { ends = ends_of window history; lines = lines_of rest })
-  unfolding run_lines ends_of
+      → walk (next_run_told script (length window.runs.items)) (record { ends = []; lines = lines_of (run_lines script window history ++ rest) }) window.runs.items
+      ≡ Ok (record { ends = ends_told window history; lines = lines_of rest })
+  unfolding run_lines ends_told
   runs-printed rest = runs-from [] window.runs.items 1 [] rest refl refl refl
 
 -- ---- the window
@@ -136,8 +136,8 @@ length-numbered : {X : Type 0} (k : ℕ) (xs : List X) → length (enumerate_fro
 length-numbered k [] = refl
 length-numbered k (x ∷ xs) = omega (arith, length-numbered (k + 1) xs)
 
-length-ends : (window : WindowText) (history : List Kept) → length (ends_of window history) ≡ length window.runs.items
-unfolding ends_of
+length-ends : (window : WindowText) (history : List Kept) → length (ends_told window history) ≡ length window.runs.items
+unfolding ends_told
 length-ends window history =
     length-map (enumerate_from 1 window.runs.items) (λ (r, run). told_end r history (end_of history r)) ∙ length-numbered 1 window.runs.items
 
@@ -155,7 +155,7 @@ behind_runs script k home runs committed window told =
 
 abbrev behind_line : Script → ℕ → List Stand → ℕ → ℕ → WindowText → List (Option (List ℕ)) → Result DayProgress Place
 behind_line script k home runs committed window lines =
-    walk (next_run script (length window.runs.items)) (record { ends = []; lines = lines }) window.runs.items
+    walk (next_run_told script (length window.runs.items)) (record { ends = []; lines = lines }) window.runs.items
     >>= (λ told. behind_runs script k home runs committed window told)
 
 trace-lines : (script : Script) (window : WindowText) (trace : Bool) (history : List Kept) (rest : List ℕ) → IsSound (plain_script script)
@@ -176,13 +176,13 @@ pub window-printed : (script : Script) (k : ℕ) (window : WindowText) (closed :
       home = closed.last.devices.items;
       lines = lines_of rest;
       runs = runs + length window.runs.items;
-      committed = committed + count_by is_some (ends_of window closed.history.items);
+      committed = committed + count_by is_some (ends_told window closed.history.items);
     })
 unfolding window_told window_lines order_end_told
 window-printed script k window closed mode trace home runs committed rest sound well strong small fits =
     let history = closed.history.items in
     let last = closed.last.devices.items in
-    let ends = ends_of window history in
+    let ends = ends_told window history in
     let setting = order_setting script home window closed in
     let few : length ends < 2 ^ 64 = omega (arith, well.few_runs, length-ends window history) in
     let first = window-line k window.at well.at small in

@@ -23,8 +23,8 @@ answer_in r (Doomed q cause) = None
 answer_in r (Ended q end) = None
 
 -- the answers of a run, in the order of the history
-unfoldable pub answers_in : RunId → List Kept → List Answer
-answers_in r history = filter_map (λ kept. answer_in r kept.entry) history
+unfoldable pub answers_of_run : RunId → List Kept → List Answer
+answers_of_run r history = filter_map (λ kept. answer_in r kept.entry) history
 
 -- the command's number and the answer, where the entry is one of the run
 abbrev pub numbered_in : RunId → Entry → Option (CommandIndex × Answer)
@@ -42,15 +42,15 @@ unfoldable pub numbered_answers : RunId → List Kept → List (CommandIndex × 
 numbered_answers r history = filter_map (λ kept. numbered_in r kept.entry) history
 
 -- the answers of a run stand in the order of its commands
-abbrev pub AreInTurn : RunId → List Kept → Type 0
-AreInTurn r history = numbered_answers r history ≡ enumerate_from 0 (answers_in r history)
+abbrev pub AnswersInOrder : RunId → List Kept → Type 0
+AnswersInOrder r history = numbered_answers r history ≡ enumerate_from 0 (answers_of_run r history)
 
 -- the answers of a run that is committed, none of another
 abbrev pub told_end : RunId → List Kept → Option End → Option (List Answer)
 told_end r history None = None
-told_end r history (Some Committed) = Some (answers_in r history)
+told_end r history (Some Committed) = Some (answers_of_run r history)
 told_end r history (Some (Aborted cause)) = None
 
 -- the same of each run of the window, from 1
-unfoldable pub ends_of : WindowText → List Kept → List (Option (List Answer))
-ends_of window history = map (λ (r, run). told_end r history (end_of history r)) (enumerate_from 1 window.runs.items)
+unfoldable pub ends_told : WindowText → List Kept → List (Option (List Answer))
+ends_told window history = map (λ (r, run). told_end r history (end_of history r)) (enumerate_from 1 window.runs.items)

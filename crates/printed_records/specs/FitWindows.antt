@@ -7,7 +7,7 @@ use Rattle.home_types.specs.declared.kinds.Kind.{Kind}
 use Rattle.home_types.specs.declared.worlds.Stand.{Stand}
 use Rattle.order_checker.specs.Answers.{home_behind}
 use Rattle.order_checker.specs.OrderLines.{OrderSetting}
-use Rattle.printed_records.specs.Ends.{ends_of}
+use Rattle.printed_records.specs.Ends.{ends_told}
 use Rattle.printed_records.specs.Fits.{AllStand, ItemsMayStand, RunFits, plain_item}
 use Rattle.routine_reader.specs.Rosters.{kinds_of, run_of_text, start_home}
 use Rattle.routine_reader.specs.declared.scripts.Script.{Script}
@@ -22,7 +22,7 @@ order_setting script home window closed =
       devices = script.devices.items;
       home = home;
       runs = map (run_of_text script) window.runs.items;
-      ends = ends_of window closed.history.items;
+      ends = ends_told window closed.history.items;
     }
 
 -- as many devices as kinds, each with a value of its kind
@@ -36,11 +36,11 @@ HaveValues (kind ∷ kinds) (stand ∷ home) = (has_value kind stand.value ≡ t
 pub record WindowFits (script : Script) (home : List Stand) (window : WindowText) (closed : WindowRecord) : Type 0 where
   pub runs : (r : RunId) → 1 ≤ r → r ≤ length window.runs.items → RunFits (kinds_of script) (map (run_of_text script) window.runs.items) r closed.history.items
   pub items : ItemsMayStand (order_setting script home window closed) [] closed.order.items
-  pub all : AllStand (map plain_item closed.order.items) 0 (ends_of window closed.history.items)
-  pub serial : home_behind (map (run_of_text script) window.runs.items) (kinds_of script) (ends_of window closed.history.items) home (map plain_item closed.order.items)
+  pub all : AllStand (map plain_item closed.order.items) 0 (ends_told window closed.history.items)
+  pub serial : home_behind (map (run_of_text script) window.runs.items) (kinds_of script) (ends_told window closed.history.items) home (map plain_item closed.order.items)
       ≡ Ok closed.last.devices.items
   pub values : HaveValues (kinds_of script) closed.last.devices.items
-  pub committed : count_by is_some (ends_of window closed.history.items) ≡ count_by (λ kept. is_commit kept.entry) closed.history.items
+  pub committed : count_by is_some (ends_told window closed.history.items) ≡ count_by (λ kept. is_commit kept.entry) closed.history.items
   pub ended : length window.runs.items ≡ count_by (λ kept. is_commit kept.entry) closed.history.items + count_by (λ kept. is_abort kept.entry) closed.history.items
 
 -- the home before the window of this number, from 0

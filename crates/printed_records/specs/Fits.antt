@@ -11,14 +11,14 @@ use Rattle.home_types.specs.declared.items.Item.TheVariants.{Back, Failed, Ran}
 use Rattle.home_types.specs.declared.items.Item.{Item}
 use Rattle.home_types.specs.declared.kinds.Kind.{Kind}
 use Rattle.order_checker.specs.OrderLines.{OrderSetting, is_up_behind, may_run}
-use Rattle.printed_records.specs.Ends.{AreInTurn, answers_in}
+use Rattle.printed_records.specs.Ends.{AnswersInOrder, answers_of_run}
 use Rattle.printed_records.specs.Typed.{AreTyped, IsCauseFor}
 use Rattle.std.specs.List.{list_any}
 use Rattle.std.specs.Prelude.{List, Option, Some, [], false, is_none, length, true, ℕ, ⊤, ◌+◌, ◌++◌, ◌<◌, ◌≡◌, ◌||◌, ◌∷◌}
 
 -- a run that is committed has an answer to each command, of its type and in order; one that was aborted has a cause of its own
 abbrev pub EndFits : List Kind → List Run → RunId → List Kept → End → Type 0
-EndFits kinds runs r history Committed = AreInTurn r history × AreTyped kinds (commands_of runs r) (answers_in r history)
+EndFits kinds runs r history Committed = AnswersInOrder r history × AreTyped kinds (commands_of runs r) (answers_of_run r history)
 EndFits kinds runs r history (Aborted cause) = IsCauseFor kinds runs r cause
 
 abbrev pub RunFits : List Kind → List Run → RunId → List Kept → Type 0

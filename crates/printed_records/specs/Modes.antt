@@ -7,16 +7,16 @@ use Rattle.home_types.specs.declared.modes.Visibility.{Visibility}
 use Rattle.std.specs.Prelude.{Bool, false, true}
 
 -- first come first served
-abbrev pub is_fcfs : Scheduler → Bool
-is_fcfs Fcfs = true
-is_fcfs JustInTime = false
-is_fcfs Timeline = false
+abbrev pub is_first_come : Scheduler → Bool
+is_first_come Fcfs = true
+is_first_come JustInTime = false
+is_first_come Timeline = false
 
 -- a model that promises an order, first come first served unless it is `ev`
 abbrev pub has_order : Visibility → Scheduler → Bool
 has_order Weak scheduler = false
-has_order Global scheduler = is_fcfs scheduler
-has_order Partitioned scheduler = is_fcfs scheduler
+has_order Global scheduler = is_first_come scheduler
+has_order Partitioned scheduler = is_first_come scheduler
 has_order Eventual scheduler = true
 
 -- the mode is one whose records can be checked

@@ -1,7 +1,7 @@
 -- The joined order is a merge in which each room has its own order.
 use Rattle.home_types.specs.declared.items.Item.{Item}
 use Rattle.room_hubs.proofs.Loops.{next_mapped}
-use Rattle.room_hubs.specs.Merges.{IsMerge, Merge, RoomOrders, home_order, joined_merge, joined_order, order_in, own_order, room_in, room_order}
+use Rattle.room_hubs.specs.Merges.{IsMerge, Merge, RoomOrders, home_order, joined_merge, joined_order, order_of_room, own_order, room_in, room_order}
 use Rattle.room_hubs.specs.Numbers.{IsOwnItem, Room, home_item, plain_room}
 use Rattle.room_hubs.specs.declared.rosters.RoomWindow.{RoomWindow}
 use Rattle.std.proofs.Common.{All, List, [], ap, append_assoc, arith, get_or, length, map, refl, subst, suc, sym, take, zero, ℕ, ◌+◌, ◌++◌, ◌<◌, ◌∙◌, ◌≡◌, ◌≢◌, ◌∷◌}
@@ -35,7 +35,7 @@ before k j (x ∷ xs) less =
     own_append j (map (λ i. (k, i)) x.1) (joined_merge (k + 1) xs)
     ∙ (λ i. others k j x.1 (λ e. omega (arith, e, less)) i ++ before (k + 1) j xs (omega (arith, less)) i)
 
-pub own_from : (k j : ℕ) (orders : RoomOrders) → own_order (k + j) (joined_merge k orders) ≡ order_in orders j
+pub own_from : (k j : ℕ) (orders : RoomOrders) → own_order (k + j) (joined_merge k orders) ≡ order_of_room orders j
 own_from k j [] = refl
 own_from k zero (x ∷ xs) =
     let here : k + 0 ≡ k = omega arith in
@@ -70,7 +70,7 @@ from_zero orders j = let same : j ≡ 0 + j = omega arith in ap (room_in orders)
 pub joined_is : (orders : RoomOrders) → joined_order orders ≡ home_order (room_in orders) (joined_merge 0 orders)
 joined_is orders = joined_from (room_in orders) 0 orders (λ j within. from_zero orders j)
 
-pub own_is : (orders : RoomOrders) (k : ℕ) → own_order k (joined_merge 0 orders) ≡ order_in orders k
+pub own_is : (orders : RoomOrders) (k : ℕ) → own_order k (joined_merge 0 orders) ≡ order_of_room orders k
 own_is orders k = let same : k ≡ 0 + k = omega arith in ap (λ n. own_order n (joined_merge 0 orders)) same ∙ own_from 0 k orders
 
 tagged_items : (rooms : ℕ → Room) (k : ℕ) (order : List Item) (merge : Merge) → All (IsOwnItem (rooms k)) order → IsMerge rooms merge → IsMerge rooms (map (λ i. (k, i)) order ++ merge)

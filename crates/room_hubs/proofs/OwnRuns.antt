@@ -1,5 +1,5 @@
 -- The runs of a room of a sound script, in the room's own numbers: their commands suit the room's devices, and each follows an earlier one.
-use Rattle.command_rules.specs.Rosters.{Run, commands_of, followed_by, run_at}
+use Rattle.command_rules.specs.Rosters.{Run, commands_of, followed_by, run_in_roster}
 use Rattle.home_types.specs.Kinds.{kind_at}
 use Rattle.home_types.specs.Limits.{most_commands, most_runs}
 use Rattle.home_types.specs.declared.commands.Command.{Command}
@@ -15,7 +15,7 @@ use Rattle.room_hubs.specs.Rooms.{rooms_of}
 use Rattle.room_hubs.specs.Splits.{IsParted, crosses, crosses_rooms, follows_across, room_at, run_room, run_with, runs_in}
 use Rattle.routine_reader.specs.Rosters.{kinds_of, script_runs, start_home}
 use Rattle.routine_reader.specs.Scripts.{plain_script}
-use Rattle.routine_reader.specs.Sound.{IsSound, suits}
+use Rattle.routine_reader.specs.Sound.{IsSound, suits_device}
 use Rattle.routine_reader.specs.declared.scripts.Script.{Script}
 use Rattle.std.proofs.Common.{Bool, List, None, Option, Some, [], ap, arith, false, get_or, inl, inr, length, map, not, option_map, refl, subst, suc, sym, true, true≢false, zero, ℕ, ◌+◌, ◌<◌, ◌∙◌, ◌≡◌, ◌≤◌, ◌∷◌}
 use Rattle.std.proofs.lemmas.Bool.{cases_order}
@@ -46,7 +46,7 @@ ascends p a (suc n) i j less within = by (ascends p (a + 1) n) (p a) i j less wi
 pub record OwnRunsAreSound (devices : ℕ) (room : Room) (kinds : List Kind) : Type 0 where
   pub few_runs : length room.own_runs ≤ most_runs
   pub few_commands : (r : ℕ) → length (commands_of room.own_runs r) ≤ most_commands
-  pub homed : (r i : ℕ) (c : Command) → slice_get (commands_of room.own_runs r) i ≡ Some c → (c.device.0 < devices) × (suits (kind_at kinds c.device.0) c.job ≡ true)
+  pub homed : (r i : ℕ) (c : Command) → slice_get (commands_of room.own_runs r) i ≡ Some c → (c.device.0 < devices) × (suits_device (kind_at kinds c.device.0) c.job ≡ true)
   pub follows : (r : ℕ) (f : RunNo) → followed_by room.own_runs r ≡ Some f → (1 ≤ f.0) × (f.0 < r)
 
 module _ (script : Script) (sound : IsSound (plain_script script)) (w : ℕ) (there : w < length script.windows.items) (parted : IsParted (rooms_of script).room_of (script_runs script w)) (k : ℕ) where
@@ -75,14 +75,14 @@ module _ (script : Script) (sound : IsSound (plain_script script)) (w : ℕ) (th
   own_length = length-map Mine _
 
   -- a run of the room's list is one of its runs
-  is_own : (r : ℕ) (run : Run) → run_at The_room.own_runs r ≡ Some run → IsOwnRun The_room r
+  is_own : (r : ℕ) (run : Run) → run_in_roster The_room.own_runs r ≡ Some run → IsOwnRun The_room r
   is_own zero run at = absurd (cc)
   is_own (suc i) run at = let within = slice_get_within The_room.own_runs i run at in omega (arith, within, own_length)
 
-  by_run : {X : Type 0} (P : X → Type 0) (get : Run → X) (none : X) (r : ℕ) → P none → (IsOwnRun The_room r → P (unwrap_or (option_map get (run_at The_room.own_runs r)) none)) → P (unwrap_or (option_map get (run_at The_room.own_runs r)) none)
-  by_run P get none r without with_run = by (run_at The_room.own_runs r) refl
+  by_run : {X : Type 0} (P : X → Type 0) (get : Run → X) (none : X) (r : ℕ) → P none → (IsOwnRun The_room r → P (unwrap_or (option_map get (run_in_roster The_room.own_runs r)) none)) → P (unwrap_or (option_map get (run_in_roster The_room.own_runs r)) none)
+  by_run P get none r without with_run = by (run_in_roster The_room.own_runs r) refl
     where
-      by : (o : Option Run) → run_at The_room.own_runs r ≡ o → P (unwrap_or (option_map get (run_at The_room.own_runs r)) none)
+      by : (o : Option Run) → run_in_roster The_room.own_runs r ≡ o → P (unwrap_or (option_map get (run_in_roster The_room.own_runs r)) none)
       by None at = subst (λ o. P (unwrap_or (option_map get o) none)) (sym at) without
       by (Some run) at = with_run (is_own r run at)
 
@@ -96,7 +96,7 @@ module _ (script : Script) (sound : IsSound (plain_script script)) (w : ℕ) (th
       omega (arith, all, same, length-map (commands_of The_room.own_runs r) (home_command The_room)))
 
   at_home : (r i : ℕ) (c : Command) → IsOwnRun The_room r → slice_get (commands_of The_room.own_runs r) i ≡ Some c
-      → (c.device.0 < length The_room.devices) × (suits (kind_at (room_kinds The_room (kinds_of script)) c.device.0) c.job ≡ true)
+      → (c.device.0 < length The_room.devices) × (suits_device (kind_at (room_kinds The_room (kinds_of script)) c.device.0) c.job ≡ true)
   at_home r i c own at =
       let cs = commands_of The_room.own_runs r in
       let within = slice_get_within cs i c at in
@@ -104,11 +104,11 @@ module _ (script : Script) (sound : IsSound (plain_script script)) (w : ℕ) (th
       let home : slice_get (commands_of Runs (home_run The_room r)) i ≡ Some (home_command The_room c) =
       ap (λ l. slice_get l i) (home_commands r own) ∙ slice_get-map (home_command The_room) cs i ∙ ap (option_map (home_command The_room)) at in
       let is = (commands_sound script sound w (home_run The_room r)).each i (home_command The_room c) home in
-      (inside, ap (λ kind. suits kind c.job) (kind_in_room The_room (kinds_of script) c.device.0 inside) ∙ is.1)
+      (inside, ap (λ kind. suits_device kind c.job) (kind_in_room The_room (kinds_of script) c.device.0 inside) ∙ is.1)
 
   own_homed : (r i : ℕ) (c : Command) → slice_get (commands_of The_room.own_runs r) i ≡ Some c
-      → (c.device.0 < length The_room.devices) × (suits (kind_at (room_kinds The_room (kinds_of script)) c.device.0) c.job ≡ true)
-  own_homed r i c at = by_run (λ (cs : List Command). slice_get cs i ≡ Some c → (c.device.0 < length The_room.devices) × (suits (kind_at (room_kinds The_room (kinds_of script)) c.device.0) c.job ≡ true))
+      → (c.device.0 < length The_room.devices) × (suits_device (kind_at (room_kinds The_room (kinds_of script)) c.device.0) c.job ≡ true)
+  own_homed r i c at = by_run (λ (cs : List Command). slice_get cs i ≡ Some c → (c.device.0 < length The_room.devices) × (suits_device (kind_at (room_kinds The_room (kinds_of script)) c.device.0) c.job ≡ true))
       (λ run. run.commands) [] r (λ none. absurd (cc)) (λ own at. at_home r i c own at) at
 
   -- a run of the room follows one of the room, by an earlier number
@@ -149,7 +149,7 @@ module _ (script : Script) (sound : IsSound (plain_script script)) (w : ℕ) (th
           let in_runs : j < length Runs = (let high = e.2 in omega (arith, high, at)) in
           let no_run : Run = record { commands = []; follows = None } in
           let run = get_or Runs j no_run in
-          let there : run_at Runs (suc j) ≡ Some run = slice_get-get_or Runs j no_run in_runs in
+          let there : run_in_roster Runs (suc j) ≡ Some run = slice_get-get_or Runs j no_run in_runs in
           let follows : run.follows ≡ Some g = sym (ap (option_and_then (λ (x : Run). x.follows)) there) ∙ ap (followed_by Runs) (sym at) ∙ is in
           let stays = right_false (crosses_rooms RoomOf run.commands) (follows_across RoomOf Runs run) (no_place (crosses RoomOf Runs) Runs j no_run parted.none in_runs) in
           let across : not (run_room RoomOf (commands_of Runs g.0) == run_room RoomOf run.commands) ≡ false =

@@ -1,11 +1,11 @@
 -- The script of a room with its devices alone is sound.
 use Rattle.home_types.specs.Listed.{Listed}
 use Rattle.home_types.specs.declared.numbers.DeviceNo.{DeviceNo}
-use Rattle.room_hubs.specs.Numbers.{device_numbers}
+use Rattle.room_hubs.specs.Numbers.{numbers_of_devices}
 use Rattle.room_hubs.proofs.Parts.{Filtered, filtered, none_passes}
 use Rattle.room_hubs.proofs.RoomScripts.{device_there, seen_devices}
 use Rattle.room_hubs.proofs.SoundRuns.{rooms_size}
-use Rattle.room_hubs.specs.RoomScripts.{no_device, plain_devices, room_devices}
+use Rattle.room_hubs.specs.RoomScripts.{no_device_text, plain_devices, room_devices}
 use Rattle.room_hubs.specs.Rooms.{rooms_of}
 use Rattle.room_hubs.specs.Splits.{device_room, devices_in}
 use Rattle.routine_reader.specs.Devices.{device_names}
@@ -44,7 +44,7 @@ one_place names differ d e in_d in_e same = by (cases_order d e)
     by (inr (inr more)) = absurd (earlier_differs names differ e d more in_d (sym same))
 
 -- the devices of a room are devices of the home
-pub number_there : (script : Script) (k : ℕ) (numbers : List DeviceNo) → device_numbers numbers ≡ devices_in (rooms_of script).room_of k → (i : ℕ) (d : DeviceNo) → i < length numbers
+pub number_there : (script : Script) (k : ℕ) (numbers : List DeviceNo) → numbers_of_devices numbers ≡ devices_in (rooms_of script).room_of k → (i : ℕ) (d : DeviceNo) → i < length numbers
     → (slice_index_or numbers i d).0 < length script.devices.items
 number_there script k numbers are i d within =
     let low = device_there script k i (let size = ap (λ l. length l) are in omega (arith, within, size, length-map numbers (λ (x : DeviceNo). x.0))) in
@@ -59,7 +59,7 @@ module _ (script : Script) (sound : IsSound (plain_script script)) (k : ℕ) whe
   All_devices = map plain_device script.devices.items
 
   abbrev None_such : PlainDevice
-  None_such = plain_device no_device
+  None_such = plain_device no_device_text
 
   abbrev Own : List PlainDevice
   Own = map (λ d. slice_index_or All_devices d None_such) Numbers

@@ -6,10 +6,10 @@ use Rattle.home_types.specs.HomeStates.{nowhere}
 use Rattle.home_types.specs.declared.kinds.Kind.TheVariants.{States}
 use Rattle.room_hubs.proofs.SoundRuns.{rooms_size}
 use Rattle.room_hubs.specs.Numbers.{own_command, own_run, own_run_no, room_home, room_kinds}
-use Rattle.room_hubs.specs.RoomScripts.{devices_at, no_device, own_routine, own_run_text, own_script, own_window, no_run_text}
+use Rattle.room_hubs.specs.RoomScripts.{devices_at, no_device_text, own_routine, own_run_text, own_script, own_window, no_run_text}
 use Rattle.room_hubs.specs.Rooms.{rooms_of}
 use Rattle.room_hubs.specs.Splits.{device_room, devices_in, own_runs, room_at, run_room, run_with, runs_in}
-use Rattle.routine_reader.specs.Rosters.{kinds_of, routine_at, run_of_text, script_runs, start_home, start_stand}
+use Rattle.routine_reader.specs.Rosters.{kinds_of, routine_commands, run_of_text, script_runs, start_home, start_stand}
 use Rattle.routine_reader.specs.declared.scripts.DeviceText.{DeviceText}
 use Rattle.routine_reader.specs.declared.scripts.RoutineText.{RoutineText}
 use Rattle.routine_reader.specs.declared.scripts.RunText.{RunText}
@@ -36,7 +36,7 @@ module _ (script : Script) (k : ℕ) where
   abbrev Devices : List ℕ
   Devices = devices_in (rooms_of script).room_of k
 
-  routine_is : (i : ℕ) → routine_at (own_script script k) i ≡ map (own_command Devices) (routine_at script i)
+  routine_is : (i : ℕ) → routine_commands (own_script script k) i ≡ map (own_command Devices) (routine_commands script i)
   routine_is i = ap (λ o. unwrap_or (option_map (λ (t : RoutineText). t.routine.commands.items) o) []) (slice_get-map (own_routine Devices) script.routines.items i) ∙ by (slice_get script.routines.items i)
     where
       by : (o : Option RoutineText)
@@ -81,9 +81,9 @@ module _ (script : Script) (k : ℕ) where
 
   -- what is seen of each of the room's devices is seen of the home's
   pub seen_devices : {X : Type 0} (f : DeviceText → X) (x : X) → map f (devices_at script.devices.items Devices) ≡ map (λ d. slice_index_or (map f script.devices.items) d x) Devices
-  seen_devices f x = map_map f (λ d. slice_index_or script.devices.items d no_device) Devices
-      ∙ map_same (λ d. f (slice_index_or script.devices.items d no_device)) (λ d. slice_index_or (map f script.devices.items) d x) Devices
-      (λ i d within. sym (get_or-map f script.devices.items (get_or Devices i d) no_device x
+  seen_devices f x = map_map f (λ d. slice_index_or script.devices.items d no_device_text) Devices
+      ∙ map_same (λ d. f (slice_index_or script.devices.items d no_device_text)) (λ d. slice_index_or (map f script.devices.items) d x) Devices
+      (λ i d within. sym (get_or-map f script.devices.items (get_or Devices i d) no_device_text x
       (subst (λ n. n < length script.devices.items) (get_or_default Devices i 0 d within) (device_there i within))))
 
   pub own_kinds_are : (w : ℕ) → kinds_of (own_script script k) ≡ room_kinds (room_at (rooms_of script).room_of (script_runs script w) k) (kinds_of script)

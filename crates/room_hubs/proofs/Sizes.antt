@@ -6,7 +6,7 @@ use Rattle.home_types.specs.declared.numbers.DeviceNo.{DeviceNo}
 use Rattle.home_types.specs.declared.numbers.RunNo.{RunNo}
 use Rattle.room_hubs.proofs.Names.{names_few}
 use Rattle.room_hubs.proofs.Parts.{Filtered, filtered}
-use Rattle.room_hubs.specs.Numbers.{device_numbers, run_numbers}
+use Rattle.room_hubs.specs.Numbers.{numbers_of_devices, numbers_of_runs}
 use Rattle.room_hubs.specs.Rooms.{PlainRooms, no_rooms, room_name, rooms_of, with_device}
 use Rattle.room_hubs.specs.Splits.{device_room, devices_in, run_room, run_with, runs_in}
 use Rattle.routine_reader.proofs.RosterLemmas.{runs-there}
@@ -62,16 +62,16 @@ runs_few script k sound within = elim (slice_get_cases script.windows.items k).1
 ]
 
 -- a room has no more devices than the home
-pub room_devices_few : (room_of : List ℕ) (k : ℕ) (devices : List DeviceNo) → device_numbers devices ≡ devices_in room_of k → length devices ≤ length room_of
+pub room_devices_few : (room_of : List ℕ) (k : ℕ) (devices : List DeviceNo) → numbers_of_devices devices ≡ devices_in room_of k → length devices ≤ length room_of
 room_devices_few room_of k devices is =
     omega (arith, (filtered (λ d. device_room room_of d == k) 0 (length room_of)).few, ap length is, length-map devices (λ d. d.0))
 
 -- nor more runs, and each is one of the window
-module _ (room_of : List ℕ) (roster : List RosterRun) (k : ℕ) (mine : List RunNo) (is : run_numbers mine ≡ runs_in room_of (map plain_run roster) k) where
+module _ (room_of : List ℕ) (roster : List RosterRun) (k : ℕ) (mine : List RunNo) (is : numbers_of_runs mine ≡ runs_in room_of (map plain_run roster) k) where
   its_own : ℕ → Bool
   its_own r = run_room room_of (commands_of (map plain_run roster) r) == k
 
-  its_runs : Filtered its_own 1 (length (map plain_run roster)) (run_numbers mine)
+  its_runs : Filtered its_own 1 (length (map plain_run roster)) (numbers_of_runs mine)
   unfolding its_own
   its_runs = subst (Filtered its_own 1 (length (map plain_run roster))) (sym is) (filtered its_own 1 (length (map plain_run roster)))
 
@@ -81,7 +81,7 @@ module _ (room_of : List ℕ) (roster : List RosterRun) (k : ℕ) (mine : List R
   pub room_runs_there : All (λ r. (1 ≤ r.0) × (r.0 ≤ length roster)) mine
   room_runs_there i d within =
       let g = its_runs.each i (omega (arith, within, length-map mine (λ r. r.0))) in
-      let at : get_or (run_numbers mine) i 0 ≡ (get_or mine i d).0 = get_or-map (λ r. r.0) mine i d 0 within in
+      let at : get_or (numbers_of_runs mine) i 0 ≡ (get_or mine i d).0 = get_or-map (λ r. r.0) mine i d 0 within in
       let low = g.1 in
       let high = g.2 in
       (omega (arith, low, at), omega (arith, high, at, length-map roster plain_run))

@@ -6,10 +6,10 @@ use Rattle.home_types.specs.declared.numbers.RunNo.{RunNo}
 use Rattle.home_types.specs.declared.commands.Command.{Command}
 use Rattle.room_hubs.specs.Numbers.{Room}
 use Rattle.room_hubs.specs.Rooms.{PlainRooms, no_rooms, room_name, rooms_of, with_device}
-use Rattle.room_hubs.specs.Splits.{IsParted, all_rooms, cross_at, crosses, split_of, window_split}
-use Rattle.routine_reader.specs.Rosters.{kinds_of, routine_at, run_of_text, script_runs}
+use Rattle.room_hubs.specs.Splits.{IsParted, all_rooms, cross_at, crosses, script_split, window_split}
+use Rattle.routine_reader.specs.Rosters.{kinds_of, routine_commands, run_of_text, script_runs}
 use Rattle.routine_reader.specs.Scripts.{plain_device, plain_routine, plain_script, plain_window}
-use Rattle.routine_reader.specs.Sound.{IsSound, IsSoundCommand, IsSoundRoutine, IsSoundRun, IsSoundWindow, device_kinds, suits}
+use Rattle.routine_reader.specs.Sound.{IsSound, IsSoundCommand, IsSoundRoutine, IsSoundRun, IsSoundWindow, device_kinds, suits_device}
 use Rattle.routine_reader.specs.declared.scripts.DeviceText.{DeviceText}
 use Rattle.routine_reader.specs.declared.scripts.RoutineText.{RoutineText}
 use Rattle.routine_reader.specs.declared.scripts.RunText.{RunText}
@@ -32,12 +32,12 @@ module _ (script : Script) (sound : IsSound (plain_script script)) where
   -- few commands, each on a device of the home, with values of its kind
   pub record AreSound (commands : List Command) : Type 0 where
     pub few : length commands ≤ most_commands
-    pub each : (i : ℕ) (c : Command) → slice_get commands i ≡ Some c → (c.device.0 < length script.devices.items) × (suits (kind_at (kinds_of script) c.device.0) c.job ≡ true)
+    pub each : (i : ℕ) (c : Command) → slice_get commands i ≡ Some c → (c.device.0 < length script.devices.items) × (suits_device (kind_at (kinds_of script) c.device.0) c.job ≡ true)
 
   none_sound : AreSound []
   none_sound = record { few = omega arith; each = λ i c at. absurd (cc) }
 
-  routine_sound : (i : ℕ) → AreSound (routine_at script i)
+  routine_sound : (i : ℕ) → AreSound (routine_commands script i)
   routine_sound i = by (slice_get script.routines.items i) refl
     where
       by : (o : Option RoutineText) → slice_get script.routines.items i ≡ o → AreSound (unwrap_or (option_map (λ t. t.routine.commands.items) o) [])
@@ -54,7 +54,7 @@ module _ (script : Script) (sound : IsSound (plain_script script)) where
             each = λ j c at_c.
                 let is = subst (IsSoundCommand (map plain_device script.devices.items)) (get_or_from_slice_get commands j c c at_c) (routine.commands j c (slice_get_within commands j c at_c)) in
                 let low = is.device in
-                (omega (arith, low, length-map script.devices.items plain_device), ap (λ ks. suits (kind_at ks c.device.0) c.job) (sym (same_kinds script.devices.items)) ∙ is.value);
+                (omega (arith, low, length-map script.devices.items plain_device), ap (λ ks. suits_device (kind_at ks c.device.0) c.job) (sym (same_kinds script.devices.items)) ∙ is.value);
           }
 
   run_sound : (o : Option Run) → ((run : Run) → o ≡ Some run → AreSound run.commands) → AreSound (unwrap_or (option_map (λ run. run.commands) o) [])
@@ -138,7 +138,7 @@ split_is rooms runs all is = by (position (crosses rooms.room_of runs) runs) ref
     by (Some place) some found = absurd (cc)
 
 -- where a window of the script is split, its rooms part the home
-pub split_parts : (script : Script) (window : ℕ) (all : List Room) → IsSound (plain_script script) → split_of script window ≡ Ok all → IsParted (rooms_of script).room_of (script_runs script window)
+pub split_parts : (script : Script) (window : ℕ) (all : List Room) → IsSound (plain_script script) → script_split script window ≡ Ok all → IsParted (rooms_of script).room_of (script_runs script window)
 split_parts script window all sound is = record {
   devices = λ r k d within. let low = commands_inside script sound window r k d within in omega (arith, low, rooms_size script);
   none = (split_is (rooms_of script) (script_runs script window) all is).0;

@@ -85,5 +85,5 @@ no_room = record { number = 0; devices = []; runs = []; own_runs = [] }
 abbrev pub room_in : RoomOrders → ℕ → Room
 room_in orders k = (slice_index_or orders k (no_room, [])).0
 
-abbrev pub order_in : RoomOrders → ℕ → List Item
-order_in orders k = (slice_index_or orders k (no_room, [])).1
+abbrev pub order_of_room : RoomOrders → ℕ → List Item
+order_of_room orders k = (slice_index_or orders k (no_room, [])).1

@@ -20,18 +20,18 @@ pub record Room : Type 0 where
   pub runs : List ℕ
   pub own_runs : List Run
 
-abbrev pub device_numbers : List DeviceNo → List ℕ
-device_numbers devices = map (λ d. d.0) devices
+abbrev pub numbers_of_devices : List DeviceNo → List ℕ
+numbers_of_devices devices = map (λ d. d.0) devices
 
-abbrev pub run_numbers : List RunNo → List ℕ
-run_numbers runs = map (λ r. r.0) runs
+abbrev pub numbers_of_runs : List RunNo → List ℕ
+numbers_of_runs runs = map (λ r. r.0) runs
 
 abbrev pub plain_room : RoomRoster → Room
 plain_room roster =
     record {
       number = roster.room;
-      devices = device_numbers roster.devices.items;
-      runs = run_numbers roster.runs.items;
+      devices = numbers_of_devices roster.devices.items;
+      runs = numbers_of_runs roster.runs.items;
       own_runs = runs_of roster.roster;
     }
 

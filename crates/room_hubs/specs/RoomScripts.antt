@@ -16,15 +16,15 @@ use Rattle.std.specs.Prelude.{List, None, [], map, option_map, slice_index_or, s
 abbrev pub listed : {T : Type 0} → List T → Listed T
 listed items = record { items = items; spare = 0 }
 
-abbrev pub no_device : DeviceText
-no_device = record { name = []; kind = States 0; states = listed []; start = 0; downs = listed [] }
+abbrev pub no_device_text : DeviceText
+no_device_text = record { name = []; kind = States 0; states = listed []; start = 0; downs = listed [] }
 
 abbrev pub no_run_text : RunText
 no_run_text = record { routine = 0; follows = None }
 
 -- the devices with these numbers
 abbrev pub devices_at : List DeviceText → List ℕ → List DeviceText
-devices_at devices numbers = map (λ d. slice_index_or devices d no_device) numbers
+devices_at devices numbers = map (λ d. slice_index_or devices d no_device_text) numbers
 
 -- the devices of the room with this number
 abbrev pub room_devices : Script → ℕ → List DeviceText
@@ -44,12 +44,12 @@ abbrev pub own_run_text : List ℕ → List RunText → ℕ → RunText
 own_run_text mine texts r = record { routine = (run_text_at texts r).routine; follows = option_map (own_run_no mine) (run_text_at texts r).follows }
 
 -- a window with these runs alone
-abbrev pub window_of : List ℕ → WindowText → WindowText
-window_of mine window = record window { runs = listed (map (own_run_text mine window.runs.items) mine) }
+abbrev pub own_window_text : List ℕ → WindowText → WindowText
+own_window_text mine window = record window { runs = listed (map (own_run_text mine window.runs.items) mine) }
 
 -- the window with the runs of a room alone
 abbrev pub own_window : Script → ℕ → WindowText → WindowText
-own_window script k window = window_of (runs_in (rooms_of script).room_of (map (run_of_text script) window.runs.items) k) window
+own_window script k window = own_window_text (runs_in (rooms_of script).room_of (map (run_of_text script) window.runs.items) k) window
 
 -- the script of a room: its devices, the routines in its own numbers, and of each window its own runs. A routine on devices
 -- of other rooms is in it too; no run of the room does it where no run crosses

@@ -73,8 +73,8 @@ abbrev pub window_split : PlainRooms → List Run → Result (List Room) SplitFa
 window_split rooms runs = option_map_or (λ fault. Err fault) (cross_fault rooms.room_of runs) (Ok (all_rooms rooms runs))
 
 -- the split of a window of the script
-abbrev pub split_of : Script → ℕ → Result (List Room) SplitFault
-split_of script window = window_split (rooms_of script) (script_runs script window)
+abbrev pub script_split : Script → ℕ → Result (List Room) SplitFault
+script_split script window = window_split (rooms_of script) (script_runs script window)
 
 -- each run has its commands on devices of the home, and does not cross rooms
 pub record IsParted (room_of : List ℕ) (runs : List Run) : Type 0 where

@@ -14,7 +14,7 @@ use Rattle.home_types.specs.declared.numbers.DeviceNo.{DeviceNo}
 use Rattle.home_types.specs.declared.numbers.RunNo.{RunNo}
 use Rattle.home_types.specs.declared.worlds.Stand.{Stand}
 use Rattle.room_hubs.specs.Merges.{joined_order, room_order}
-use Rattle.room_hubs.specs.Numbers.{Room, device_numbers, home_device, home_run, place_in, plain_room}
+use Rattle.room_hubs.specs.Numbers.{Room, home_device, home_run, numbers_of_devices, place_in, plain_room}
 use Rattle.room_hubs.specs.RoomScripts.{listed}
 use Rattle.room_hubs.specs.Splits.{device_room}
 use Rattle.room_hubs.specs.declared.rosters.RoomWindow.{RoomWindow}
@@ -38,9 +38,9 @@ told_cause room (Lost d) = Lost (told_device room d)
 told_cause room (Revoked lender d deadline moment) = Revoked (told_run room lender) (told_device room d) deadline moment
 told_cause room (DownAtEnd d) = DownAtEnd (told_device room d)
 
-abbrev pub told_end : Room → End → End
-told_end room Committed = Committed
-told_end room (Aborted cause) = Aborted (told_cause room cause)
+abbrev pub end_in_home : Room → End → End
+end_in_home room Committed = Committed
+end_in_home room (Aborted cause) = Aborted (told_cause room cause)
 
 abbrev pub told_entry : Room → Entry → Entry
 told_entry room (Arrived r moment) = Arrived (told_run room r) moment
@@ -50,7 +50,7 @@ told_entry room (Undid r d drove) = Undid (told_run room r) (told_device room d)
 told_entry room (Fell d) = Fell (told_device room d)
 told_entry room (Rose d) = Rose (told_device room d)
 told_entry room (Doomed r cause) = Doomed (told_run room r) (told_cause room cause)
-told_entry room (Ended r end) = Ended (told_run room r) (told_end room end)
+told_entry room (Ended r end) = Ended (told_run room r) (end_in_home room end)
 
 -- an entry with its maker; 0 is the detector's number in every room
 abbrev pub told_kept : Room → Kept → Kept
@@ -69,8 +69,8 @@ abbrev pub RoomHome : Type 0
 RoomHome = List ℕ × List Stand
 
 -- how the room's devices stand at its window's end
-abbrev pub last_of : RoomWindow → RoomHome
-last_of window = (device_numbers window.roster.devices.items, window.closed.last.devices.items)
+abbrev pub last_of_room : RoomWindow → RoomHome
+last_of_room window = (numbers_of_devices window.roster.devices.items, window.closed.last.devices.items)
 
 abbrev pub stand_in : RoomHome → ℕ → Stand
 stand_in home d = stand_at home.1 (place_in home.0 d)
@@ -80,10 +80,10 @@ abbrev pub joined_home : List ℕ → List RoomHome → List Stand
 joined_home room_of homes = map (λ d. stand_in (slice_index_or homes (device_room room_of d) ([], [])) d) (range_with_len 0 (length room_of))
 
 -- the record tells of the windows of the rooms, all in the home's numbers
-pub record IsToldOf (room_of : List ℕ) (windows : List RoomWindow) (told : WindowRecord) : Type 0 where
+pub record IsToldOfRooms (room_of : List ℕ) (windows : List RoomWindow) (told : WindowRecord) : Type 0 where
   pub history : told.history.items ≡ joined_history windows
   pub order : told.order.items ≡ joined_order (map room_order windows)
-  pub last : told.last.devices.items ≡ joined_home room_of (map last_of windows)
+  pub last : told.last.devices.items ≡ joined_home room_of (map last_of_room windows)
 
 -- what the lines of the home's window tell: the windows of its rooms, in the home's numbers. No line tells a first state or counts
 abbrev pub told_record : List ℕ → Mode → List RoomWindow → WindowRecord
@@ -92,7 +92,7 @@ told_record room_of mode windows = record {
   first = record { devices = listed [] };
   history = listed (joined_history windows);
   order = listed (joined_order (map room_order windows));
-  last = record { devices = listed (joined_home room_of (map last_of windows)) };
+  last = record { devices = listed (joined_home room_of (map last_of_room windows)) };
   turns = listed [];
   faults = listed [];
 }

@@ -3,11 +3,11 @@
 ghost use Rattle.command_rules.specs.Rosters.{Run};
 ghost use Rattle.home_types.specs.declared.kinds.Kind.{Kind};
 ghost use Rattle.home_types.specs.declared.worlds.Stand.{Stand};
-ghost use Rattle.room_hubs.specs.Merges.{HasOwnOrder, InStep, IsMerge, Merge, PartHome, RoomOrders, home_execution, home_order, joined_merge, joined_order, order_in, own_order, room_execution, room_in};
+ghost use Rattle.room_hubs.specs.Merges.{HasOwnOrder, InStep, IsMerge, Merge, PartHome, RoomOrders, home_execution, home_order, joined_merge, joined_order, order_of_room, own_order, room_execution, room_in};
 ghost use Rattle.room_hubs.specs.Numbers.{Room, room_home, room_kinds};
 ghost use Rattle.room_hubs.specs.RoomScripts.{own_script};
 ghost use Rattle.room_hubs.specs.Rooms.{rooms_of};
-ghost use Rattle.room_hubs.specs.Splits.{IsParted, room_at, split_of};
+ghost use Rattle.room_hubs.specs.Splits.{IsParted, room_at, script_split};
 ghost use Rattle.routine_reader.specs.Rosters.{kinds_of, script_runs, start_home};
 ghost use Rattle.routine_reader.specs.Scripts.{plain_script};
 ghost use Rattle.routine_reader.specs.Sound.{IsSound};
@@ -24,7 +24,7 @@ pub fn rooms_part()
 /// A window that is split has no run that crosses rooms: its rooms part the home.
 pub fn split_parts()
     ensures { (script : Script) (window : ℕ) (all : List Room)
-        → IsSound (plain_script script) → split_of script window ≡ Ok all
+        → IsSound (plain_script script) → script_split script window ≡ Ok all
         → IsParted (rooms_of script).room_of (script_runs script window) }
 {}
 
@@ -53,7 +53,7 @@ pub fn joined_keeps()
     ensures order { (orders : RoomOrders)
         → joined_order orders ≡ home_order (room_in orders) (joined_merge 0 orders) }
     ensures own { (orders : RoomOrders) (k : ℕ)
-        → own_order k (joined_merge 0 orders) ≡ order_in orders k }
+        → own_order k (joined_merge 0 orders) ≡ order_of_room orders k }
     ensures merge { (orders : RoomOrders)
         → All HasOwnOrder orders → IsMerge (room_in orders) (joined_merge 0 orders) }
 {}

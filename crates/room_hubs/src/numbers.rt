@@ -1,7 +1,7 @@
 //! The numbers of a room's devices and runs: its own, and those of the home.
 ghost use Rattle.command_rules.specs.Rosters.{device_no, run_no};
 ghost use Rattle.home_types.specs.Limits.{most_devices, most_runs};
-ghost use Rattle.room_hubs.specs.Numbers.{IsOwnDevice, IsOwnItem, IsOwnRun, device_numbers, home_device, home_item, home_run, own_command, own_device, own_run_no, place_in, plain_room, run_numbers};
+ghost use Rattle.room_hubs.specs.Numbers.{IsOwnDevice, IsOwnItem, IsOwnRun, home_device, home_item, home_run, numbers_of_devices, numbers_of_runs, own_command, own_device, own_run_no, place_in, plain_room};
 ghost use Rattle.std.specs.List.{position};
 ghost use Rattle.std.specs.Prelude.{◌≡◌, ◌<◌, ◌≤◌, ◌==◌, IfSome, length};
 
@@ -54,7 +54,7 @@ fn place_of_run(runs: &[RunNo], run: RunNo) -> Option<usize>
 
 /// The place of a device among these: how many they are, where it is none of them.
 pub(crate) fn place_in(devices: &[DeviceNo], device: DeviceNo) -> usize
-    ensures { result ≡ place_in (device_numbers devices.now) device.0 }
+    ensures { result ≡ place_in (numbers_of_devices devices.now) device.0 }
 {
     match place_of_device(devices, device) {
         Some(place) => place,
@@ -65,7 +65,7 @@ pub(crate) fn place_in(devices: &[DeviceNo], device: DeviceNo) -> usize
 /// A device of the home in the own numbers of a room with these devices: how many they are, where it is none of them.
 fn own_device(devices: &[DeviceNo], device: DeviceNo) -> DeviceNo
     requires { length devices.now ≤ most_devices }
-    ensures { result ≡ own_device (device_numbers devices.now) device }
+    ensures { result ≡ own_device (numbers_of_devices devices.now) device }
 {
     match place_of_device(devices, device) {
         Some(place) => DeviceNo(place as u16),
@@ -76,7 +76,7 @@ fn own_device(devices: &[DeviceNo], device: DeviceNo) -> DeviceNo
 /// A command of the home in the own numbers of a room with these devices.
 pub fn own_command(devices: &[DeviceNo], command: Command) -> Command
     requires { length devices.now ≤ most_devices }
-    ensures { result ≡ own_command (device_numbers devices.now) command }
+    ensures { result ≡ own_command (numbers_of_devices devices.now) command }
 {
     Command {
         device: own_device(devices, command.device),
@@ -88,7 +88,7 @@ pub fn own_command(devices: &[DeviceNo], command: Command) -> Command
 /// none of them.
 pub fn own_run_no(runs: &[RunNo], run: RunNo) -> RunNo
     requires { length runs.now ≤ most_runs }
-    ensures { result ≡ own_run_no (run_numbers runs.now) run }
+    ensures { result ≡ own_run_no (numbers_of_runs runs.now) run }
 {
     match place_of_run(runs, run) {
         Some(place) => RunNo(place as u32 + 1),

@@ -1,6 +1,6 @@
 //! The script of a room: the devices of the home that are in it, and nothing else.
 ghost use Rattle.home_types.specs.Limits.{most_devices};
-ghost use Rattle.room_hubs.specs.Numbers.{device_numbers};
+ghost use Rattle.room_hubs.specs.Numbers.{numbers_of_devices};
 ghost use Rattle.room_hubs.specs.RoomScripts.{devices_at, plain_devices, room_devices};
 ghost use Rattle.room_hubs.specs.Rooms.{plain_rooms, rooms_of};
 ghost use Rattle.routine_reader.specs.Scripts.{plain_device, plain_script};
@@ -48,7 +48,7 @@ fn copy_devices(
 ) -> Result<List<DeviceText>, NoMemory>
     requires { All (λ number. number.0 < length devices.now) numbers.now }
     ensures { IfOk result (λ copy.
-        plain_devices copy.items ≡ plain_devices (devices_at devices.now (device_numbers numbers.now))) }
+        plain_devices copy.items ≡ plain_devices (devices_at devices.now (numbers_of_devices numbers.now))) }
 {
     let mut copy = List::new(alloc);
     'numbers: for number in numbers {

@@ -1,9 +1,9 @@
 //! How a window is split among the rooms of the home.
 ghost use Rattle.command_rules.specs.Rosters.{commands_of, plain_run, runs_of};
 ghost use Rattle.home_types.specs.Limits.{most_devices, most_runs};
-ghost use Rattle.room_hubs.specs.Numbers.{device_numbers, own_command, own_run, plain_room, run_numbers};
+ghost use Rattle.room_hubs.specs.Numbers.{numbers_of_devices, numbers_of_runs, own_command, own_run, plain_room};
 ghost use Rattle.room_hubs.specs.Rooms.{plain_rooms, rooms_of};
-ghost use Rattle.room_hubs.specs.Splits.{all_rooms, cross_fault, crosses, crosses_rooms, device_room, devices_in, follows_across, own_runs, room_at, run_room, runs_in, split_of, window_split};
+ghost use Rattle.room_hubs.specs.Splits.{all_rooms, cross_fault, crosses, crosses_rooms, device_room, devices_in, follows_across, own_runs, room_at, run_room, runs_in, script_split, window_split};
 ghost use Rattle.routine_reader.specs.Scripts.{plain_script};
 ghost use Rattle.routine_reader.specs.Sound.{IsSound};
 ghost use Rattle.std.specs.List.{position};
@@ -123,7 +123,7 @@ pub(crate) fn devices_in(
     room: u32,
 ) -> Result<List<DeviceNo>, NoMemory>
     requires { length room_of.now ≤ most_devices }
-    ensures { IfOk result (λ devices. device_numbers devices.items ≡ devices_in room_of.now room) }
+    ensures { IfOk result (λ devices. numbers_of_devices devices.items ≡ devices_in room_of.now room) }
 {
     let mut devices = List::new(alloc);
     'devices: for d in 0..room_of.len() {
@@ -142,7 +142,7 @@ fn runs_in(
     room: u32,
 ) -> Result<List<RunNo>, NoMemory>
     requires { length roster.now ≤ most_runs }
-    ensures { IfOk result (λ runs. run_numbers runs.items ≡ runs_in room_of.now (map plain_run roster.now) room) }
+    ensures { IfOk result (λ runs. numbers_of_runs runs.items ≡ runs_in room_of.now (map plain_run roster.now) room) }
 {
     let mut runs = List::new(alloc);
     'runs: for place in 0..roster.len() {
@@ -162,7 +162,7 @@ fn own_commands(
     commands: &[Command],
 ) -> Result<List<Command>, NoMemory>
     requires { length devices.now ≤ most_devices }
-    ensures { IfOk result (λ own. own.items ≡ map (own_command (device_numbers devices.now)) commands.now) }
+    ensures { IfOk result (λ own. own.items ≡ map (own_command (numbers_of_devices devices.now)) commands.now) }
 {
     let mut own = List::new(alloc);
     own.reserve(commands.len() as u64)?;
@@ -182,7 +182,7 @@ fn own_run(
     requires devices { length devices.now ≤ most_devices }
     requires runs { length mine.now ≤ most_runs }
     ensures { IfOk result (λ own. plain_run own
-        ≡ own_run (device_numbers devices.now) (run_numbers mine.now) (plain_run run.now)) }
+        ≡ own_run (numbers_of_devices devices.now) (numbers_of_runs mine.now) (plain_run run.now)) }
 {
     let commands = own_commands(alloc, devices, run.routine.commands.as_slice())?;
     let follows = match run.follows {
@@ -206,7 +206,7 @@ fn own_roster(
     requires few { length mine.now ≤ most_runs }
     requires there { All (λ run. (1 ≤ run.0) × (run.0 ≤ length runs.now)) mine.now }
     ensures { IfOk result (λ own. runs_of own
-        ≡ own_runs (device_numbers devices.now) (run_numbers mine.now) (map plain_run runs.now)) }
+        ≡ own_runs (numbers_of_devices devices.now) (numbers_of_runs mine.now) (map plain_run runs.now)) }
 {
     let mut own = List::new(alloc);
     own.reserve(mine.len() as u64)?;
@@ -295,8 +295,8 @@ pub fn split(
     requires window { window < length script.now.windows.items }
     requires sound { IsSound (plain_script script.now) }
     requires rooms { plain_rooms rooms.now ≡ rooms_of script.now }
-    ensures rosters { IfOk result (λ all. split_of script.now window ≡ Ok (map plain_room all.items)) }
-    ensures refused { IfErr result (λ e. e ≢ SplitFault.NoMemory → split_of script.now window ≡ Err e) }
+    ensures rosters { IfOk result (λ all. script_split script.now window ≡ Ok (map plain_room all.items)) }
+    ensures refused { IfErr result (λ e. e ≢ SplitFault.NoMemory → script_split script.now window ≡ Err e) }
 {
     let roster = match roster(alloc, script, window) {
         Ok(roster) => roster,

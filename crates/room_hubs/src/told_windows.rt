@@ -1,7 +1,7 @@
 //! What the lines of a home's window tell, from the windows of its rooms.
 ghost use Rattle.room_hubs.specs.Merges.{HasOwnOrder, room_order};
 ghost use Rattle.room_hubs.specs.Numbers.{plain_room};
-ghost use Rattle.room_hubs.specs.ToldWindows.{IsToldOf, joined_history, joined_home, last_of, stand_in, told_cause, told_device, told_end, told_entry, told_kept, told_run};
+ghost use Rattle.room_hubs.specs.ToldWindows.{IsToldOfRooms, end_in_home, joined_history, joined_home, last_of_room, stand_in, told_cause, told_device, told_entry, told_kept, told_run};
 ghost use Rattle.home_types.specs.Limits.{most_devices};
 ghost use Rattle.room_hubs.specs.Splits.{device_room};
 ghost use Rattle.std.specs.Prelude.{◌≡◌, ◌<◌, ◌≤◌, ◌++◌, All, IfOk, OnOk, [], length, map, slice_index_or};
@@ -68,7 +68,7 @@ fn told_cause(roster: &RoomRoster, cause: Cause) -> Cause
 
 /// An end, with its cause in the home's numbers.
 fn told_end(roster: &RoomRoster, end: End) -> End
-    ensures { result ≡ told_end (plain_room roster.now) end }
+    ensures { result ≡ end_in_home (plain_room roster.now) end }
 {
     match end {
         End::Committed => End::Committed,
@@ -140,7 +140,7 @@ fn told_history(alloc: Global, windows: &[RoomWindow]) -> Result<List<Kept>, NoM
 
 /// Where a device of the home stands at the end of the window of its room.
 fn last_stand(window: &RoomWindow, device: DeviceNo) -> Stand
-    ensures { result ≡ stand_in (last_of window.now) device.0 }
+    ensures { result ≡ stand_in (last_of_room window.now) device.0 }
 {
     let place = place_in(window.roster.devices.as_slice(), device);
     match window.closed.last.devices.as_slice().get(place) {
@@ -151,7 +151,7 @@ fn last_stand(window: &RoomWindow, device: DeviceNo) -> Stand
 
 /// Where a device of the home stands at the end of the windows of its rooms.
 fn joined_stand(room_of: &[u32], windows: &[RoomWindow], device: DeviceNo) -> Stand
-    ensures { result ≡ stand_in (slice_index_or (map last_of windows.now) (device_room room_of.now device.0) ([], [])) device.0 }
+    ensures { result ≡ stand_in (slice_index_or (map last_of_room windows.now) (device_room room_of.now device.0) ([], [])) device.0 }
 {
     match windows.get(device_room(room_of, device) as usize) {
         Some(window) => last_stand(window, device),
@@ -166,7 +166,7 @@ fn joined_home(
     windows: &[RoomWindow],
 ) -> Result<List<Stand>, NoMemory>
     requires { length room_of.now ≤ most_devices }
-    ensures { IfOk result (λ home. home.items ≡ joined_home room_of.now (map last_of windows.now)) }
+    ensures { IfOk result (λ home. home.items ≡ joined_home room_of.now (map last_of_room windows.now)) }
 {
     let mut home = List::new(alloc);
     'devices: for d in 0..room_of.len() {
@@ -188,7 +188,7 @@ pub fn told_window(
 ) -> Result<WindowRecord, NoMemory>
     requires devices { length rooms.now.room_of.items ≤ most_devices }
     requires own { All (λ window. HasOwnOrder (room_order window)) windows.now.items }
-    ensures { IfOk result (λ told. IsToldOf rooms.now.room_of.items windows.now.items told) }
+    ensures { IfOk result (λ told. IsToldOfRooms rooms.now.room_of.items windows.now.items told) }
 {
     let order = joined(alloc, windows)?;
     let history = told_history(alloc, windows.as_slice())?;

@@ -1,5 +1,5 @@
 -- What `serde_json` answers at any bytes.
-use Rattle.routine_reader.specs.Readings.{value_of}
+use Rattle.routine_reader.specs.Readings.{json_value_of}
 use Rattle.serde_json.specs.Data.{Data}
 use Rattle.serde_json.specs.Read.{read}
 use Rattle.std.proofs.Common.{Bool, IsUtf8, List, None, Option, Some, false, if◌then◌else◌, refl, true, ℕ, ◌≡◌}
@@ -13,8 +13,8 @@ none_if false o h = refl
 some_if : (b : Bool) (o : Option Data) (d : Data) → b ≡ true → o ≡ Some d → (if b then o else None) ≡ Some d
 some_if b o d e p = rw e p
 
-pub value-none : (bs : List ℕ) → (IsUtf8 bs → read bs ≡ None) → value_of bs ≡ None
+pub value-none : (bs : List ℕ) → (IsUtf8 bs → read bs ≡ None) → json_value_of bs ≡ None
 value-none bs h = none_if (is_utf8 bs) (read bs) (λ e. h (IsUtf8-from_is_utf8 bs e))
 
-pub value-some : (bs : List ℕ) (d : Data) → IsUtf8 bs → read bs ≡ Some d → value_of bs ≡ Some d
+pub value-some : (bs : List ℕ) (d : Data) → IsUtf8 bs → read bs ≡ Some d → json_value_of bs ≡ Some d
 value-some bs d u p = some_if (is_utf8 bs) (read bs) d (is_utf8-from_IsUtf8 bs u) p

@@ -9,14 +9,14 @@ use Rattle.home_types.specs.declared.commands.Job.{Job}
 use Rattle.home_types.specs.declared.kinds.Kind.{Kind}
 use Rattle.routine_reader.proofs.DeviceSound.{if-some, new-name, number-within, place-within, some-same, some-values, then-some, value-suits}
 use Rattle.routine_reader.proofs.WalkSound.{each-all, each-length, ok-found, ok-same, ok-then, ok-unless, ok-within}
-use Rattle.routine_reader.specs.Commands.{CommandMembers, command_form, command_members, command_reading, command_with, guard_of, guard_with, job_of, kind_of, ms_at, next_command, states_of, suits_verb, takes_at, verb_in, with_its_value}
+use Rattle.routine_reader.specs.Commands.{CommandMembers, command_form, command_members, command_reading, command_with, guard_of, guard_with, job_of, kind_of, ms_at, next_command_read, state_names_of, suits_verb, takes_at, verb_in, with_its_value}
 use Rattle.routine_reader.specs.Devices.{device_names, value_in}
 use Rattle.routine_reader.specs.Forms.{has_form, if_there, needed, number_of, or_default, present, state_of}
 use Rattle.routine_reader.specs.Limits.{most_of_32_bits}
 use Rattle.routine_reader.specs.Names.{is_among, new_name, place_of}
 use Rattle.routine_reader.specs.Routines.{commands_reading, routine_members, routine_reading}
 use Rattle.routine_reader.specs.Scripts.{PlainDevice, PlainRoutine}
-use Rattle.routine_reader.specs.Sound.{IsSoundCommand, IsSoundDevice, IsSoundKind, IsSoundRoutine, compared, device_kinds, suits}
+use Rattle.routine_reader.specs.Sound.{IsSoundCommand, IsSoundDevice, IsSoundKind, IsSoundRoutine, compared, device_kinds, suits_device}
 use Rattle.routine_reader.specs.Spots.{at, inside}
 use Rattle.routine_reader.specs.Walks.{read_each, within_limit, ◌>>=◌}
 use Rattle.routine_reader.specs.declared.commands.Verb.TheVariants.{Check, Load, Set, Store}
@@ -39,7 +39,7 @@ map-some f None u h = absurd (none-some u h)
 map-some f (Some t) u h = (t, refl, some-same (f t) u h)
 
 -- the kind and the states of each device suit each other
-kind-sound : (devices : List PlainDevice) (d : ℕ) → All IsSoundDevice devices → d < length devices → IsSoundKind (kind_of devices d) (states_of devices d)
+kind-sound : (devices : List PlainDevice) (d : ℕ) → All IsSoundDevice devices → d < length devices → IsSoundKind (kind_of devices d) (state_names_of devices d)
 kind-sound [] d all within = absurd (omega (arith, within))
 kind-sound (device ∷ devices) zero all within = (All-head IsSoundDevice device devices all).kind
 kind-sound (device ∷ devices) (suc d) all within = kind-sound devices d (All-tail IsSoundDevice device devices all) (omega (arith, within))
@@ -50,17 +50,17 @@ kind-same (device ∷ devices) zero within = refl
 kind-same (device ∷ devices) (suc d) within = kind-same devices d (omega (arith, within))
 
 job-suits : (verb : Verb) (to : Option Data) (kind : Kind) (states : List (List ℕ)) (does : Job) → IsSoundKind kind states
-    → job_of verb to kind states ≡ Some does → suits kind does ≡ true
+    → job_of verb to kind states ≡ Some does → suits_device kind does ≡ true
 job-suits Set to kind states does sound h =
     let value = map-some job.Set (option_and_then (value_in kind states) to) does h in
     let given = then-some (value_in kind states) to value.0 value.1 in
-    subst (λ j. suits kind j ≡ true) value.2 (value-suits kind states given.0 value.0 sound given.2)
+    subst (λ j. suits_device kind j ≡ true) value.2 (value-suits kind states given.0 value.0 sound given.2)
 job-suits Check to kind states does sound h =
     let value = map-some job.Check (option_and_then (value_in kind states) to) does h in
     let given = then-some (value_in kind states) to value.0 value.1 in
-    subst (λ j. suits kind j ≡ true) value.2 (value-suits kind states given.0 value.0 sound given.2)
-job-suits Load to kind states does sound h = subst (λ j. suits kind j ≡ true) (some-same job.Load does h) refl
-job-suits Store to kind states does sound h = subst (λ j. suits kind j ≡ true) (some-same job.Store does h) refl
+    subst (λ j. suits_device kind j ≡ true) value.2 (value-suits kind states given.0 value.0 sound given.2)
+job-suits Load to kind states does sound h = subst (λ j. suits_device kind j ≡ true) (some-same job.Load does h) refl
+job-suits Store to kind states does sound h = subst (λ j. suits_device kind j ≡ true) (some-same job.Store does h) refl
 
 -- a guard compares with a number of 32 bits
 abbrev IsWithin : Guard → Type 0
@@ -123,7 +123,7 @@ command-sound version devices sound routine number value command h =
     let members = ok-then (ok_or (command_members version value) (Shape spot)) _ command h in
     let device = ok-then (ok_or (place_of (device_names devices) members.0.device) (UnknownName spot)) _ command members.2 in
     let kind = kind_of devices device.0 in
-    let states = states_of devices device.0 in
+    let states = state_names_of devices device.0 in
     let does = ok-then (ok_or (job_of members.0.verb members.0.to kind states) (BadState spot)) _ command device.2 in
     let ms = ok-then (within_limit count.Ms members.0.ms) _ command does.2 in
     let takes = ok-then (within_limit count.Ms members.0.takes) _ command ms.2 in
@@ -138,7 +138,7 @@ command-sound version devices sound routine number value command h =
     subst (IsSoundCommand devices) {x = made} (ok-same made command takes.2)
     (record {
       device = there;
-      value = subst (λ k. suits k does.0 ≡ true) (kind-same devices device.0 there) suited;
+      value = subst (λ k. suits_device k does.0 ≡ true) (kind-same devices device.0 there) suited;
       when = omega (arith, when);
       ms = omega (arith, few_ms.0, few_ms.1);
       takes = omega (arith, few_takes.0, few_takes.1);
@@ -149,7 +149,7 @@ commands-sound : (version : ℕ) (devices : List PlainDevice) → All IsSoundDev
     → (0 < length commands) × (length commands ≤ most_commands) × All (IsSoundCommand devices) commands
 unfolding commands_reading
 commands-sound version devices sound routine values commands h =
-    let R = next_command version devices routine in
+    let R = next_command_read version devices routine in
     let some = ok-unless (length values == 0) (within_limit count.Commands (length values) >>= (λ few. read_each R [] values)) (Shape (at part.Routine routine)) commands h in
     let few = ok-then (within_limit count.Commands (length values)) (λ few. read_each R [] values) commands some.1 in
     let fits = ok-within count.Commands (length values) few.0 few.1 in

@@ -6,14 +6,14 @@ use Rattle.routine_reader.proofs.PrefixLemmas.{EachAfter, different-names, each-
 use Rattle.routine_reader.proofs.RoutineSound.{routine-sound}
 use Rattle.routine_reader.proofs.WalkSound.{each-after, each-all, each-length, ok-same, ok-then}
 use Rattle.routine_reader.proofs.WindowSound.{window-sound}
-use Rattle.routine_reader.specs.Devices.{device_names, next_device}
+use Rattle.routine_reader.specs.Devices.{device_names, next_device_read}
 use Rattle.routine_reader.specs.Names.{is_among}
 use Rattle.routine_reader.specs.Readings.{DayMembers, parts_reading}
 use Rattle.routine_reader.specs.Routines.{next_routine, routine_names}
 use Rattle.routine_reader.specs.Scripts.{PlainDevice, PlainRoutine, PlainScript, PlainWindow, plain_script, plain_window}
 use Rattle.routine_reader.specs.Sound.{AreInOrder, IsSound, IsSoundDevice, IsSoundRoutine, IsSoundWindow}
 use Rattle.routine_reader.specs.Walks.{IsReading, read_each}
-use Rattle.routine_reader.specs.Windows.{is_later, last_time, next_window}
+use Rattle.routine_reader.specs.Windows.{is_later, last_time, next_window_read}
 use Rattle.routine_reader.specs.declared.faults.ReadFault.{ReadFault}
 use Rattle.routine_reader.specs.declared.scripts.Script.{Script}
 use Rattle.std.proofs.Common.{Err, List, Ok, Result, Some, [], ap, arith, false, length, option_map, subst, suc, true, zero, ℕ, ◌+◌, ◌-◌, ◌∙◌, ◌≡◌, ◌≤◌, ◌∷◌}
@@ -53,25 +53,25 @@ parts-sound : (members : DayMembers) (script : PlainScript) → length members.d
     → parts_reading members ≡ Ok script → All (λ window. IsCivilTime window.at) script.windows → IsSound script
 unfolding parts_reading
 parts-sound members script few_devices few_routines few_windows h =
-    let devices = ok-then (read_each next_device [] members.devices) _ script h in
+    let devices = ok-then (read_each next_device_read [] members.devices) _ script h in
     let next = next_routine members.version devices.0 in
     let routines = ok-then (read_each next [] members.routines) _ script devices.2 in
     let names = routine_names routines.0 in
-    let windows = ok-then (read_each (next_window names) [] members.windows) _ script routines.2 in
-    let all_devices = each-all IsSoundDevice next_device (λ earlier value device e. (device-sound (length earlier + 1) (device_names earlier) value device e).0) [] members.devices devices.0 (All-nil IsSoundDevice) devices.1 in
+    let windows = ok-then (read_each (next_window_read names) [] members.windows) _ script routines.2 in
+    let all_devices = each-all IsSoundDevice next_device_read (λ earlier value device e. (device-sound (length earlier + 1) (device_names earlier) value device e).0) [] members.devices devices.0 (All-nil IsSoundDevice) devices.1 in
     let D : List PlainDevice → PlainDevice → Type 0 = λ earlier device. is_among (device_names earlier) device.name ≡ false in
-    let new_devices = each-after D next_device (λ earlier value device e. (device-sound (length earlier + 1) (device_names earlier) value device e).1) [] members.devices devices.0 (each-none D) devices.1 in
+    let new_devices = each-after D next_device_read (λ earlier value device e. (device-sound (length earlier + 1) (device_names earlier) value device e).1) [] members.devices devices.0 (each-none D) devices.1 in
     let all_routines = each-all (IsSoundRoutine devices.0) next (λ earlier value routine e. (routine-sound members.version devices.0 all_devices (length earlier + 1) (routine_names earlier) value routine e).0) [] members.routines routines.0 (All-nil (IsSoundRoutine devices.0)) routines.1 in
     let R : List PlainRoutine → PlainRoutine → Type 0 = λ earlier routine. is_among (routine_names earlier) routine.name ≡ false in
     let new_routines = each-after R next (λ earlier value routine e. (routine-sound members.version devices.0 all_devices (length earlier + 1) (routine_names earlier) value routine e).1) [] members.routines routines.0 (each-none R) routines.1 in
     let S : PlainWindow → Type 0 = λ window. IsCivilTime window.at → IsSoundWindow (length names) window in
-    let all_windows = each-all S (next_window names) (λ earlier value window e. (window-sound names (length earlier + 1) (last_time earlier) value window e).0) [] members.windows windows.0 (All-nil S) windows.1 in
+    let all_windows = each-all S (next_window_read names) (λ earlier value window e. (window-sound names (length earlier + 1) (last_time earlier) value window e).0) [] members.windows windows.0 (All-nil S) windows.1 in
     let W : List PlainWindow → PlainWindow → Type 0 = λ earlier window. is_later (last_time earlier) window.at ≡ true in
-    let later = each-after W (next_window names) (λ earlier value window e. (window-sound names (length earlier + 1) (last_time earlier) value window e).1) [] members.windows windows.0 (each-none W) windows.1 in
+    let later = each-after W (next_window_read names) (λ earlier value window e. (window-sound names (length earlier + 1) (last_time earlier) value window e).1) [] members.windows windows.0 (each-none W) windows.1 in
     let made : PlainScript = record { devices = devices.0; routines = routines.0; windows = windows.0 } in
-    let count_devices = each-length next_device [] members.devices devices.0 devices.1 in
+    let count_devices = each-length next_device_read [] members.devices devices.0 devices.1 in
     let count_routines = each-length next [] members.routines routines.0 routines.1 in
-    let count_windows = each-length (next_window names) [] members.windows windows.0 windows.1 in
+    let count_windows = each-length (next_window_read names) [] members.windows windows.0 windows.1 in
     subst (λ (s : PlainScript). All (λ window. IsCivilTime window.at) s.windows → IsSound s) {x = made} (ok-same made script windows.2)
     (λ civil. record {
       few_devices = omega (arith, count_devices, few_devices);

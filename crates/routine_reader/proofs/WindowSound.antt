@@ -12,7 +12,7 @@ use Rattle.routine_reader.specs.Scripts.{PlainWindow}
 use Rattle.routine_reader.specs.Sound.{IsSoundRun, IsSoundWindow}
 use Rattle.routine_reader.specs.Spots.{at, inside}
 use Rattle.routine_reader.specs.Walks.{read_each, within_limit}
-use Rattle.routine_reader.specs.Windows.{WindowMembers, follows_reading, is_later, next_run, next_turn, run_members, run_reading, time_reading, turn_reading, window_members, window_reading, window_with}
+use Rattle.routine_reader.specs.Windows.{WindowMembers, follows_reading, is_later, next_run_read, next_turn, run_members, run_reading, time_reading, turn_reading, window_members, window_reading, window_with}
 use Rattle.routine_reader.specs.declared.faults.Count.TheVariants as count
 use Rattle.routine_reader.specs.declared.faults.Part.TheVariants as part
 use Rattle.routine_reader.specs.declared.faults.ReadFault.TheVariants.{BadFollow, BadTime, BadTurn, Shape, UnknownName}
@@ -114,18 +114,18 @@ window-sound routines number before value window h =
     let few_runs = ok-then (within_limit count.Runs (length members.0.runs)) _ window few_turns.2 in
     let count_of_runs = length members.0.runs in
     let turns = ok-then (read_each (next_turn number count_of_runs) [] members.0.turns) _ window few_runs.2 in
-    let runs = ok-then (read_each (next_run routines number) [] members.0.runs) _ window turns.2 in
+    let runs = ok-then (read_each (next_run_read routines number) [] members.0.runs) _ window turns.2 in
     let seed = seed-within value members.0 (ok-found (window_members value) (Shape spot) members.0 members.1) in
     let some_probes = ok-within count.Probes members.0.probes probes.0 probes.1 in
     let some_turns = ok-within count.Turns (length members.0.turns) few_turns.0 few_turns.1 in
     let some_runs = ok-within count.Runs count_of_runs few_runs.0 few_runs.1 in
     let turns_length = each-length (next_turn number count_of_runs) [] members.0.turns turns.0 turns.1 in
-    let runs_length = each-length (next_run routines number) [] members.0.runs runs.0 runs.1 in
+    let runs_length = each-length (next_run_read routines number) [] members.0.runs runs.0 runs.1 in
     let same_runs : count_of_runs ≡ length runs.0 = omega (arith, runs_length) in
     let all_turns = each-all (λ turn. turn ≤ count_of_runs) (next_turn number count_of_runs) (λ earlier v turn e. turn-sound number count_of_runs (length earlier + 1) v turn e)
     [] members.0.turns turns.0 (All-nil (λ turn. turn ≤ count_of_runs)) turns.1 in
     let P : List RunText → RunText → Type 0 = λ earlier run. IsSoundRun (length routines) (length earlier) run in
-    let all_runs = each-after P (next_run routines number) (λ earlier v run e. run-sound routines number (length earlier) v run e) [] members.0.runs runs.0 (each-none P) runs.1 in
+    let all_runs = each-after P (next_run_read routines number) (λ earlier v run e. run-sound routines number (length earlier) v run e) [] members.0.runs runs.0 (each-none P) runs.1 in
     let made : PlainWindow = record { at = time.0; seed = members.0.seed; probes = probes.0; turns = turns.0; runs = runs.0 } in
     subst (λ (w : PlainWindow). (IsCivilTime w.at → IsSoundWindow (length routines) w) × (is_later before w.at ≡ true)) (ok-same made window runs.2) (
       λ civil. record {

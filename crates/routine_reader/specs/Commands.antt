@@ -113,8 +113,8 @@ job_of Load to kind states = Some job.Load
 job_of Store to kind states = Some job.Store
 
 -- the names of the states of the device with this number, and its kind
-abbrev pub states_of : List PlainDevice → ℕ → List (List ℕ)
-states_of devices d = option_map_or (λ device. device.states) (slice_get devices d) []
+abbrev pub state_names_of : List PlainDevice → ℕ → List (List ℕ)
+state_names_of devices d = option_map_or (λ device. device.states) (slice_get devices d) []
 
 abbrev pub kind_of : List PlainDevice → ℕ → Kind
 kind_of devices d = option_map_or (λ device. device.kind) (slice_get devices d) (States 0)
@@ -125,10 +125,10 @@ command_reading version devices routine number value =
     let spot = inside part.Command routine number in do
       members ← ok_or (command_members version value) (Shape spot)
       device ← ok_or (place_of (device_names devices) members.device) (UnknownName spot)
-      job ← ok_or (job_of members.verb members.to (kind_of devices device) (states_of devices device)) (BadState spot)
+      job ← ok_or (job_of members.verb members.to (kind_of devices device) (state_names_of devices device)) (BadState spot)
       ms ← within_limit count.Ms members.ms
       takes ← within_limit count.Ms members.takes
       Ok (record { device = record { 0 = device }; job = job; when = members.when; must = members.must; ms = ms; takes = takes })
 
-abbrev pub next_command : ℕ → List PlainDevice → ℕ → List Command → Data → Result Command ReadFault
-next_command version devices routine earlier value = command_reading version devices routine (length earlier + 1) value
+abbrev pub next_command_read : ℕ → List PlainDevice → ℕ → List Command → Data → Result Command ReadFault
+next_command_read version devices routine earlier value = command_reading version devices routine (length earlier + 1) value

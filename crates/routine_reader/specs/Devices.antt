@@ -132,5 +132,5 @@ device_reading number names value =
       downs ← downs_reading number members.down
       Ok (record { name = name; kind = values.kind; states = values.states; start = start; downs = downs })
 
-abbrev pub next_device : List PlainDevice → Data → Result PlainDevice ReadFault
-next_device earlier value = device_reading (length earlier + 1) (device_names earlier) value
+abbrev pub next_device_read : List PlainDevice → Data → Result PlainDevice ReadFault
+next_device_read earlier value = device_reading (length earlier + 1) (device_names earlier) value

@@ -1,12 +1,12 @@
 -- The reading of a script.
 use Rattle.home_types.specs.Limits.{most_script_bytes}
-use Rattle.routine_reader.specs.Devices.{next_device}
+use Rattle.routine_reader.specs.Devices.{next_device_read}
 use Rattle.routine_reader.specs.Forms.{has_form, items_in, long_number_of, needed}
 use Rattle.routine_reader.specs.Routines.{next_routine, routine_names}
 use Rattle.routine_reader.specs.Scripts.{PlainScript}
 use Rattle.routine_reader.specs.Spots.{top}
 use Rattle.routine_reader.specs.Walks.{read_each, within_limit, ◌>>=◌}
-use Rattle.routine_reader.specs.Windows.{next_window}
+use Rattle.routine_reader.specs.Windows.{next_window_read}
 use Rattle.routine_reader.specs.declared.faults.Count.TheVariants as count
 use Rattle.routine_reader.specs.declared.faults.ReadFault.TheVariants.{BadVersion, NotJson, Shape, TooMany}
 use Rattle.routine_reader.specs.declared.faults.ReadFault.{ReadFault}
@@ -17,8 +17,8 @@ use Rattle.std.specs.Prelude.{Err, List, None, Ok, Option, Result, Some, [], cod
 use Rattle.std.specs.Str.{is_utf8}
 
 -- the value that `serde_json` reads
-abbrev pub value_of : List ℕ → Option Data
-value_of bytes = if is_utf8 bytes then read bytes else None
+abbrev pub json_value_of : List ℕ → Option Data
+json_value_of bytes = if is_utf8 bytes then read bytes else None
 
 -- the members of the top object, each of its type
 pub record DayMembers : Type 0 where
@@ -45,9 +45,9 @@ day_members value =
 -- the devices, then the routines, then the windows
 unfoldable pub parts_reading : DayMembers → Result PlainScript ReadFault
 parts_reading members = do
-  devices ← read_each next_device [] members.devices
+  devices ← read_each next_device_read [] members.devices
   routines ← read_each (next_routine members.version devices) [] members.routines
-  windows ← read_each (next_window (routine_names routines)) [] members.windows
+  windows ← read_each (next_window_read (routine_names routines)) [] members.windows
   Ok (record { devices = devices; routines = routines; windows = windows })
 
 -- a script of version 1 or 2, with no more of each than the limit
@@ -71,6 +71,6 @@ unfoldable pub script_reading : List ℕ → Result PlainScript ReadFault
 script_reading bytes =
     if nat_le (length bytes) most_script_bytes then
     (do
-      value ← ok_or (value_of bytes) NotJson
+      value ← ok_or (json_value_of bytes) NotJson
       value_reading value)
     else Err (TooMany count.Bytes (most_script_bytes + 1) most_script_bytes)

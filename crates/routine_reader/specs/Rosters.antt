@@ -19,11 +19,11 @@ start_stand d = record { value = d.start; up = true }
 abbrev pub start_home : Script → List Stand
 start_home script = map start_stand script.devices.items
 
-abbrev pub routine_at : Script → ℕ → List Command
-routine_at script i = unwrap_or (option_map (λ t. t.routine.commands.items) (slice_get script.routines.items i)) []
+abbrev pub routine_commands : Script → ℕ → List Command
+routine_commands script i = unwrap_or (option_map (λ t. t.routine.commands.items) (slice_get script.routines.items i)) []
 
 abbrev pub run_of_text : Script → RunText → Run
-run_of_text script t = record { commands = routine_at script t.routine; follows = t.follows }
+run_of_text script t = record { commands = routine_commands script t.routine; follows = t.follows }
 
 -- the runs of the window with this number, from 0, with the commands of their routines
 abbrev pub script_runs : Script → ℕ → List Run

@@ -1,6 +1,6 @@
 -- The reading of a routine.
 use Rattle.home_types.specs.declared.commands.Command.{Command}
-use Rattle.routine_reader.specs.Commands.{next_command}
+use Rattle.routine_reader.specs.Commands.{next_command_read}
 use Rattle.routine_reader.specs.Forms.{has_form, items_in, needed}
 use Rattle.routine_reader.specs.Names.{new_name}
 use Rattle.routine_reader.specs.Scripts.{PlainDevice, PlainRoutine}
@@ -36,7 +36,7 @@ commands_reading version devices routine values =
     if length values == 0 then Err (Shape (at part.Routine routine))
     else do
       few ← within_limit count.Commands (length values)
-      read_each (next_command version devices routine) [] values
+      read_each (next_command_read version devices routine) [] values
 
 abbrev pub routine_names : List PlainRoutine → List (List ℕ)
 routine_names routines = map (λ routine. routine.name) routines

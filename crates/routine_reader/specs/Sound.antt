@@ -45,11 +45,11 @@ abbrev pub device_kinds : List PlainDevice → List Kind
 device_kinds devices = map (λ device. device.kind) devices
 
 -- a value that is driven or compared with is one of the device
-abbrev pub suits : Kind → Job → Bool
-suits kind (Set v) = has_value kind v
-suits kind (Check v) = has_value kind v
-suits kind Load = true
-suits kind Store = true
+abbrev pub suits_device : Kind → Job → Bool
+suits_device kind (Set v) = has_value kind v
+suits_device kind (Check v) = has_value kind v
+suits_device kind Load = true
+suits_device kind Store = true
 
 -- the number that a guard compares with the register, 0 where it asks nothing
 abbrev pub compared : Guard → ℕ
@@ -59,7 +59,7 @@ compared (Below v) = v
 
 pub record IsSoundCommand (devices : List PlainDevice) (command : Command) : Type 0 where
   pub device : command.device.0 < length devices
-  pub value : suits (kind_at (device_kinds devices) command.device.0) command.job ≡ true
+  pub value : suits_device (kind_at (device_kinds devices) command.device.0) command.job ≡ true
   pub when : compared command.when < 2 ^ 32
   pub ms : command.ms ≤ most_ms
   pub takes : command.takes ≤ most_ms

@@ -74,14 +74,14 @@ pub record RunMembers : Type 0 where
   pub routine : List ℕ
   pub follows : Option ℕ
 
-abbrev pub run_with : Option (List ℕ) → Option (Option ℕ) → Option RunMembers
-run_with (Some routine) (Some follows) = Some (record { routine = routine; follows = follows })
-run_with routine follows = None
+abbrev pub run_from_members : Option (List ℕ) → Option (Option ℕ) → Option RunMembers
+run_from_members (Some routine) (Some follows) = Some (record { routine = routine; follows = follows })
+run_from_members routine follows = None
 
 abbrev pub run_members : Data → Option RunMembers
 run_members value =
     if has_form form.Run value then
-    (run_with (needed as_str (codes "routine") value) (if_there number_of (codes "follows") value))
+    (run_from_members (needed as_str (codes "routine") value) (if_there number_of (codes "follows") value))
     else None
 
 -- the run that the run with this number follows, if any: an earlier one
@@ -99,8 +99,8 @@ run_reading routines window number value =
       follows ← follows_reading spot number members.follows
       Ok (record { routine = routine; follows = follows })
 
-abbrev pub next_run : List (List ℕ) → ℕ → List RunText → Data → Result RunText ReadFault
-next_run routines window earlier value = run_reading routines window (length earlier + 1) value
+abbrev pub next_run_read : List (List ℕ) → ℕ → List RunText → Data → Result RunText ReadFault
+next_run_read routines window earlier value = run_reading routines window (length earlier + 1) value
 
 -- ---- the window
 
@@ -114,12 +114,12 @@ window_reading routines number before value =
       few_turns ← within_limit count.Turns (length members.turns)
       few_runs ← within_limit count.Runs (length members.runs)
       turns ← read_each (next_turn number (length members.runs)) [] members.turns
-      runs ← read_each (next_run routines number) [] members.runs
+      runs ← read_each (next_run_read routines number) [] members.runs
       Ok (record { at = time; seed = members.seed; probes = probes; turns = turns; runs = runs })
 
 -- the time of the last of these windows
 abbrev pub last_time : List PlainWindow → Option When
 last_time windows = option_map (λ window. window.at) (slice_get windows (length windows - 1))
 
-abbrev pub next_window : List (List ℕ) → List PlainWindow → Data → Result PlainWindow ReadFault
-next_window routines earlier value = window_reading routines (length earlier + 1) (last_time earlier) value
+abbrev pub next_window_read : List (List ℕ) → List PlainWindow → Data → Result PlainWindow ReadFault
+next_window_read routines earlier value = window_reading routines (length earlier + 1) (last_time earlier) value

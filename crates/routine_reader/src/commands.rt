@@ -1,7 +1,7 @@
 //! A command of a script, read.
 ghost use Rattle.home_types.specs.Limits.{most_states};
 ghost use Rattle.routine_reader.specs.AreRead.{AreDevices};
-ghost use Rattle.routine_reader.specs.Commands.{command_form, command_members, command_reading, guard_of, job_of, kind_of, states_of, suits_verb, verb_of};
+ghost use Rattle.routine_reader.specs.Commands.{command_form, command_members, command_reading, guard_of, job_of, kind_of, state_names_of, suits_verb, verb_of};
 ghost use Rattle.routine_reader.specs.Scripts.{plain_device};
 ghost use Rattle.routine_reader.specs.Forms.{knows, names_of};
 ghost use Rattle.routine_reader.specs.GivenMembers.{given_of, given_in, with_member};
@@ -10,7 +10,7 @@ ghost use Rattle.std.specs.List.{list_all};
 ghost use Rattle.std.specs.Option.{option_map_or};
 ghost use Rattle.std.specs.Prelude.{◌≡◌, ◌<◌, ◌≤◌, All, IfSome, IsTrue, Some, is_some, length, map, option_map};
 
-use crate::devices::{Devices, value_in};
+use crate::devices::{NamedDevices, value_in};
 use crate::faults::{Count, Part, ReadFault, within_limit};
 use crate::forms::{
     Form, UNGUARDED, flag_given, has_form, number_given, number_if_there, state_given,
@@ -194,7 +194,7 @@ fn kind_of(devices: &[DeviceText], d: usize) -> Kind
 fn states_of(devices: &[DeviceText], d: usize) -> &[Text]
     requires number { d < length devices.now }
     requires few { All (λ device. length device.states.items ≤ most_states) devices.now }
-    ensures states { result.now ≡ states_of (map plain_device devices.now) d }
+    ensures states { result.now ≡ state_names_of (map plain_device devices.now) d }
     ensures few { length result.now ≤ most_states }
 {
     devices[d].states.as_slice()
@@ -204,7 +204,7 @@ fn states_of(devices: &[DeviceText], d: usize) -> &[Text]
 #[tactic(auto, unfolding(crate::specs::Commands::command_reading))]
 pub fn read_command(
     version: u64,
-    devices: &Devices<'_>,
+    devices: &NamedDevices<'_>,
     routine: u32,
     number: u32,
     value: &Json,

@@ -2,7 +2,7 @@
 ghost use Rattle.home_types.specs.Limits.{most_devices, most_downs, most_states};
 ghost use Rattle.home_types.specs.Listed.{Listed};
 ghost use Rattle.routine_reader.specs.AreRead.{AreDevices};
-ghost use Rattle.routine_reader.specs.Devices.{device_members, device_reading, device_values, down_reading, downs_reading, has_states_or_range, next_device, next_down, state_name, state_names, value_in};
+ghost use Rattle.routine_reader.specs.Devices.{device_members, device_reading, device_values, down_reading, downs_reading, has_states_or_range, next_device_read, next_down, state_name, state_names, value_in};
 ghost use Rattle.routine_reader.specs.Names.{is_among};
 ghost use Rattle.routine_reader.specs.Scripts.{plain_device};
 ghost use Rattle.routine_reader.specs.Walks.{IsReading, read_each};
@@ -229,15 +229,15 @@ fn read_device<'a>(
 
 /// The devices of a script, with their numbers by name.
 #[derive(Drop)]
-pub struct Devices<'a> {
+pub struct NamedDevices<'a> {
     pub names: Names<'a>,
     pub texts: List<DeviceText>,
 }
 
 /// Reads the devices of a script.
-pub fn read_devices<'a>(alloc: Global, values: &'a [Json]) -> Result<Devices<'a>, ReadFault>
+pub fn read_devices<'a>(alloc: Global, values: &'a [Json]) -> Result<NamedDevices<'a>, ReadFault>
     requires { length values.now ≤ most_devices }
-    ensures reading { IsReading (λ devices. map plain_device devices.texts.items) result (read_each next_device [] (map view values.now)) }
+    ensures reading { IsReading (λ devices. map plain_device devices.texts.items) result (read_each next_device_read [] (map view values.now)) }
     ensures devices { IfOk result AreDevices }
 {
     let mut names = Names::new(alloc);
@@ -248,5 +248,5 @@ pub fn read_devices<'a>(alloc: Global, values: &'a [Json]) -> Result<Devices<'a>
         let device = read_device(alloc, number, &mut names, value)?;
         texts.push(device)?;
     }
-    Ok(Devices { names, texts })
+    Ok(NamedDevices { names, texts })
 }

@@ -1,7 +1,7 @@
 //! A script, read from its bytes.
 ghost use Rattle.home_types.specs.Limits.{most_devices, most_routines, most_windows};
 ghost use Rattle.day_clock.specs.Times.{IsCivilTime};
-ghost use Rattle.routine_reader.specs.Readings.{day_members, members_reading, parts_reading, script_reading, value_of, value_reading};
+ghost use Rattle.routine_reader.specs.Readings.{day_members, json_value_of, members_reading, parts_reading, script_reading, value_reading};
 ghost use Rattle.routine_reader.specs.Scripts.{plain_script};
 ghost use Rattle.routine_reader.specs.Sound.{IsSound};
 ghost use Rattle.routine_reader.specs.Spots.{is_memory};
@@ -21,8 +21,8 @@ use std::alloc::Global;
 
 /// The value of these bytes.
 fn read_value(alloc: Global, bytes: &[u8]) -> Result<Json, ReadFault>
-    ensures reading { IfOk result (λ value. value_of bytes.now ≡ Some (view value)) }
-    ensures refused { IfErr result (λ fault. is_memory fault ≡ false → (fault ≡ ReadFault.NotJson) × (value_of bytes.now ≡ None)) }
+    ensures reading { IfOk result (λ value. json_value_of bytes.now ≡ Some (view value)) }
+    ensures refused { IfErr result (λ fault. is_memory fault ≡ false → (fault ≡ ReadFault.NotJson) × (json_value_of bytes.now ≡ None)) }
 {
     match Json::from_slice(alloc, bytes) {
         Ok(value) => Ok(value),

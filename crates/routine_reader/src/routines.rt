@@ -2,7 +2,7 @@
 ghost use Rattle.home_types.specs.Limits.{most_commands, most_routines};
 ghost use Rattle.home_types.specs.Listed.{Listed};
 ghost use Rattle.routine_reader.specs.AreRead.{AreDevices};
-ghost use Rattle.routine_reader.specs.Commands.{next_command};
+ghost use Rattle.routine_reader.specs.Commands.{next_command_read};
 ghost use Rattle.routine_reader.specs.Routines.{commands_reading, next_routine, routine_members, routine_names, routine_reading};
 ghost use Rattle.routine_reader.specs.Scripts.{plain_device, plain_routine};
 ghost use Rattle.routine_reader.specs.Walks.{IsReading, read_each};
@@ -10,7 +10,7 @@ ghost use Rattle.serde_json.specs.View.{view};
 ghost use Rattle.std.specs.Prelude.{◌≡◌, ◌≤◌, ◌++◌, ◌∷◌, [], IfOk, length, map, option_map};
 
 use crate::commands::read_command;
-use crate::devices::Devices;
+use crate::devices::NamedDevices;
 use crate::faults::{Count, Part, ReadFault, within_limit};
 use crate::forms::{Form, has_form, list_at, text_at};
 use crate::names::{Names, new_name};
@@ -41,14 +41,14 @@ fn routine_members(value: &Json) -> Option<RoutineMembers<'_>>
 fn read_each_command(
     alloc: Global,
     version: u64,
-    devices: &Devices<'_>,
+    devices: &NamedDevices<'_>,
     routine: u32,
     values: &[Json],
 ) -> Result<List<Command>, ReadFault>
     requires devices { AreDevices devices.now }
     requires few { length values.now ≤ most_commands }
     ensures { IsReading (λ commands. commands.items) result
-        (read_each (next_command version (map plain_device devices.now.texts.items) routine) [] (map view values.now)) }
+        (read_each (next_command_read version (map plain_device devices.now.texts.items) routine) [] (map view values.now)) }
 {
     let mut commands = List::new(alloc);
     commands.reserve(values.len() as u64)?;
@@ -65,7 +65,7 @@ fn read_each_command(
 fn read_commands(
     alloc: Global,
     version: u64,
-    devices: &Devices<'_>,
+    devices: &NamedDevices<'_>,
     routine: u32,
     values: &[Json],
 ) -> Result<List<Command>, ReadFault>
@@ -86,7 +86,7 @@ fn read_commands(
 fn read_routine<'a>(
     alloc: Global,
     version: u64,
-    devices: &Devices<'_>,
+    devices: &NamedDevices<'_>,
     number: u32,
     names: &mut Names<'a>,
     value: &'a Json,
@@ -120,7 +120,7 @@ pub struct Routines<'a> {
 pub fn read_routines<'a>(
     alloc: Global,
     version: u64,
-    devices: &Devices<'_>,
+    devices: &NamedDevices<'_>,
     values: &'a [Json],
 ) -> Result<Routines<'a>, ReadFault>
     requires devices { AreDevices devices.now }

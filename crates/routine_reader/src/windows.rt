@@ -4,7 +4,7 @@ ghost use Rattle.day_clock.specs.Times.{IsCivilTime};
 ghost use Rattle.home_types.specs.Listed.{Listed};
 ghost use Rattle.routine_reader.specs.Scripts.{plain_window};
 ghost use Rattle.routine_reader.specs.Walks.{IsReading, read_each};
-ghost use Rattle.routine_reader.specs.Windows.{follows_reading, is_later, next_run, next_turn, next_window, run_members, run_reading, time_reading, turn_reading, window_members, window_reading};
+ghost use Rattle.routine_reader.specs.Windows.{follows_reading, is_later, next_run_read, next_turn, next_window_read, run_members, run_reading, time_reading, turn_reading, window_members, window_reading};
 ghost use Rattle.serde_json.specs.View.{view};
 ghost use Rattle.std.specs.Prelude.{◌≡◌, ◌<◌, ◌≤◌, ◌^◌, [], All, IfOk, length, map, option_map};
 
@@ -163,7 +163,7 @@ fn read_each_run(
 ) -> Result<List<RunText>, ReadFault>
     requires routines { length routines.now ≤ most_routines }
     requires few { length values.now ≤ most_runs }
-    ensures { IsReading (λ runs. runs.items) result (read_each (next_run routines.now window) [] (map view values.now)) }
+    ensures { IsReading (λ runs. runs.items) result (read_each (next_run_read routines.now window) [] (map view values.now)) }
 {
     let mut runs = List::new(alloc);
     runs.reserve(values.len() as u64)?;
@@ -217,7 +217,7 @@ pub fn read_windows(
     requires routines { length routines.now ≤ most_routines }
     requires few { length values.now ≤ most_windows }
     ensures reading { IsReading (λ windows. map plain_window windows.items) result
-        (read_each (next_window routines.now) [] (map view values.now)) }
+        (read_each (next_window_read routines.now) [] (map view values.now)) }
     ensures in_range { IfOk result (λ windows. All (λ window. IsCivilTime window.at) windows.items) }
 {
     let mut windows = List::new(alloc);

@@ -2,7 +2,7 @@
 ghost use Rattle.std.specs.Prelude.{◌≡◌, ◌<◌, IfOk, IsTrue, Some, false, length};
 ghost use Rattle.command_rules.specs.Footprints.{FitsIndex};
 ghost use Rattle.command_rules.specs.Rosters.{is_run, runs_of};
-ghost use Rattle.lineage_table.specs.Accesses.{before, has_access, some_acquired, some_scheduled, status_of};
+ghost use Rattle.lineage_table.specs.Accesses.{accesses_before, has_access, some_acquired, some_scheduled, status_of};
 ghost use Rattle.lineage_table.specs.Lineages.{accesses_at};
 
 use command_rules::{Roster, RosterRun};
@@ -162,7 +162,7 @@ fn some_acquired(table: &Table, d: DeviceNo) -> bool
 /// Whether an access before the run's waits for its first answer.
 fn some_scheduled_before(table: &Table, d: DeviceNo) -> bool
     requires { d.0 < length table.now }
-    ensures { result ≡ some_scheduled (before 1 (accesses_at table.now d.0)) }
+    ensures { result ≡ some_scheduled (accesses_before 1 (accesses_at table.now d.0)) }
 {
     table
         .first_before(d, A, |access| access.status == Status::Scheduled)

@@ -9,7 +9,7 @@ use Rattle.history_book.specs.declared.entries.Entry.{Entry}
 use Rattle.hub_core.proofs.calls.HubChanges.{length_with}
 use Rattle.hub_core.specs.HubCalls.{SameWindow, carried_by, grip_takes}
 use Rattle.hub_core.specs.HubSteps.{Gave, Give, HubStep, Refused, Returned}
-use Rattle.hub_core.specs.OpenHubs.{OpenHub, carried_in, configuration_of, device_at, grip_in, state_of}
+use Rattle.hub_core.specs.OpenHubs.{OpenHub, carried_in, configuration_of, grip_in, hub_state_of, progress_at}
 use Rattle.window_order.specs.KeptOrders.{purpose_of}
 use Rattle.hub_core.specs.Steps.{after_give, at_moment, give_entries}
 use Rattle.lock_leasing.specs.Configurations.{Commands, Configuration, Probes, Purpose, Undoes, is_command, is_undo, read_of}
@@ -42,14 +42,14 @@ pub record IsDone {D : Type 0} (s : PlayerState D) (a : ℕ) (grip : Gripped D R
 
 -- the device's purpose
 abbrev pub purpose_at : {D : Type 0} → PlayerState D → Gripped D Ready → Purpose
-purpose_at s grip = purpose_of (device_at s.hub.devices grip.slip.device.0).purpose
+purpose_at s grip = purpose_of (progress_at s.hub.devices grip.slip.device.0).purpose
 
 pub out_of_hand : {D : Type 0} (s : PlayerState D) (a : ℕ) (grip : Gripped D Ready) → PlayerIsKept s → slice_get s.grips a ≡ Some (Some grip) → (configuration_of s.hub).grips grip.slip.device.0 ≡ Some (record { maker = a; purpose = purpose_at s grip })
-out_of_hand s a grip kept hand = ap (λ o. grip_in o (device_at s.hub.devices grip.slip.device.0).purpose) (kept.held a grip hand) ∙ ap (λ m. Some (record { maker = m; purpose = purpose_at s grip })) (kept.makers a grip hand)
+out_of_hand s a grip kept hand = ap (λ o. grip_in o (progress_at s.hub.devices grip.slip.device.0).purpose) (kept.held a grip hand) ∙ ap (λ m. Some (record { maker = m; purpose = purpose_at s grip })) (kept.makers a grip hand)
 
 -- a done grip is not refused
-pub not_refused_now : {D : Type 0} (s : PlayerState D) (t : OpenHub D) (a m : ℕ) (grip : Gripped D Ready) (done : Gripped D Done) (x : Stranger) → IsDone s a grip done → HubStep (state_of s.hub) (Give (carried_by done) done.stage.told m) (Returned (Refused x)) (state_of t) → ⊥
-not_refused_now {D = D} s t a m grip done x is step = never_refused (state_of s.hub) (state_of t) (carried_by done) done.stage.told m x carried maker step
+pub not_refused_now : {D : Type 0} (s : PlayerState D) (t : OpenHub D) (a m : ℕ) (grip : Gripped D Ready) (done : Gripped D Done) (x : Stranger) → IsDone s a grip done → HubStep (hub_state_of s.hub) (Give (carried_by done) done.stage.told m) (Returned (Refused x)) (hub_state_of t) → ⊥
+not_refused_now {D = D} s t a m grip done x is step = never_refused (hub_state_of s.hub) (hub_state_of t) (carried_by done) done.stage.told m x carried maker step
   where
     carried : carried_in (slice_get s.hub.places done.slip.device.0) ≡ Some (carried_by done)
     carried = ap (λ (y : Slip). carried_in (slice_get s.hub.places y.device.0)) is.slip ∙ ap carried_in (is.kept.held a grip is.hand) ∙ λ i. Some (record { slip = sym is.slip i; task = sym is.task i })
@@ -61,7 +61,7 @@ not_refused_now {D = D} s t a m grip done x is step = never_refused (state_of s.
 pub record IsGivenBack {D : Type 0} (s t : PlayerState D) (a : ℕ) (grip : Gripped D Ready) (done : Gripped D Done) (entries : List Entry) : Type 0 where
   pub is : IsDone s a grip done
   pub at : ℕ
-  pub step : HubStep (state_of s.hub) (Give (carried_by done) done.stage.told at) (Returned (Gave entries)) (state_of t.hub)
+  pub step : HubStep (hub_state_of s.hub) (Give (carried_by done) done.stage.told at) (Returned (Gave entries)) (hub_state_of t.hub)
   pub places : t.hub.places ≡ slice_set s.hub.places done.slip.device.0 (Home done.device)
   pub window : SameWindow s.hub t.hub
   pub grips : t.grips ≡ slice_set s.grips a None
@@ -88,7 +88,7 @@ pub entries_are : {D : Type 0} (s t : PlayerState D) (a : ℕ) (grip : Gripped D
 entries_are {D = D} s t a grip done entries by =
     let out = out_of_hand s a grip by.is.kept by.is.hand in
     let there : (configuration_of s.hub).grips done.slip.device.0 ≡ Some (record { maker = a; purpose = purpose_at s grip }) = ap (λ (x : Slip). (configuration_of s.hub).grips x.device.0) by.is.slip ∙ out in
-    let back = gave_back (state_of s.hub) (state_of t.hub) (carried_by done) done.stage.told by.at (record { maker = a; purpose = purpose_at s grip }) entries there by.step in (
+    let back = gave_back (hub_state_of s.hub) (hub_state_of t.hub) (carried_by done) done.stage.told by.at (record { maker = a; purpose = purpose_at s grip }) entries there by.step in (
       back.0 ∙ ap (λ (x : Slip). give_entries s.hub.setting (read_of (configuration_of s.hub)) x.device.0 (record { maker = a; purpose = purpose_at s grip }) done.stage.told) by.is.slip,
       back.1 ∙ ap (λ (x : Slip). after_give (at_moment (configuration_of s.hub) by.at) x.device.0 (record { maker = a; purpose = purpose_at s grip }) done.stage.told) by.is.slip,
     )

@@ -3,7 +3,7 @@ use Rattle.hub_core.specs.HubCalls.{SameWindow}
 use Rattle.run_replay.proofs.Picking.{ended_is, stepped_is_picked}
 use Rattle.run_replay.specs.Players.{HoldNothing, MovesAreFew, PlayerIsKept, PlayerStands, PlayerState, empty_places, first_is_full, is_ended, most_made, most_moves, play_of, steps_left, with_moves}
 use Rattle.run_replay.specs.Playing.{IsPicked, IsStepped}
-use Rattle.run_replay.specs.Replays.{Made, Passed, Picked, Took, Waited, moves_after, waits}
+use Rattle.run_replay.specs.Replays.{Made, Passed, Picked, Took, Waited, is_waiting_pick, moves_after}
 use Rattle.std.proofs.Common.{ap, arith, mul-le-mul, refl, subst, sym, ◌∙◌}
 use Rattle.std.specs.Prelude.{List, None, Option, Some, [], drop, false, length, true, ℕ, ◌*◌, ◌+◌, ◌-◌, ◌<◌, ◌^◌, ◌∷◌, ◌≡◌, ◌≤◌}
 
@@ -38,13 +38,13 @@ same_bound s t window rounds =
     ∙ ap (λ n. most_moves (length s.hub.setting.runs) (length s.hub.setting.first) s.hub.rounds n) rounds
 
 -- a pick that moves leaves fewer steps, and one that waits leaves as many
-still_few : (before after left now bound bound' : ℕ) (picked : Picked) → after ≡ before → (waits picked ≡ false → now < left) → (waits picked ≡ true → now ≡ left) → bound' ≡ bound → before + left ≤ bound → moves_after picked after + now ≤ bound'
+still_few : (before after left now bound bound' : ℕ) (picked : Picked) → after ≡ before → (is_waiting_pick picked ≡ false → now < left) → (is_waiting_pick picked ≡ true → now ≡ left) → bound' ≡ bound → before + left ≤ bound → moves_after picked after + now ≤ bound'
 still_few before after left now bound bound' Passed moves fewer same is low = let less = fewer refl in omega (arith, moves, less, is, low)
 still_few before after left now bound bound' (Made entries) moves fewer same is low = let less = fewer refl in omega (arith, moves, less, is, low)
 still_few before after left now bound bound' (Took d) moves fewer same is low = let less = fewer refl in omega (arith, moves, less, is, low)
 still_few before after left now bound bound' (Waited why) moves fewer same is low = let as_many = same refl in omega (arith, moves, as_many, is, low)
 
-pub few_after : {D : Type 0} (now mid new : PlayerState D) (picked : Picked) → SameWindow now.hub mid.hub → mid.rounds ≡ now.rounds → mid.moves ≡ now.moves → (waits picked ≡ false → steps_left mid < steps_left now) → (waits picked ≡ true → steps_left mid ≡ steps_left now)
+pub few_after : {D : Type 0} (now mid new : PlayerState D) (picked : Picked) → SameWindow now.hub mid.hub → mid.rounds ≡ now.rounds → mid.moves ≡ now.moves → (is_waiting_pick picked ≡ false → steps_left mid < steps_left now) → (is_waiting_pick picked ≡ true → steps_left mid ≡ steps_left now)
     → new ≡ with_moves (moves_after picked mid.moves) mid → MovesAreFew now → MovesAreFew new
 few_after {D = D} now mid new picked window rounds moves fewer same is few =
     subst (λ (x : PlayerState D). MovesAreFew x) (sym is)

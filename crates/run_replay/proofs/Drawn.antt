@@ -2,7 +2,7 @@
 use Rattle.run_replay.proofs.Tellings.{draw_more, tells_back, tells_front}
 use Rattle.seeded_draws.specs.Draws.{below, drawn}
 use Rattle.run_replay.specs.Playing.{GoesOn, IsDrawn, IsFinished, IsPicked, IsTried, Tells}
-use Rattle.run_replay.specs.Replays.{Course, Drawing, Pick, Picked, Play, actors, draw_once, from_place, pick, pick_first, waits}
+use Rattle.run_replay.specs.Replays.{Course, DrawnPlay, Pick, Picked, Play, actors, draw_once, from_place, is_waiting_pick, pick, pick_first}
 use Rattle.std.proofs.Common.{ap, arith, refl, subst, sym, ◌∙◌}
 use Rattle.std.proofs.lemmas.List.{length-append}
 use Rattle.std.specs.Prelude.{Bool, List, [], false, length, suc, true, ℕ, ◌++◌, ◌<◌, ◌∷◌, ◌≡◌}
@@ -11,30 +11,30 @@ use Rattle.std.specs.Prelude.{Bool, List, [], false, length, suc, true, ℕ, ◌
 pub none_tried : (rounds : ℕ) (all : List ℕ) (p : Play) → IsTried rounds all all p p
 none_tried rounds all p = record { told = []; acts = omega arith; leads = λ course same tells. refl }
 
-by_wait : (course : Course) (q : Play) (a : ℕ) (left : List ℕ) (b : Bool) → waits (pick course q a).picked ≡ b → pick_first course q (a ∷ left) ≡ (elim b [ true ↦ pick_first course (pick course q a).next left | false ↦ (pick course q a).next ])
+by_wait : (course : Course) (q : Play) (a : ℕ) (left : List ℕ) (b : Bool) → is_waiting_pick (pick course q a).picked ≡ b → pick_first course q (a ∷ left) ≡ (elim b [ true ↦ pick_first course (pick course q a).next left | false ↦ (pick course q a).next ])
 by_wait course q a left b e = ap (λ (x : Bool). elim x as (λ y. Play) [ true ↦ pick_first course (pick course q a).next left | false ↦ (pick course q a).next ]) e
 
 -- one more waited
-pub tried_more : (rounds a : ℕ) (all left : List ℕ) (p q r : Play) (picked : Picked) → IsTried rounds all (a ∷ left) p q → IsPicked rounds a q picked r → waits picked ≡ true → IsTried rounds all left p r
+pub tried_more : (rounds a : ℕ) (all left : List ℕ) (p q r : Play) (picked : Picked) → IsTried rounds all (a ∷ left) p q → IsPicked rounds a q picked r → is_waiting_pick picked ≡ true → IsTried rounds all left p r
 tried_more rounds a all left p q r picked before is waited = record {
   told = before.told ++ is.told;
   acts = (let one = before.acts in let two = is.acts in let both = length-append before.told is.told in omega (arith, one, two, both));
   leads = λ course same tells.
       let made = is.leads course same (subst (λ x. Tells course x is.told) (sym before.acts) (tells_back course p.acts before.told is.told tells)) in
       before.leads course same (tells_front course p.acts before.told is.told tells)
-      ∙ by_wait course q a left true (ap (λ (x : Pick). waits x.picked) made ∙ waited)
+      ∙ by_wait course q a left true (ap (λ (x : Pick). is_waiting_pick x.picked) made ∙ waited)
       ∙ ap (λ (x : Pick). pick_first course x.next left) made;
 }
 
 -- one did not wait
-pub tried_moves : (rounds a : ℕ) (all left : List ℕ) (p q r : Play) (picked : Picked) → IsTried rounds all (a ∷ left) p q → IsPicked rounds a q picked r → waits picked ≡ false → GoesOn rounds (λ course x. pick_first course x all) p r
+pub tried_moves : (rounds a : ℕ) (all left : List ℕ) (p q r : Play) (picked : Picked) → IsTried rounds all (a ∷ left) p q → IsPicked rounds a q picked r → is_waiting_pick picked ≡ false → GoesOn rounds (λ course x. pick_first course x all) p r
 tried_moves rounds a all left p q r picked before is moved = record {
   told = before.told ++ is.told;
   acts = (let one = before.acts in let two = is.acts in let both = length-append before.told is.told in omega (arith, one, two, both));
   leads = λ course same tells.
       let made = is.leads course same (subst (λ x. Tells course x is.told) (sym before.acts) (tells_back course p.acts before.told is.told tells)) in
       before.leads course same (tells_front course p.acts before.told is.told tells)
-      ∙ by_wait course q a left false (ap (λ (x : Pick). waits x.picked) made ∙ moved)
+      ∙ by_wait course q a left false (ap (λ (x : Pick). is_waiting_pick x.picked) made ∙ moved)
       ∙ ap (λ (x : Pick). x.next) made;
 }
 
@@ -65,6 +65,6 @@ drawn_more rounds seed draws state xs p q r before live some on = record {
 pub finishes : (rounds seed draws state : ℕ) (p q : Play) → IsDrawn rounds seed draws p q state → ((course : Course) → course.rounds ≡ rounds → actors course q ≡ []) → IsFinished rounds seed p q
 finishes rounds seed draws state p q drawn none = record {
   draws = draws;
-  drawn = record { told = drawn.told; acts = drawn.acts; leads = λ course same tells. ap (λ (x : Drawing). x.play) (drawn.leads course same tells) };
+  drawn = record { told = drawn.told; acts = drawn.acts; leads = λ course same tells. ap (λ (x : DrawnPlay). x.play) (drawn.leads course same tells) };
   over = none;
 }

@@ -8,7 +8,7 @@ use Rattle.history_book.proofs.Searches.{Each}
 use Rattle.history_book.specs.Readings.{is_live}
 use Rattle.hub_core.proofs.kept.Finds.{find_none, not_none}
 use Rattle.hub_core.proofs.kept.Sizes.{run_there}
-use Rattle.hub_core.specs.OpenHubs.{configuration_of, device_at, grip_in}
+use Rattle.hub_core.specs.OpenHubs.{configuration_of, grip_in, progress_at}
 use Rattle.window_order.specs.KeptOrders.{purpose_of}
 use Rattle.hub_core.specs.Steps.{not_quiet}
 use Rattle.lock_leasing.specs.Configurations.{Commands, Configuration, Probes, Purpose, Undoes, is_out, read_of}
@@ -53,7 +53,7 @@ runs_ended s kept none (suc r) run =
 
 -- no actor holds a grip
 pub hands_are_empty : {D : Type 0} (s : PlayerState D) → PlayerIsKept s → GripsFit s.hub.setting (read_of (configuration_of s.hub)) (configuration_of s.hub).grips → are_live s ≡ [] → (a : ℕ) (grip : Gripped D Ready) → slice_get s.grips a ≡ Some (Some grip) → ⊥
-hands_are_empty {D = D} s kept fit none a grip hand = by_purpose a (purpose_of (device_at s.hub.devices grip.slip.device.0).purpose) low ended hand out
+hands_are_empty {D = D} s kept fit none a grip hand = by_purpose a (purpose_of (progress_at s.hub.devices grip.slip.device.0).purpose) low ended hand out
   where
     low : a < length s.grips
     low = slice_get_within s.grips a (Some grip) hand
@@ -61,8 +61,8 @@ hands_are_empty {D = D} s kept fit none a grip hand = by_purpose a (purpose_of (
     ended : is_ended s a ≡ true
     ended = each_ended s none a low
 
-    out : (configuration_of s.hub).grips grip.slip.device.0 ≡ Some (record { maker = a; purpose = purpose_of (device_at s.hub.devices grip.slip.device.0).purpose })
-    out = ap (λ o. grip_in o (device_at s.hub.devices grip.slip.device.0).purpose) (kept.held a grip hand) ∙ ap (λ m. Some (record { maker = m; purpose = purpose_of (device_at s.hub.devices grip.slip.device.0).purpose })) (kept.makers a grip hand)
+    out : (configuration_of s.hub).grips grip.slip.device.0 ≡ Some (record { maker = a; purpose = purpose_of (progress_at s.hub.devices grip.slip.device.0).purpose })
+    out = ap (λ o. grip_in o (progress_at s.hub.devices grip.slip.device.0).purpose) (kept.held a grip hand) ∙ ap (λ m. Some (record { maker = m; purpose = purpose_of (progress_at s.hub.devices grip.slip.device.0).purpose })) (kept.makers a grip hand)
 
     live_not : (r : ℕ) → is_live (read_of (configuration_of s.hub)) r ≡ true → is_some ((read_of (configuration_of s.hub)).run r).ended ≡ false
     live_not r live = by_end ((read_of (configuration_of s.hub)).run r).ended (grind (arith, common_steps))
@@ -91,8 +91,8 @@ devices_home : {D : Type 0} (s : PlayerState D) → PlayerIsKept s → ((a : ℕ
 devices_home {D = D} s kept empty d = by_place (slice_get s.hub.places d) refl
   where
     by_place : (o : Option (Place D)) → slice_get s.hub.places d ≡ o → (configuration_of s.hub).grips d ≡ None
-    by_place None at = ap (λ o. grip_in o (device_at s.hub.devices d).purpose) at
-    by_place (Some (Home device)) at = ap (λ o. grip_in o (device_at s.hub.devices d).purpose) at
+    by_place None at = ap (λ o. grip_in o (progress_at s.hub.devices d).purpose) at
+    by_place (Some (Home device)) at = ap (λ o. grip_in o (progress_at s.hub.devices d).purpose) at
     by_place (Some (Out slip task)) at = absurd (let hand = kept.out d slip task at in empty slip.maker hand.grip hand.there)
 
 -- the hub is quiet

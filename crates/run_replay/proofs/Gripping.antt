@@ -5,7 +5,7 @@ use Rattle.device_gate.specs.declared.gates.Place.{Place}
 use Rattle.device_gate.specs.declared.grips.Ready.{Ready}
 use Rattle.device_gate.specs.declared.slips.Slip.{Slip}
 use Rattle.hub_core.proofs.kept.Finds.{none_found}
-use Rattle.hub_core.specs.OpenHubs.{configuration_of, device_at, grip_in}
+use Rattle.hub_core.specs.OpenHubs.{configuration_of, grip_in, progress_at}
 use Rattle.window_order.specs.declared.purposes.Purpose.{Purpose}
 use Rattle.lock_leasing.specs.Configurations.{has_grip}
 use Rattle.run_replay.proofs.Settings.{find_only}
@@ -29,7 +29,7 @@ is_or_not false no' = refl
 -- an actor with nothing in its hand holds no grip
 pub empty_hand : {D : Type 0} (s : PlayerState D) (a acts : ℕ) → PlayerIsKept s → slice_get s.grips a ≡ Some None → gripped (play_of s acts) a ≡ None
 empty_hand {D = D} s a acts kept free = none_found (has_grip (configuration_of s.hub).grips a) _ (λ d. is_or_not (has_grip (configuration_of s.hub).grips a d) (λ e.
-    let out = in_place (slice_get s.hub.places d) (device_at s.hub.devices d).purpose a e in
+    let out = in_place (slice_get s.hub.places d) (progress_at s.hub.devices d).purpose a e in
     let hand = kept.out d out.0 out.1 out.2 in
     absurd (let both : ◌≡◌ {A = Option (Option (Gripped D Ready))} (Some None) (Some (Some hand.grip)) = sym free ∙ ap (slice_get s.grips) (sym out.3) ∙ hand.there in cc)))
 
@@ -44,11 +44,11 @@ full_hand {D = D} s a acts grip kept size hand = find_only (has_grip (configurat
     within = let low = slice_get_within s.hub.places grip.slip.device.0 (Out grip.slip grip.task) there in omega (arith, low, size)
 
     holds : has_grip (configuration_of s.hub).grips a grip.slip.device.0 ≡ true
-    holds = let made = kept.makers a grip hand in ap (λ o. unwrap_or (option_map (λ p. p.maker == a) (grip_in o (device_at s.hub.devices grip.slip.device.0).purpose)) false) there ∙ grind (arith, common_steps, made)
+    holds = let made = kept.makers a grip hand in ap (λ o. unwrap_or (option_map (λ p. p.maker == a) (grip_in o (progress_at s.hub.devices grip.slip.device.0).purpose)) false) there ∙ grind (arith, common_steps, made)
 
     only : (e : ℕ) → has_grip (configuration_of s.hub).grips a e ≡ true → e ≡ grip.slip.device.0
     only e is =
-        let out = in_place (slice_get s.hub.places e) (device_at s.hub.devices e).purpose a is in
+        let out = in_place (slice_get s.hub.places e) (progress_at s.hub.devices e).purpose a is in
         let mine = kept.out e out.0 out.1 out.2 in
         let both : ◌≡◌ {A = Option (Option (Gripped D Ready))} (Some (Some grip)) (Some (Some mine.grip)) = sym hand ∙ ap (slice_get s.grips) (sym out.3) ∙ mine.there in
         let one : grip ≡ mine.grip = cc in

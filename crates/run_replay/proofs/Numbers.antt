@@ -6,7 +6,7 @@ use Rattle.run_replay.proofs.LiveRuns.{live_low}
 use Rattle.run_replay.proofs.Trying.{HaveWaited, PickedNext, goes_on_at, never_all, none_waited, one_more_waits, one_moves, turned_length}
 use Rattle.run_replay.specs.Players.{PlayerIsKept, PlayerStands, PlayerState, are_live, is_ended, play_of, steps_left}
 use Rattle.run_replay.specs.Playing.{GoesOn}
-use Rattle.run_replay.specs.Replays.{Picked, from_place, pick_first, waits}
+use Rattle.run_replay.specs.Replays.{Picked, from_place, is_waiting_pick, pick_first}
 use Rattle.std.proofs.Common.{ap, arith, inl, inr, refl, subst, sym, ◌∙◌}
 use Rattle.std.proofs.lemmas.Grind.{common_steps}
 use Rattle.std.proofs.lemmas.List.{append-nil}
@@ -140,14 +140,14 @@ module _ {D : Type 0} (old now : PlayerState D) (all behind : List ℕ) (end : �
   next_at k tried low on = of_drop all (those old (k + 1) end ++ behind) tried.step k (tried.rest ∙ ap (λ xs. xs ++ behind) (next_live old k end low (sym (tried.waited.ends k) ∙ on)))
 
   -- .. it was picked, and waited
-  pub number_waits : (next : PlayerState D) (k : ℕ) (picked : Picked) → HaveTried old now all (those old k end ++ behind) → k < end → is_ended now k ≡ false → PlayerStands next → next.rounds ≡ now.rounds → next.hub.rounds ≡ now.hub.rounds → PickedNext now k picked next → waits picked ≡ true
+  pub number_waits : (next : PlayerState D) (k : ℕ) (picked : Picked) → HaveTried old now all (those old k end ++ behind) → k < end → is_ended now k ≡ false → PlayerStands next → next.rounds ≡ now.rounds → next.hub.rounds ≡ now.hub.rounds → PickedNext now k picked next → is_waiting_pick picked ≡ true
       → HaveTried old next all (those old (k + 1) end ++ behind)
   number_waits next k picked tried low on stands rounds probes picks wait =
       let two = next_at k tried low on in
       record { step = suc tried.step; waited = one_more_waits old now next all tried.step (suc tried.step) k picked tried.waited stands rounds probes two.0 picks wait (omega arith); rest = two.1 }
 
   -- .. or did not wait
-  pub number_moves : (next : PlayerState D) (k : ℕ) (picked : Picked) → HaveTried old now all (those old k end ++ behind) → k < end → is_ended now k ≡ false → PickedNext now k picked next → waits picked ≡ false
+  pub number_moves : (next : PlayerState D) (k : ℕ) (picked : Picked) → HaveTried old now all (those old k end ++ behind) → k < end → is_ended now k ≡ false → PickedNext now k picked next → is_waiting_pick picked ≡ false
       → (acts : ℕ) → (later : ℕ) × GoesOn old.rounds (λ course x. pick_first course x all) (play_of old acts) (play_of next later)
   number_moves next k picked tried low on picks moved = one_moves old now next all tried.step k picked tried.waited (next_at k tried low on).0 picks moved
 

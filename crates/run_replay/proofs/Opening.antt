@@ -7,9 +7,9 @@ use Rattle.device_gate.specs.declared.slips.Task.{Task}
 use Rattle.history_book.specs.Settings.{Setting}
 use Rattle.hub_core.specs.Homes.{HomeState}
 use Rattle.hub_core.specs.HubCalls.{IsOpened as IsOpenedOn}
-use Rattle.hub_core.specs.OpenHubs.{OpenHub, configuration_of, device_at, grip_in}
+use Rattle.hub_core.specs.OpenHubs.{OpenHub, configuration_of, grip_in, progress_at}
 use Rattle.hub_core.specs.Steps.{opened}
-use Rattle.run_replay.specs.Players.{HoldNothing, IsOpened, PlayerIsKept, PlayerState}
+use Rattle.run_replay.specs.Players.{HoldNothing, PlayerIsKept, PlayerIsOpened, PlayerState}
 use Rattle.std.proofs.Common.{ap, arith, refl, subst, sym, ◌∙◌}
 use Rattle.std.specs.Prelude.{List, Option, Some, length, slice_get, ℕ, ◌*◌, ◌+◌, ◌<◌, ◌^◌, ◌≡◌, ◌≤◌}
 
@@ -33,11 +33,11 @@ opens_kept {D = D} hub grips rounds fresh few none size = record {
   where
     no_out : (d : ℕ) (slip : Slip) (task : Task) → slice_get hub.places d ≡ Some (Out slip task) → ⊥
     no_out d slip task at =
-        let gone = ap (λ p. grip_in p (device_at hub.devices d).purpose) at in
+        let gone = ap (λ p. grip_in p (progress_at hub.devices d).purpose) at in
         let home = ap (λ c. c.grips d) fresh in
         cc (sym gone ∙ home)
 
-pub is_opened : {D : Type 0} (hub : OpenHub D) (grips : List (Option (Gripped D Ready))) (rounds : ℕ) → configuration_of hub ≡ opened hub.setting hub.rounds → HoldNothing grips → IsOpened hub rounds (player_of hub grips rounds)
+pub is_opened : {D : Type 0} (hub : OpenHub D) (grips : List (Option (Gripped D Ready))) (rounds : ℕ) → configuration_of hub ≡ opened hub.setting hub.rounds → HoldNothing grips → PlayerIsOpened hub rounds (player_of hub grips rounds)
 is_opened hub grips rounds fresh none = record {
   own = refl;
   detector = refl;

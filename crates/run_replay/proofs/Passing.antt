@@ -13,7 +13,7 @@ use Rattle.run_replay.proofs.Picking.{IsGoing, at_own_moment, going_not_ended, s
 use Rattle.run_replay.proofs.Played.{played_next}
 use Rattle.run_replay.proofs.Trying.{HaveWaited, one_more_waits}
 use Rattle.run_replay.specs.Players.{PlayerState, play_of}
-use Rattle.run_replay.specs.Playing.{IsPicked, IsPlayed}
+use Rattle.run_replay.specs.Playing.{ArePicked, IsPicked}
 use Rattle.run_replay.specs.Replays.{Waited}
 use Rattle.std.proofs.Common.{ap, refl, subst, sym, ◌∙◌}
 use Rattle.std.proofs.Math.ListN.{get_or}
@@ -54,7 +54,7 @@ one_more_passed old now all step a after before at blocked is =
 
 -- one pick more of the list was passed over
 pub passed_next : {D : Type 0} (start s : PlayerState D) (rounds i d : ℕ) (picks : List ℕ) → i < length picks → s.rounds ≡ rounds → IsBlocked (configuration_of s.hub) (get_or picks i d)
-    → ((acts : ℕ) → (later : ℕ) × IsPlayed rounds (take i picks) (play_of start acts) (play_of s later)) → (acts : ℕ) → (later : ℕ) × IsPlayed rounds (take (i + 1) picks) (play_of start acts) (play_of s later)
+    → ((acts : ℕ) → (later : ℕ) × ArePicked rounds (take i picks) (play_of start acts) (play_of s later)) → (acts : ℕ) → (later : ℕ) × ArePicked rounds (take (i + 1) picks) (play_of start acts) (play_of s later)
 passed_next start s rounds i d picks low same blocked before =
     let picked = blocked_is_picked s (get_or picks i d) blocked in
     played_next start s s rounds i d picks (Waited picked.0) low same before (λ acts. (acts, picked.1 acts))

@@ -12,7 +12,7 @@ use Rattle.run_replay.proofs.Gripping.{empty_hand, full_hand}
 use Rattle.run_replay.proofs.Settings.{there}
 use Rattle.run_replay.specs.Players.{PlayerIsKept, PlayerState, is_ended, is_full, play_of}
 use Rattle.run_replay.specs.Playing.{IsPicked, IsStepped, Tells}
-use Rattle.run_replay.specs.Replays.{Course, Made, Passed, Picked, Play, Took, act_on, counted, detector_takes, gripped, has_ended, passes, pick, pick_live, picked_by, run_takes, takes_of}
+use Rattle.run_replay.specs.Replays.{Course, Made, Passed, Picked, Play, Took, act_on, counted_pick, detector_takes, gripped, is_actor_done, passes, pick, pick_live, picked_by, run_takes, takes_of}
 use Rattle.std.proofs.Common.{ap, arith, refl, sym, ◌∙◌}
 use Rattle.std.specs.Prelude.{Bool, List, None, Option, Some, [], false, if◌then◌else◌, is_some, length, max, nat_le, option_map, slice_get, suc, true, unwrap_or, zero, ℕ, ◌%◌, ◌*◌, ◌+◌, ◌-◌, ◌<◌, ◌==◌, ◌∷◌, ◌≡◌}
 
@@ -37,17 +37,17 @@ pub empty_is : {D : Type 0} (s : PlayerState D) (a : ℕ) → is_full s a ≡ fa
 empty_is s a e low = no_hand (slice_get s.grips a) e (there s.grips a low)
 
 -- what the actors' hands tell
-pub ended_is : {D : Type 0} (course : Course) (s : PlayerState D) (acts a : ℕ) → PlayerIsKept s → length s.hub.places ≡ length s.hub.setting.first → course.rounds ≡ s.rounds → has_ended course (play_of s acts) a ≡ is_ended s a
+pub ended_is : {D : Type 0} (course : Course) (s : PlayerState D) (acts a : ℕ) → PlayerIsKept s → length s.hub.places ≡ length s.hub.setting.first → course.rounds ≡ s.rounds → is_actor_done course (play_of s acts) a ≡ is_ended s a
 ended_is course s acts (suc r) kept size same = refl
 ended_is {D = D} course s acts zero kept size same = by_hand (is_full s 0) refl
   where
-    by_hand : (b : Bool) → is_full s 0 ≡ b → has_ended course (play_of s acts) zero ≡ is_ended s zero
+    by_hand : (b : Bool) → is_full s 0 ≡ b → is_actor_done course (play_of s acts) zero ≡ is_ended s zero
     by_hand true full = let grip = full_is s 0 full in rw (full_hand s 0 acts grip.0 kept size grip.1, full) refl
     by_hand false none = rw (empty_hand s 0 acts kept (empty_is s 0 none (let actors = kept.actors in omega (arith, actors))), none) (ap (λ n. nat_le (n * length s.hub.setting.first) s.place) same)
 
 -- An actor that has ended, or is none
 
-ended_pick : (course : Course) (p : Play) (a : ℕ) → has_ended course p a ≡ true → pick course p a ≡ passes p
+ended_pick : (course : Course) (p : Play) (a : ℕ) → is_actor_done course p a ≡ true → pick course p a ≡ passes p
 ended_pick course p a e = rw e refl
 
 pub passed_is_picked : {D : Type 0} (s : PlayerState D) (a acts : ℕ) → PlayerIsKept s → length s.hub.places ≡ length s.hub.setting.first → is_ended s a ≡ true → IsPicked s.rounds a (play_of s acts) Passed (play_of s acts)
@@ -55,15 +55,15 @@ passed_is_picked s a acts kept size ended = record { told = []; acts = omega ari
 
 -- A step that is counted
 
-live_pick : (course : Course) (p : Play) (a : ℕ) → has_ended course p a ≡ false → pick course p a ≡ counted (pick_live course p a)
+live_pick : (course : Course) (p : Play) (a : ℕ) → is_actor_done course p a ≡ false → pick course p a ≡ counted_pick (pick_live course p a)
 live_pick course p a e = rw e refl
 
 -- the step of an actor that has not ended is its pick, once it is counted
-pub stepped_is_picked : (rounds a : ℕ) (p q : Play) (picked : Picked) → ((course : Course) → course.rounds ≡ rounds → has_ended course p a ≡ false) → IsStepped rounds a p picked q → IsPicked rounds a p picked (counted (record { picked = picked; next = q })).next
+pub stepped_is_picked : (rounds a : ℕ) (p q : Play) (picked : Picked) → ((course : Course) → course.rounds ≡ rounds → is_actor_done course p a ≡ false) → IsStepped rounds a p picked q → IsPicked rounds a p picked (counted_pick (record { picked = picked; next = q })).next
 stepped_is_picked rounds a p q picked going is = record {
   told = is.told;
   acts = is.acts;
-  leads = λ course same tells. live_pick course p a (going course same) ∙ ap counted (is.leads course same tells);
+  leads = λ course same tells. live_pick course p a (going course same) ∙ ap counted_pick (is.leads course same tells);
 }
 
 -- The moment: of the steps of a replay those alone move it that give the grip of a command back
@@ -99,7 +99,7 @@ probe_moment c d = by_may (may_probe c d)
 abbrev pub IsGoing : Configuration → ℕ → Type 0
 IsGoing c r = (is_run c.setting.runs r ≡ true) × (((read_of c).run r).ended ≡ None)
 
-pub going_not_ended : (course : Course) (p : Play) (r : ℕ) → IsGoing p.configuration r → has_ended course p r ≡ false
+pub going_not_ended : (course : Course) (p : Play) (r : ℕ) → IsGoing p.configuration r → is_actor_done course p r ≡ false
 going_not_ended course p zero going = absurd (let no : false ≡ true = going.0 in cc)
 going_not_ended course p (suc r) going = rw (going.0, going.1) refl
 
@@ -107,8 +107,8 @@ take_live : (course : Course) (p : Play) (r : ℕ) → IsGoing p.configuration r
 take_live course p zero going none = absurd (let no : false ≡ true = going.0 in cc)
 take_live course p (suc r) going none = rw none refl
 
-pub take_pick : (course : Course) (p : Play) (r : ℕ) → IsGoing p.configuration r → gripped p r ≡ None → pick course p r ≡ counted (run_takes p r)
-take_pick course p r going none = live_pick course p r (going_not_ended course p r going) ∙ ap counted (take_live course p r going none)
+pub take_pick : (course : Course) (p : Play) (r : ℕ) → IsGoing p.configuration r → gripped p r ≡ None → pick course p r ≡ counted_pick (run_takes p r)
+take_pick course p r going none = live_pick course p r (going_not_ended course p r going) ∙ ap counted_pick (take_live course p r going none)
 
 pub taken_is_stepped : {D : Type 0} (s t : PlayerState D) (rounds r acts : ℕ) (choice : Choice) → IsGoing (configuration_of s.hub) r → gripped (play_of s acts) r ≡ None
     → choice ≡ choice_of (configuration_of s.hub) r s.hub.moment → configuration_of t.hub ≡ after_take (configuration_of s.hub) r s.hub.moment → t.place ≡ s.place → t.moves ≡ s.moves → IsStepped rounds r (play_of s acts) (picked_by choice) (play_of t acts)

@@ -1,7 +1,7 @@
 -- Picks played one after another.
 use Rattle.run_replay.proofs.Tellings.{played_more}
 use Rattle.run_replay.specs.Players.{PlayerState, play_of}
-use Rattle.run_replay.specs.Playing.{IsPicked, IsPlayed}
+use Rattle.run_replay.specs.Playing.{ArePicked, IsPicked}
 use Rattle.run_replay.specs.Replays.{Picked}
 use Rattle.std.proofs.Common.{ap, arith, refl, subst, sym, ◌∙◌}
 use Rattle.std.proofs.Math.ListN.{get_or}
@@ -14,13 +14,13 @@ take_one (y ∷ xs) (suc i) d low = let same : suc i + 1 ≡ suc (i + 1) = omega
 
 -- one pick more of the list
 pub played_next : {D : Type 0} (start s t : PlayerState D) (rounds i d : ℕ) (picks : List ℕ) (picked : Picked) → i < length picks → s.rounds ≡ rounds
-    → ((acts : ℕ) → (later : ℕ) × IsPlayed rounds (take i picks) (play_of start acts) (play_of s later)) → ((acts : ℕ) → (later : ℕ) × IsPicked s.rounds (get_or picks i d) (play_of s acts) picked (play_of t later))
-    → (acts : ℕ) → (later : ℕ) × IsPlayed rounds (take (i + 1) picks) (play_of start acts) (play_of t later)
+    → ((acts : ℕ) → (later : ℕ) × ArePicked rounds (take i picks) (play_of start acts) (play_of s later)) → ((acts : ℕ) → (later : ℕ) × IsPicked s.rounds (get_or picks i d) (play_of s acts) picked (play_of t later))
+    → (acts : ℕ) → (later : ℕ) × ArePicked rounds (take (i + 1) picks) (play_of start acts) (play_of t later)
 played_next {D = D} start s t rounds i d picks picked low same before pick acts =
     let first = before acts in
     let then' = pick first.0 in
     let one : IsPicked rounds (get_or picks i d) (play_of s first.0) picked (play_of t then'.0) = subst (λ n. IsPicked n (get_or picks i d) (play_of s first.0) picked (play_of t then'.0)) same then'.1 in
-    (then'.0, subst (λ xs. IsPlayed rounds xs (play_of start acts) (play_of t then'.0)) (sym (take_one picks i d low)) (played_more rounds (get_or picks i d) (take i picks) (play_of start acts) (play_of s first.0) (play_of t then'.0) picked first.1 one))
+    (then'.0, subst (λ xs. ArePicked rounds xs (play_of start acts) (play_of t then'.0)) (sym (take_one picks i d low)) (played_more rounds (get_or picks i d) (take i picks) (play_of start acts) (play_of s first.0) (play_of t then'.0) picked first.1 one))
 
 take_whole : (xs : List ℕ) (i : ℕ) → length xs ≤ i → take i xs ≡ xs
 take_whole [] zero low = refl
@@ -29,5 +29,5 @@ take_whole (y ∷ xs) zero low = absurd (omega (arith, low))
 take_whole (y ∷ xs) (suc i) low = ap (λ zs. y ∷ zs) (take_whole xs i (omega (arith, low)))
 
 -- the list is played
-pub played_whole : {D : Type 0} (start s : PlayerState D) (rounds i : ℕ) (picks : List ℕ) → length picks ≤ i → ((acts : ℕ) → (later : ℕ) × IsPlayed rounds (take i picks) (play_of start acts) (play_of s later)) → (acts : ℕ) → (later : ℕ) × IsPlayed rounds picks (play_of start acts) (play_of s later)
-played_whole start s rounds i picks low before acts = let first = before acts in (first.0, subst (λ xs. IsPlayed rounds xs (play_of start acts) (play_of s first.0)) (take_whole picks i low) first.1)
+pub played_whole : {D : Type 0} (start s : PlayerState D) (rounds i : ℕ) (picks : List ℕ) → length picks ≤ i → ((acts : ℕ) → (later : ℕ) × ArePicked rounds (take i picks) (play_of start acts) (play_of s later)) → (acts : ℕ) → (later : ℕ) × ArePicked rounds picks (play_of start acts) (play_of s later)
+played_whole start s rounds i picks low before acts = let first = before acts in (first.0, subst (λ xs. ArePicked rounds xs (play_of start acts) (play_of s first.0)) (take_whole picks i low) first.1)

@@ -8,7 +8,7 @@ use Rattle.device_gate.specs.declared.strangers.Stranger.{Stranger}
 use Rattle.history_book.specs.declared.entries.Entry.{Entry}
 use Rattle.hub_core.specs.HubCalls.{IsProbed, SameWindow, carried_by}
 use Rattle.hub_core.specs.HubSteps.{Gave, GiveProbe, HubStep, IsSlipOf, Refused, Returned}
-use Rattle.hub_core.specs.OpenHubs.{OpenHub, carried_in, configuration_of, state_of}
+use Rattle.hub_core.specs.OpenHubs.{OpenHub, carried_in, configuration_of, hub_state_of}
 use Rattle.hub_core.specs.Steps.{after_give, after_take_probe, give_entries, may_probe, probe_grip}
 use Rattle.history_book.specs.Readings.{put}
 use Rattle.hub_core.proofs.calls.HubChanges.{length_with}
@@ -80,7 +80,7 @@ pub record GoesToDetector {D : Type 0} (s t : PlayerState D) (d : ℕ) (grip : G
   pub moves : t.moves ≡ s.moves
 
 taken : {D : Type 0} (s t : PlayerState D) (d : ℕ) (grip : Gripped D Ready) → GoesToDetector s t d grip → (may_probe (configuration_of s.hub) d ≡ true) × (configuration_of t.hub ≡ after_take_probe (configuration_of s.hub) d) × IsSlipOf 0 d grip.slip
-taken s t d grip is = took_probe (state_of s.hub) (state_of t.hub) d grip.slip grip.task is.probed.0
+taken s t d grip is = took_probe (hub_state_of s.hub) (hub_state_of t.hub) d grip.slip grip.task is.probed.0
 
 after : {D : Type 0} (s t : PlayerState D) (d : ℕ) (grip : Gripped D Ready) → GoesToDetector s t d grip → configuration_of t.hub ≡ record (configuration_of s.hub) { probes = put (configuration_of s.hub).probes d ((configuration_of s.hub).probes d - 1); grips = put (configuration_of s.hub).grips d (Some (probe_grip (configuration_of s.hub) d)) }
 after s t d grip is = let three = taken s t d grip is in three.1 ∙ probed_so (configuration_of s.hub) d three.0
@@ -139,7 +139,7 @@ passed_keeps s t d is = moves_keeps s t (stays s t d is) is.rest.kept
 
 passed_stepped : {D : Type 0} (s t : PlayerState D) (d acts : ℕ) → PassesOver s t d → IsStepped s.rounds 0 (play_of s acts) Passed (play_of t acts)
 passed_stepped s t d acts is =
-    let may = took_none (state_of s.hub) (state_of t.hub) d some_slip (is.probed.0 some_slip) in
+    let may = took_none (hub_state_of s.hub) (hub_state_of t.hub) d some_slip (is.probed.0 some_slip) in
     detector_passed s t acts is.rest.kept (its_hand s is.rest) (ap (may_probe (configuration_of s.hub)) (sym is.next) ∙ may) (ap configuration_of is.probed.1) is.place is.moves
 
 -- The probe is given back
@@ -160,8 +160,8 @@ holds {D = D} now s hand grip same kept size going full value is = record {
 }
 
 -- the grip that was done is the one with which its device is out, so it is not refused
-pub probe_not_refused : {D : Type 0} (s : PlayerState D) (t : OpenHub D) (grip : Gripped D Ready) (done : Gripped D Done) (x : Stranger) → IsHeld s grip → done.slip ≡ grip.slip → done.task ≡ grip.task → HubStep (state_of s.hub) (GiveProbe (carried_by done) done.stage.told) (Returned (Refused x)) (state_of t) → ⊥
-probe_not_refused {D = D} s t grip done x is slip task step = probe_never_refused (state_of s.hub) (state_of t) (carried_by done) done.stage.told x carried (ap (λ (y : Slip). y.maker) slip ∙ is.kept.makers 0 grip is.hand) step
+pub probe_not_refused : {D : Type 0} (s : PlayerState D) (t : OpenHub D) (grip : Gripped D Ready) (done : Gripped D Done) (x : Stranger) → IsHeld s grip → done.slip ≡ grip.slip → done.task ≡ grip.task → HubStep (hub_state_of s.hub) (GiveProbe (carried_by done) done.stage.told) (Returned (Refused x)) (hub_state_of t) → ⊥
+probe_not_refused {D = D} s t grip done x is slip task step = probe_never_refused (hub_state_of s.hub) (hub_state_of t) (carried_by done) done.stage.told x carried (ap (λ (y : Slip). y.maker) slip ∙ is.kept.makers 0 grip is.hand) step
   where
     carried : carried_in (slice_get s.hub.places done.slip.device.0) ≡ Some (carried_by done)
     carried = ap (λ (y : Slip). carried_in (slice_get s.hub.places y.device.0)) slip ∙ ap carried_in (is.kept.held 0 grip is.hand) ∙ λ i. Some (record { slip = sym slip i; task = sym task i })
@@ -169,7 +169,7 @@ probe_not_refused {D = D} s t grip done x is slip task step = probe_never_refuse
 pub record ProbeIsBack {D : Type 0} (s t : PlayerState D) (grip : Gripped D Ready) (done : Gripped D Done) (entries : List Entry) : Type 0 where
   pub held : IsHeld s grip
   pub slip : done.slip ≡ grip.slip
-  pub step : HubStep (state_of s.hub) (GiveProbe (carried_by done) done.stage.told) (Returned (Gave entries)) (state_of t.hub)
+  pub step : HubStep (hub_state_of s.hub) (GiveProbe (carried_by done) done.stage.told) (Returned (Gave entries)) (hub_state_of t.hub)
   pub places : t.hub.places ≡ slice_set s.hub.places done.slip.device.0 (Home done.device)
   pub window : SameWindow s.hub t.hub
   pub grips : t.grips ≡ slice_set s.grips 0 None
@@ -185,7 +185,7 @@ came_back : {D : Type 0} (s t : PlayerState D) (grip : Gripped D Ready) (done : 
     × (configuration_of t.hub ≡ after_give (configuration_of s.hub) grip.slip.device.0 (record { maker = 0; purpose = purpose_at s grip }) done.stage.told)
 came_back {D = D} s t grip done entries is =
     let there : (configuration_of s.hub).grips done.slip.device.0 ≡ Some (record { maker = 0; purpose = purpose_at s grip }) = ap (λ (x : Slip). (configuration_of s.hub).grips x.device.0) is.slip ∙ its_grip s grip is.held in
-    let back = gave_probe_back (state_of s.hub) (state_of t.hub) (carried_by done) done.stage.told (record { maker = 0; purpose = purpose_at s grip }) entries there is.step in (
+    let back = gave_probe_back (hub_state_of s.hub) (hub_state_of t.hub) (carried_by done) done.stage.told (record { maker = 0; purpose = purpose_at s grip }) entries there is.step in (
       back.0 ∙ ap (λ (x : Slip). give_entries s.hub.setting (read_of (configuration_of s.hub)) x.device.0 (record { maker = 0; purpose = purpose_at s grip }) done.stage.told) is.slip,
       back.1 ∙ ap (λ (x : Slip). after_give (configuration_of s.hub) x.device.0 (record { maker = 0; purpose = purpose_at s grip }) done.stage.told) is.slip,
     )

@@ -5,7 +5,7 @@ use Rattle.device_gate.specs.declared.gates.Place.{Place}
 use Rattle.history_book.proofs.Searches.{Each, none_is}
 use Rattle.history_book.specs.Readings.{is_live}
 use Rattle.hub_core.proofs.kept.Finds.{none_there}
-use Rattle.hub_core.specs.OpenHubs.{configuration_of, device_at, grip_in}
+use Rattle.hub_core.specs.OpenHubs.{configuration_of, grip_in, progress_at}
 use Rattle.window_order.specs.KeptOrders.{purpose_of}
 use Rattle.hub_core.specs.Steps.{Absent, Choice, HandsOut, Moves, Over, Waits, choice_of}
 use Rattle.hub_core.specs.declared.waits.Why.{Why}
@@ -16,7 +16,7 @@ use Rattle.run_replay.proofs.Picking.{IsGoing, going_not_ended, take_pick}
 use Rattle.run_replay.proofs.Waiting.{act_never_waits, detector_never_waits}
 use Rattle.run_replay.proofs.Settings.{at_or_past, both_are, there, within}
 use Rattle.run_replay.specs.Players.{PlayerIsKept, PlayerState, play_of}
-use Rattle.run_replay.specs.Replays.{Course, Pick, Play, actors, from_place, gripped, has_ended, pick, picked_by, waits}
+use Rattle.run_replay.specs.Replays.{Course, Pick, Play, actors, from_place, gripped, is_actor_done, is_waiting_pick, pick, picked_by}
 use Rattle.std.proofs.Common.{ap, arith, inl, inr, refl, subst, sym, ◌∙◌}
 use Rattle.std.proofs.lemmas.Grind.{common_steps}
 use Rattle.std.proofs.lemmas.List.{take-append-drop}
@@ -64,10 +64,10 @@ SomeMoves s = (r : ℕ) → IsGoing s r → ((d : ℕ) → s.grips d ≡ None) �
 
 -- each actor that has not ended waits
 abbrev pub AllWait : Course → Play → Type 0
-AllWait course p = Each (λ a. waits (pick course p a).picked ≡ true) (actors course p)
+AllWait course p = Each (λ a. is_waiting_pick (pick course p a).picked ≡ true) (actors course p)
 
-wait_of : (course : Course) (p : Play) (a : ℕ) → AllWait course p → a < length p.configuration.setting.runs + 1 → has_ended course p a ≡ false → waits (pick course p a).picked ≡ true
-wait_of course p a all low going = each_at (λ b. waits (pick course p b).picked ≡ true) (λ b. not (has_ended course p b)) 0 (length p.configuration.setting.runs + 1) a all (omega arith) (omega (arith, low)) (ap not going)
+wait_of : (course : Course) (p : Play) (a : ℕ) → AllWait course p → a < length p.configuration.setting.runs + 1 → is_actor_done course p a ≡ false → is_waiting_pick (pick course p a).picked ≡ true
+wait_of course p a all low going = each_at (λ b. is_waiting_pick (pick course p b).picked ≡ true) (λ b. not (is_actor_done course p b)) 0 (length p.configuration.setting.runs + 1) a all (omega arith) (omega (arith, low)) (ap not going)
 
 -- a run that goes on is one of the window
 run_within : (s : Configuration) (r : ℕ) → IsGoing s r → r < length s.setting.runs + 1
@@ -75,25 +75,25 @@ run_within s zero going = absurd (let no : false ≡ true = going.0 in cc)
 run_within s (suc r) going = let low = within s.setting.runs r going.0 in omega (arith, low)
 
 -- a run that has not ended goes on
-pub is_going : (course : Course) (p : Play) (r : ℕ) → has_ended course p r ≡ false → 0 < r → IsGoing p.configuration r
+pub is_going : (course : Course) (p : Play) (r : ℕ) → is_actor_done course p r ≡ false → 0 < r → IsGoing p.configuration r
 is_going course p zero on some = absurd (omega (arith, some))
 is_going course p (suc r) on some = let two = both_are (is_run p.configuration.setting.runs (suc r)) (is_some ((read_of p.configuration).run (suc r)).ended) on in (two.0, none_there ((read_of p.configuration).run (suc r)).ended two.1)
 
 -- an actor with a grip acts
-acts_on : (course : Course) (p : Play) (a d : ℕ) → has_ended course p a ≡ false → gripped p a ≡ Some d → waits (pick course p a).picked ≡ false
+acts_on : (course : Course) (p : Play) (a d : ℕ) → is_actor_done course p a ≡ false → gripped p a ≡ Some d → is_waiting_pick (pick course p a).picked ≡ false
 acts_on course p a d going holds = rw going (rw holds (act_never_waits course p d (p.configuration.grips d)))
 
 -- with a device out its maker acts
 none_out : {D : Type 0} (course : Course) (s : PlayerState D) (acts d : ℕ) → PlayerIsKept s → length s.hub.places ≡ length s.hub.setting.first → GripsFit s.hub.setting (read_of (configuration_of s.hub)) (configuration_of s.hub).grips
-    → AllWait course (play_of s acts) → (o : Option (Place D)) → slice_get s.hub.places d ≡ o → grip_in o (device_at s.hub.devices d).purpose ≡ None
+    → AllWait course (play_of s acts) → (o : Option (Place D)) → slice_get s.hub.places d ≡ o → grip_in o (progress_at s.hub.devices d).purpose ≡ None
 none_out course s acts d kept size fit all None at = refl
 none_out course s acts d kept size fit all (Some (Home device)) at = refl
 none_out {D = D} course s acts d kept size fit all (Some (Out slip task)) at = absurd (
     let hand = kept.out d slip task at in
     let holds : gripped (play_of s acts) slip.maker ≡ Some hand.grip.slip.device.0 = full_hand s slip.maker acts hand.grip kept size hand.there in
     let low : slip.maker < length s.hub.setting.runs + 1 = (let within = slice_get_within s.grips slip.maker (Some hand.grip) hand.there in omega (arith, within, kept.actors)) in
-    let out : (configuration_of s.hub).grips d ≡ Some (record { maker = slip.maker; purpose = purpose_of (device_at s.hub.devices d).purpose }) = ap (λ o. grip_in o (device_at s.hub.devices d).purpose) at in
-    let going : has_ended course (play_of s acts) slip.maker ≡ false = by_purpose slip.maker (purpose_of (device_at s.hub.devices d).purpose) low out hand.grip.slip.device.0 holds in
+    let out : (configuration_of s.hub).grips d ≡ Some (record { maker = slip.maker; purpose = purpose_of (progress_at s.hub.devices d).purpose }) = ap (λ o. grip_in o (progress_at s.hub.devices d).purpose) at in
+    let going : is_actor_done course (play_of s acts) slip.maker ≡ false = by_purpose slip.maker (purpose_of (progress_at s.hub.devices d).purpose) low out hand.grip.slip.device.0 holds in
     let waited = wait_of course (play_of s acts) slip.maker all low going in
     let moved = acts_on course (play_of s acts) slip.maker hand.grip.slip.device.0 going holds in
     let both : true ≡ false = sym waited ∙ moved in cc)
@@ -104,16 +104,16 @@ none_out {D = D} course s acts d kept size fit all (Some (Out slip task)) at = a
     live_of : (r : ℕ) (b c : Bool) → IsTrue (is_live (read_of (configuration_of s.hub)) r && b && c) → is_live (read_of (configuration_of s.hub)) r ≡ true
     live_of r b c e = grind (arith, common_steps)
 
-    going_on : (r : ℕ) → suc r < length s.hub.setting.runs + 1 → is_live (read_of (configuration_of s.hub)) (suc r) ≡ true → has_ended course (play_of s acts) (suc r) ≡ false
+    going_on : (r : ℕ) → suc r < length s.hub.setting.runs + 1 → is_live (read_of (configuration_of s.hub)) (suc r) ≡ true → is_actor_done course (play_of s acts) (suc r) ≡ false
     going_on r low live = going_not_ended course (play_of s acts) (suc r) (there s.hub.setting.runs r (omega (arith, low)), live_going (suc r) live)
 
-    by_purpose : (a : ℕ) (purpose : Purpose) → a < length s.hub.setting.runs + 1 → (configuration_of s.hub).grips d ≡ Some (record { maker = a; purpose = purpose }) → (e : ℕ) → gripped (play_of s acts) a ≡ Some e → has_ended course (play_of s acts) a ≡ false
+    by_purpose : (a : ℕ) (purpose : Purpose) → a < length s.hub.setting.runs + 1 → (configuration_of s.hub).grips d ≡ Some (record { maker = a; purpose = purpose }) → (e : ℕ) → gripped (play_of s acts) a ≡ Some e → is_actor_done course (play_of s acts) a ≡ false
     by_purpose zero purpose low out e holds = rw holds refl
     by_purpose (suc r) (Commands k) low out e holds = going_on r low (live_of (suc r) _ _ (fit.runs.commands d (suc r) k out))
     by_purpose (suc r) (Undoes v) low out e holds = going_on r low (let undo = fit.runs.undos d (suc r) v out in grind (arith, common_steps))
     by_purpose (suc r) (Probes v) low out e holds = absurd (let no = fit.probes d (suc r) v out in omega (arith, no))
 
-waits_by : (c : Choice) → ((why : Why) → c ≢ Waits why) → waits (picked_by c) ≡ false
+waits_by : (c : Choice) → ((why : Why) → c ≢ Waits why) → is_waiting_pick (picked_by c) ≡ false
 waits_by Absent none = refl
 waits_by (Over e entries) none = refl
 waits_by (Moves entries) none = refl
@@ -122,7 +122,7 @@ waits_by (HandsOut d purpose) none = refl
 
 -- not all of the actors that have not ended wait, where there is one
 pub not_all_wait : {D : Type 0} (course : Course) (s : PlayerState D) (acts : ℕ) → PlayerIsKept s → length s.hub.places ≡ length s.hub.setting.first → GripsFit s.hub.setting (read_of (configuration_of s.hub)) (configuration_of s.hub).grips
-    → SomeMoves (configuration_of s.hub) → AllWait course (play_of s acts) → (a : ℕ) → a < length s.hub.setting.runs + 1 → has_ended course (play_of s acts) a ≡ false → ⊥
+    → SomeMoves (configuration_of s.hub) → AllWait course (play_of s acts) → (a : ℕ) → a < length s.hub.setting.runs + 1 → is_actor_done course (play_of s acts) a ≡ false → ⊥
 not_all_wait {D = D} course s acts kept size fit moves all a low going = by_actor a low going
   where
     home : (d : ℕ) → (configuration_of s.hub).grips d ≡ None
@@ -139,13 +139,13 @@ not_all_wait {D = D} course s acts kept size fit moves all a low going = by_acto
     run_moves r run =
         let q = moves r run home in
         let waited = wait_of course (play_of s acts) q.0 all (run_within (configuration_of s.hub) q.0 q.1) (going_not_ended course (play_of s acts) q.0 q.1) in
-        let picked = ap (λ (x : Pick). waits x.picked) (take_pick course (play_of s acts) q.0 q.1 (free q.0)) in
-        let moved : waits (picked_by (choice_of (configuration_of s.hub) q.0 s.hub.moment)) ≡ false = waits_by (choice_of (configuration_of s.hub) q.0 s.hub.moment) (q.2 s.hub.moment) in
+        let picked = ap (λ (x : Pick). is_waiting_pick x.picked) (take_pick course (play_of s acts) q.0 q.1 (free q.0)) in
+        let moved : is_waiting_pick (picked_by (choice_of (configuration_of s.hub) q.0 s.hub.moment)) ≡ false = waits_by (choice_of (configuration_of s.hub) q.0 s.hub.moment) (q.2 s.hub.moment) in
         absurd (let both : true ≡ false = sym waited ∙ picked ∙ moved in cc)
 
-    by_actor : (b : ℕ) → b < length s.hub.setting.runs + 1 → has_ended course (play_of s acts) b ≡ false → ⊥
+    by_actor : (b : ℕ) → b < length s.hub.setting.runs + 1 → is_actor_done course (play_of s acts) b ≡ false → ⊥
     by_actor zero within on = absurd (
         let waited = wait_of course (play_of s acts) zero all within on in
-        let picked : waits (pick course (play_of s acts) zero).picked ≡ false = rw on (rw (free zero) (detector_never_waits (play_of s acts))) in
+        let picked : is_waiting_pick (pick course (play_of s acts) zero).picked ≡ false = rw on (rw (free zero) (detector_never_waits (play_of s acts))) in
         let both : true ≡ false = sym waited ∙ picked in cc)
     by_actor (suc r) within on = run_moves (suc r) (is_going course (play_of s acts) (suc r) on (omega arith))

@@ -5,16 +5,16 @@ use Rattle.device_gate.specs.declared.gates.Place.{Place}
 use Rattle.device_gate.specs.declared.slips.Told.TheVariants.{Worked}
 use Rattle.history_book.specs.declared.records.WindowRecord.{WindowRecord}
 use Rattle.hub_core.specs.Homes.{HomeState}
-use Rattle.hub_core.specs.HubCalls.{HubStands, IsClosed, NoneFails, RunsHaveEnded, SameWindow}
-use Rattle.hub_core.specs.OpenHubs.{OpenHub, configuration_of, device_at}
+use Rattle.hub_core.specs.HubCalls.{HubStands, NoneFails, RunsHaveEnded, SameWindow, WindowIsClosed}
+use Rattle.hub_core.specs.OpenHubs.{OpenHub, configuration_of, progress_at}
 use Rattle.hub_core.specs.Steps.{not_quiet}
 use Rattle.legal_days.specs.LegalWindows.{IsLegalWindow}
 use Rattle.run_replay.proofs.Ending.{quiet_at_end}
 use Rattle.run_replay.proofs.Living.{actors_are}
 use Rattle.run_replay.proofs.Tellings.{replays}
 use Rattle.run_replay.proofs.Trying.{same_window}
-use Rattle.run_replay.specs.Players.{HavePlans, IsOpened, PlayerIsKept, PlayerState, play_of}
-use Rattle.run_replay.specs.Playing.{IsFinished, IsPlayed}
+use Rattle.run_replay.specs.Players.{HavePlans, PlayerIsKept, PlayerIsOpened, PlayerState, play_of}
+use Rattle.run_replay.specs.Playing.{ArePicked, IsFinished}
 use Rattle.run_replay.specs.ReplayedWindows.{IsReplayed}
 use Rattle.run_replay.specs.Replays.{Course, IsReplay}
 use Rattle.std.proofs.Common.{ap, inl, inr, refl, subst, sym, ◌∙◌}
@@ -24,8 +24,8 @@ use Rattle.std.specs.Prelude.{List, None, Option, Some, length, option_map, slic
 
 -- from the opening over the picks to the end, what the player's calls answer
 pub record Went {D : Type 0} (hub : OpenHub D) (picks : List ℕ) (seed rounds : ℕ) (first played last : PlayerState D) : Type 0 where
-  pub opens : IsOpened hub rounds first
-  pub plays : (acts : ℕ) → (later : ℕ) × IsPlayed first.rounds picks (play_of first acts) (play_of played later)
+  pub opens : PlayerIsOpened hub rounds first
+  pub plays : (acts : ℕ) → (later : ℕ) × ArePicked first.rounds picks (play_of first acts) (play_of played later)
   pub finishes : (acts : ℕ) → (later : ℕ) × IsFinished played.rounds seed (play_of played acts) (play_of last later)
   pub window : SameWindow first.hub played.hub
   pub still : SameWindow played.hub last.hub
@@ -42,7 +42,7 @@ acts_of hub picks seed rounds first played last went = (went.finishes (went.play
 is_replay : {D : Type 0} (hub : OpenHub D) (picks : List ℕ) (seed rounds : ℕ) (first played last : PlayerState D) (went : Went hub picks seed rounds first played last) → IsReplay hub.setting hub.rounds rounds picks seed (play_of last (acts_of hub picks seed rounds first played last went))
 is_replay hub picks seed rounds first played last went =
     replays hub.setting hub.rounds rounds seed picks (play_of played between) (play_of last (went.finishes between).0)
-    (subst (λ p. IsPlayed rounds picks p (play_of played between)) went.opens.start (subst (λ n. IsPlayed n picks (play_of first 0) (play_of played between)) went.opens.detector (went.plays 0).1))
+    (subst (λ p. ArePicked rounds picks p (play_of played between)) went.opens.start (subst (λ n. ArePicked n picks (play_of first 0) (play_of played between)) went.opens.detector (went.plays 0).1))
     (subst (λ n. IsFinished n seed (play_of played between) (play_of last (went.finishes between).0)) (went.rounds_played ∙ went.opens.detector) (went.finishes between).1)
   where
     between : ℕ
@@ -71,7 +71,7 @@ plan_in plan (Some (Out slip task)) = None
 abbrev pub plans_of : {D : Type 0} (plan : D → Option (List (ℕ × ℕ))) → OpenHub D → ℕ → Option (List (ℕ × ℕ))
 plans_of plan hub d = plan_in plan (slice_get hub.places d)
 
-pub plans_then : {D : Type 0} (plan : D → Option (List (ℕ × ℕ))) (hub : OpenHub D) (rounds : ℕ) (first : PlayerState D) → IsOpened hub rounds first → HavePlans plan (plans_of plan hub) first
+pub plans_then : {D : Type 0} (plan : D → Option (List (ℕ × ℕ))) (hub : OpenHub D) (rounds : ℕ) (first : PlayerState D) → PlayerIsOpened hub rounds first → HavePlans plan (plans_of plan hub) first
 plans_then plan hub rounds first opens d device (inl home) = sym (ap (plan_in plan) (ap (λ h. slice_get h.places d) (sym opens.own) ∙ home))
 plans_then plan hub rounds first opens d device (inr hand) = absurd (opens.hands hand.0 hand.1 hand.2)
 
@@ -79,7 +79,7 @@ home_at : {D : Type 0} (places : List (Place D)) (devices : List D) (d : ℕ) (d
 home_at places devices d device all at = ap (λ ps. slice_get ps d) all ∙ slice_get-map (λ x. Home x) devices d ∙ ap (option_map (λ x. Home x)) at
 
 pub replayed_so : {D : Type 0} (tag : D → ℕ) (plan : D → Option (List (ℕ × ℕ))) (stands turns probes faults : D → ℕ) (hub : OpenHub D) (picks : List ℕ) (seed rounds : ℕ) (first played last : PlayerState D) (home : HomeState D) (closed : WindowRecord)
-    → Went hub picks seed rounds first played last → HubStands tag stands turns probes faults hub → HubStands tag stands turns probes faults last.hub → HavePlans plan (plans_of plan hub) last → IsClosed turns probes faults last.hub home closed → AreNumbered tag home.devices
+    → Went hub picks seed rounds first played last → HubStands tag stands turns probes faults hub → HubStands tag stands turns probes faults last.hub → HavePlans plan (plans_of plan hub) last → WindowIsClosed turns probes faults last.hub home closed → AreNumbered tag home.devices
     → IsReplayed tag plan turns probes faults hub picks seed rounds home closed
 replayed_so {D = D} tag plan stands turns probes faults hub picks seed rounds first played last home closed went before after plans closes numbered = record {
   legal = subst (λ w. IsLegalWindow w closed) window.setting closes.legal;
@@ -95,7 +95,7 @@ replayed_so {D = D} tag plan stands turns probes faults hub picks seed rounds fi
   numbered = numbered;
   plans = λ d x y x_at y_at. plans d y (inl (home_at last.hub.places home.devices d y closes.places y_at)) ∙ ap (plan_in plan) x_at;
   turns_rose = λ d y y_at. closes.turns_rose d y y_at ∙ ap (λ c. c.turns + slice_index_or closed.turns.items d 0) (window.at_opening d);
-  probes_rose = λ d y y_at. closes.probes_rose d y y_at ∙ ap (λ c. c.probes + (last.hub.rounds - (device_at last.hub.devices d).probes_left)) (window.at_opening d) ∙ ap (λ n. (device_at hub.devices d).at_opening.probes + (n - (device_at last.hub.devices d).probes_left)) window.rounds;
+  probes_rose = λ d y y_at. closes.probes_rose d y y_at ∙ ap (λ c. c.probes + (last.hub.rounds - (progress_at last.hub.devices d).probes_left)) (window.at_opening d) ∙ ap (λ n. (progress_at hub.devices d).at_opening.probes + (n - (progress_at last.hub.devices d).probes_left)) window.rounds;
   faults_rose = λ d y y_at. closes.faults_rose d y y_at ∙ ap (λ c. c.faults + slice_index_or closed.faults.items d 0) (window.at_opening d);
 }
   where

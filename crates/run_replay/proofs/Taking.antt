@@ -6,9 +6,9 @@ use Rattle.device_gate.specs.declared.slips.Slip.{Slip}
 use Rattle.hub_core.proofs.calls.HubChanges.{length_with}
 use Rattle.hub_core.proofs.kept.Finds.{none_there}
 use Rattle.hub_core.proofs.steps.Choices.{decide_is}
-use Rattle.hub_core.specs.HubCalls.{Answers, GoesOut, SameWindow}
+use Rattle.hub_core.specs.HubCalls.{Answers, DeviceGoesOut, SameWindow}
 use Rattle.hub_core.specs.HubSteps.{IsSlipOf, SlipFits}
-use Rattle.hub_core.specs.OpenHubs.{OpenHub, configuration_of, state_of}
+use Rattle.hub_core.specs.OpenHubs.{OpenHub, configuration_of, hub_state_of}
 use Rattle.hub_core.specs.Steps.{Absent, Choice, HandsOut, Moves, Over, Waits, after_choice, after_take, at_moment, choice_of}
 use Rattle.hub_core.specs.declared.waits.Why.{Why}
 use Rattle.lock_leasing.specs.Configurations.{Configuration, read_of}
@@ -89,10 +89,10 @@ pub some_slip : Slip
 some_slip = record { ticket = 0; device = record { 0 = 0 }; maker = 0; stood = 0; turns = 0; probes = 0; faults = 0 }
 
 pub chosen : {D : Type 0} (s t : PlayerState D) (r : ℕ) (choice : Choice) → Answers s.hub r s.hub.moment choice t.hub → choice ≡ choice_of (configuration_of s.hub) r s.hub.moment
-chosen s t r choice answers = took_choice (state_of s.hub) (state_of t.hub) r s.hub.moment some_slip choice (answers.step some_slip)
+chosen s t r choice answers = took_choice (hub_state_of s.hub) (hub_state_of t.hub) r s.hub.moment some_slip choice (answers.step some_slip)
 
 pub after : {D : Type 0} (s t : PlayerState D) (r : ℕ) (choice : Choice) → Answers s.hub r s.hub.moment choice t.hub → configuration_of t.hub ≡ after_take (configuration_of s.hub) r s.hub.moment
-after s t r choice answers = took_after (state_of s.hub) (state_of t.hub) r s.hub.moment some_slip choice (answers.step some_slip)
+after s t r choice answers = took_after (hub_state_of s.hub) (hub_state_of t.hub) r s.hub.moment some_slip choice (answers.step some_slip)
 
 longer : {D : Type 0} (s t : PlayerState D) (r : ℕ) → configuration_of t.hub ≡ after_take (configuration_of s.hub) r s.hub.moment → length s.hub.history ≤ length t.hub.history
 longer s t r is = subst (λ (c : Configuration). length s.hub.history ≤ length c.history) (sym is) (history_by (at_moment (configuration_of s.hub) s.hub.moment) r (choice_of (configuration_of s.hub) r s.hub.moment))
@@ -169,21 +169,21 @@ answers_now s t r m choice own = subst (λ n. Answers s r n choice t) own
 
 pub record GoesToHand {D : Type 0} (s t : PlayerState D) (r : ℕ) (grip : Gripped D Ready) : Type 0 where
   pub free : IsFree s r
-  pub out : GoesOut s.hub r s.hub.moment grip t.hub
+  pub out : DeviceGoesOut s.hub r s.hub.moment grip t.hub
   pub window : SameWindow s.hub t.hub
   pub grips : t.grips ≡ slice_set s.grips r (Some grip)
   pub rounds : t.rounds ≡ s.rounds
   pub place : t.place ≡ s.place
   pub moves : t.moves ≡ s.moves
 
-pub goes_now : {D : Type 0} (s t : OpenHub D) (r m : ℕ) (grip : Gripped D Ready) → m ≡ s.moment → GoesOut s r m grip t → GoesOut s r s.moment grip t
-goes_now s t r m grip own = subst (λ n. GoesOut s r n grip t) own
+pub goes_now : {D : Type 0} (s t : OpenHub D) (r m : ℕ) (grip : Gripped D Ready) → m ≡ s.moment → DeviceGoesOut s r m grip t → DeviceGoesOut s r s.moment grip t
+goes_now s t r m grip own = subst (λ n. DeviceGoesOut s r n grip t) own
 
 pub went : {D : Type 0} (s t : PlayerState D) (r : ℕ) (grip : Gripped D Ready) → (is : GoesToHand s t r grip) → HandsOut grip.slip.device.0 is.out.purpose ≡ choice_of (configuration_of s.hub) r s.hub.moment
-went s t r grip is = took_choice (state_of s.hub) (state_of t.hub) r s.hub.moment grip.slip (HandsOut grip.slip.device.0 is.out.purpose) is.out.step
+went s t r grip is = took_choice (hub_state_of s.hub) (hub_state_of t.hub) r s.hub.moment grip.slip (HandsOut grip.slip.device.0 is.out.purpose) is.out.step
 
 pub went_after : {D : Type 0} (s t : PlayerState D) (r : ℕ) (grip : Gripped D Ready) → (is : GoesToHand s t r grip) → configuration_of t.hub ≡ after_take (configuration_of s.hub) r s.hub.moment
-went_after s t r grip is = took_after (state_of s.hub) (state_of t.hub) r s.hub.moment grip.slip (HandsOut grip.slip.device.0 is.out.purpose) is.out.step
+went_after s t r grip is = took_after (hub_state_of s.hub) (hub_state_of t.hub) r s.hub.moment grip.slip (HandsOut grip.slip.device.0 is.out.purpose) is.out.step
 
 its_slip : {D : Type 0} (s t : PlayerState D) (r : ℕ) (grip : Gripped D Ready) → (is : GoesToHand s t r grip) → IsSlipOf r grip.slip.device.0 grip.slip
 its_slip s t r grip is = subst (λ c. SlipFits r c grip.slip) (sym (went s t r grip is)) is.out.step.2

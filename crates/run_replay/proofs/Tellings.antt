@@ -2,8 +2,8 @@
 use Rattle.device_gate.specs.declared.slips.Told.{Told}
 use Rattle.device_gate.specs.declared.slips.Told.TheVariants.{Worked}
 use Rattle.history_book.specs.Settings.{Setting}
-use Rattle.run_replay.specs.Playing.{GoesOn, IsFinished, IsPicked, IsPlayed, Tells}
-use Rattle.run_replay.specs.Replays.{Course, Drawing, IsReplay, Pick, Picked, Play, draw_once, draw_times, pick, play, start_of}
+use Rattle.run_replay.specs.Playing.{ArePicked, GoesOn, IsFinished, IsPicked, Tells}
+use Rattle.run_replay.specs.Replays.{Course, DrawnPlay, IsReplay, Pick, Picked, Play, draw_once, draw_times, pick, play, start_of}
 use Rattle.std.proofs.Common.{ap, arith, refl, subst, sym, ◌∙◌}
 use Rattle.std.proofs.lemmas.List.{length-append}
 use Rattle.std.proofs.lemmas.Grind.{fold-append}
@@ -48,13 +48,13 @@ pub picked_on : (rounds a : ℕ) (p q : Play) (picked : Picked) → IsPicked rou
 picked_on rounds a p q picked is = record { told = is.told; acts = is.acts; leads = λ course same tells. ap (λ (x : Pick). x.next) (is.leads course same tells) }
 
 -- one pick more
-pub played_more : (rounds a : ℕ) (picks : List ℕ) (p q r : Play) (picked : Picked) → IsPlayed rounds picks p q → IsPicked rounds a q picked r → IsPlayed rounds (picks ++ a ∷ []) p r
+pub played_more : (rounds a : ℕ) (picks : List ℕ) (p q r : Play) (picked : Picked) → ArePicked rounds picks p q → IsPicked rounds a q picked r → ArePicked rounds (picks ++ a ∷ []) p r
 played_more rounds a picks p q r picked before is =
     by_step rounds (λ course x. (pick course (play course x picks) a).next) (λ course x. play course x (picks ++ a ∷ [])) p r (λ course same. sym (fold-append (λ x b. (pick course x b).next) p picks (a ∷ [])))
     (goes_on rounds (λ course x. play course x picks) (λ course x. (pick course x a).next) p q r before (picked_on rounds a q r picked is))
 
 -- one draw more
-pub draw_more : (course : Course) (k : ℕ) (s : Drawing) → draw_times course (suc k) s ≡ draw_once course (draw_times course k s)
+pub draw_more : (course : Course) (k : ℕ) (s : DrawnPlay) → draw_times course (suc k) s ≡ draw_once course (draw_times course k s)
 draw_more course zero s = refl
 draw_more course (suc k) s = draw_more course k (draw_once course s)
 
@@ -72,7 +72,7 @@ tells_all : (rounds : ℕ) (told : List Told) → Tells (course_of rounds told) 
 tells_all rounds told k t e = let same : 0 + k ≡ k = omega arith in ap (λ x. slice_index_or told x Worked) same ∙ index_or_get told k t Worked e
 
 -- a play that goes on by picks, and then by draws until every actor has ended, is a replay
-pub replays : (w : Setting) (probes rounds seed : ℕ) (picks : List ℕ) (q r : Play) → IsPlayed rounds picks (start_of w probes) q → IsFinished rounds seed q r → IsReplay w probes rounds picks seed r
+pub replays : (w : Setting) (probes rounds seed : ℕ) (picks : List ℕ) (q r : Play) → ArePicked rounds picks (start_of w probes) q → IsFinished rounds seed q r → IsReplay w probes rounds picks seed r
 replays w probes rounds seed picks q r played finished =
     record {
       told = (course_of rounds whole.told).told;

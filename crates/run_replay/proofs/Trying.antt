@@ -16,7 +16,7 @@ use Rattle.run_replay.proofs.Stepping.{same_most}
 use Rattle.run_replay.proofs.Tellings.{index_or_get}
 use Rattle.run_replay.specs.Players.{PlayerIsKept, PlayerStands, PlayerState, are_live, empty_places, first_is_full, is_ended, is_full, most_made, play_of, steps_left}
 use Rattle.run_replay.specs.Playing.{GoesOn, IsPicked, IsTried, Tells}
-use Rattle.run_replay.specs.Replays.{Course, Pick, Picked, Play, actors, from_place, gripped, has_ended, pick, pick_first, waits}
+use Rattle.run_replay.specs.Replays.{Course, Pick, Picked, Play, actors, from_place, gripped, is_actor_done, is_waiting_pick, pick, pick_first}
 use Rattle.std.proofs.Common.{ap, arith, inl, inr, refl, subst, sym, ◌∙◌}
 use Rattle.std.proofs.lemmas.Bool.{not-true}
 use Rattle.std.proofs.lemmas.List.{length-append, take-append-drop}
@@ -36,15 +36,15 @@ tells_none course from [] none k t at = absurd (cc)
 tells_none course from (x ∷ xs) none k t at = absurd (omega (arith, none))
 
 -- what waits in the telling of some devices waits in every one
-pub waits_ever : (rounds a : ℕ) (p q : Play) (picked : Picked) → IsPicked rounds a p picked q → waits picked ≡ true → (q ≡ waited p) × ((course : Course) → course.rounds ≡ rounds → waits (pick course p a).picked ≡ true)
+pub waits_ever : (rounds a : ℕ) (p q : Play) (picked : Picked) → IsPicked rounds a p picked q → is_waiting_pick picked ≡ true → (q ≡ waited p) × ((course : Course) → course.rounds ≡ rounds → is_waiting_pick (pick course p a).picked ≡ true)
 waits_ever rounds a p q picked is wait =
     let led = is.leads (teller rounds p.acts is.told) refl (teller_tells rounds p.acts is.told) in
-    let here : waits (pick (teller rounds p.acts is.told) p a).picked ≡ true = ap (λ (x : Pick). waits x.picked) led ∙ wait in
+    let here : is_waiting_pick (pick (teller rounds p.acts is.told) p a).picked ≡ true = ap (λ (x : Pick). is_waiting_pick x.picked) led ∙ wait in
     let same : q ≡ waited p = sym (ap (λ (x : Pick). x.next) led) ∙ wait_keeps (teller rounds p.acts is.told) p a here in
     let acts : q.acts ≡ p.acts = ap (λ (x : Play). x.acts) same in
     let more = is.acts in
     let none : length is.told ≡ 0 = omega (arith, acts, more) in
-    (same, λ course rounds_are. ap (λ (x : Pick). waits x.picked) (is.leads course rounds_are (tells_none course p.acts is.told none)) ∙ wait)
+    (same, λ course rounds_are. ap (λ (x : Pick). is_waiting_pick x.picked) (is.leads course rounds_are (tells_none course p.acts is.told none)) ∙ wait)
 
 -- The hands after it
 
@@ -103,7 +103,7 @@ same_live s t stays =
 same_end : {D : Type 0} (s t : PlayerState D) (a : ℕ) → Stays s t → is_ended t a ≡ is_ended s a
 same_end s t a stays =
     sym (ended_is (record { rounds = s.rounds; told = λ k. Worked }) t 0 a stays.after.kept stays.after.size (sym stays.rounds))
-    ∙ ap (λ p. has_ended (record { rounds = s.rounds; told = λ k. Worked }) p a) (stays.play 0)
+    ∙ ap (λ p. is_actor_done (record { rounds = s.rounds; told = λ k. Worked }) p a) (stays.play 0)
     ∙ ended_is (record { rounds = s.rounds; told = λ k. Worked }) s 0 a stays.before.kept stays.before.size refl
 
 same_left : {D : Type 0} (s t : PlayerState D) → Stays s t → steps_left t ≡ steps_left s
@@ -142,13 +142,13 @@ pub record HaveWaited {D : Type 0} (old now : PlayerState D) (all : List ℕ) (s
   pub left : steps_left now ≡ steps_left old
   pub ends : (a : ℕ) → is_ended now a ≡ is_ended old a
   pub tried : (acts : ℕ) → (later : ℕ) × IsTried old.rounds all (drop step all) (play_of old acts) (play_of now later)
-  pub each : (k a : ℕ) → k < step → slice_get all k ≡ Some a → (course : Course) → course.rounds ≡ old.rounds → (acts : ℕ) → waits (pick course (play_of now acts) a).picked ≡ true
+  pub each : (k a : ℕ) → k < step → slice_get all k ≡ Some a → (course : Course) → course.rounds ≡ old.rounds → (acts : ℕ) → is_waiting_pick (pick course (play_of now acts) a).picked ≡ true
 
 -- what a pick does that comes next
 abbrev pub PickedNext : {D : Type 0} → PlayerState D → ℕ → Picked → PlayerState D → Type 0
 PickedNext s a picked t = (acts : ℕ) → (later : ℕ) × IsPicked s.rounds a (play_of s acts) picked (play_of t later)
 
-stays_by_wait : {D : Type 0} (s t : PlayerState D) (a : ℕ) (picked : Picked) → PlayerStands s → PlayerStands t → t.rounds ≡ s.rounds → t.hub.rounds ≡ s.hub.rounds → PickedNext s a picked t → waits picked ≡ true → Stays s t
+stays_by_wait : {D : Type 0} (s t : PlayerState D) (a : ℕ) (picked : Picked) → PlayerStands s → PlayerStands t → t.rounds ≡ s.rounds → t.hub.rounds ≡ s.hub.rounds → PickedNext s a picked t → is_waiting_pick picked ≡ true → Stays s t
 stays_by_wait s t a picked before after rounds probes picks wait = record { before = before; after = after; rounds = rounds; probes = probes; play = play }
   where
     play : (acts : ℕ) → play_of t acts ≡ play_of s acts
@@ -158,7 +158,7 @@ stays_by_wait s t a picked before after rounds probes picks wait = record { befo
         let later : pick.0 ≡ acts = ap (λ (x : Play). x.acts) same in
         ap (play_of t) (sym later) ∙ same ∙ same_play s acts
 
-pub one_more_waits : {D : Type 0} (old now next : PlayerState D) (all : List ℕ) (step after a : ℕ) (picked : Picked) → HaveWaited old now all step → PlayerStands next → next.rounds ≡ now.rounds → next.hub.rounds ≡ now.hub.rounds → slice_get all step ≡ Some a → PickedNext now a picked next → waits picked ≡ true → after ≡ step + 1 → HaveWaited old next all after
+pub one_more_waits : {D : Type 0} (old now next : PlayerState D) (all : List ℕ) (step after a : ℕ) (picked : Picked) → HaveWaited old now all step → PlayerStands next → next.rounds ≡ now.rounds → next.hub.rounds ≡ now.hub.rounds → slice_get all step ≡ Some a → PickedNext now a picked next → is_waiting_pick picked ≡ true → after ≡ step + 1 → HaveWaited old next all after
 one_more_waits old now next all step after a picked before stands rounds probes at picks wait is = record {
   stands = stands;
   rounds = rounds ∙ before.rounds;
@@ -172,7 +172,7 @@ one_more_waits old now next all step after a picked before stands rounds probes 
       let was = subst (λ n. IsPicked n a (play_of now tried.0) picked (play_of next pick.0)) before.rounds pick.1 in
       let one : suc step ≡ after = omega (arith, is) in
       (pick.0, subst (λ n. IsTried old.rounds all (drop n all) (play_of old acts) (play_of next pick.0)) one (tried_more old.rounds a all (drop (suc step) all) (play_of old acts) (play_of now tried.0) (play_of next pick.0) picked here was wait));
-  each = λ k b low there course same acts. ap (λ (x : Play). waits (pick course x b).picked) (stays.play acts) ∙ (elim (at_or_past k step (omega (arith, low, is))) [
+  each = λ k b low there course same acts. ap (λ (x : Play). is_waiting_pick (pick course x b).picked) (stays.play acts) ∙ (elim (at_or_past k step (omega (arith, low, is))) [
     | inl last ↦ newest b (let both : ◌≡◌ {A = Option ℕ} (Some a) (Some b) = sym at ∙ ap (slice_get all) last ∙ there in cc) course same acts
     | inr past ↦ before.each k b (omega (arith, past)) there course same acts
   ]);
@@ -181,11 +181,11 @@ one_more_waits old now next all step after a picked before stands rounds probes 
     stays : Stays now next
     stays = stays_by_wait now next a picked before.stands stands rounds probes picks wait
 
-    newest : (b : ℕ) → a ≡ b → (course : Course) → course.rounds ≡ old.rounds → (acts : ℕ) → waits (pick course (play_of now acts) b).picked ≡ true
-    newest b own course same acts = ap (λ n. waits (pick course (play_of now acts) n).picked) (sym own) ∙ (waits_ever now.rounds a (play_of now acts) (play_of next (picks acts).0) picked (picks acts).1 wait).1 course (same ∙ sym before.rounds)
+    newest : (b : ℕ) → a ≡ b → (course : Course) → course.rounds ≡ old.rounds → (acts : ℕ) → is_waiting_pick (pick course (play_of now acts) b).picked ≡ true
+    newest b own course same acts = ap (λ n. is_waiting_pick (pick course (play_of now acts) n).picked) (sym own) ∙ (waits_ever now.rounds a (play_of now acts) (play_of next (picks acts).0) picked (picks acts).1 wait).1 course (same ∙ sym before.rounds)
 
 -- the first one that did not wait
-pub one_moves : {D : Type 0} (old now next : PlayerState D) (all : List ℕ) (step a : ℕ) (picked : Picked) → HaveWaited old now all step → slice_get all step ≡ Some a → PickedNext now a picked next → waits picked ≡ false
+pub one_moves : {D : Type 0} (old now next : PlayerState D) (all : List ℕ) (step a : ℕ) (picked : Picked) → HaveWaited old now all step → slice_get all step ≡ Some a → PickedNext now a picked next → is_waiting_pick picked ≡ false
     → (acts : ℕ) → (later : ℕ) × GoesOn old.rounds (λ course x. pick_first course x all) (play_of old acts) (play_of next later)
 one_moves old now next all step a picked before at picks moved acts =
     let tried = before.tried acts in
@@ -230,9 +230,9 @@ never_all {D = D} old now place step wait all some = not_all_wait course now 0 w
     within : one.0 < length now.hub.setting.runs + 1
     within = let low = on.0 in let size = wait.stands.kept.actors in omega (arith, low, size)
 
-    each : Each (λ a. waits (pick course (play_of now 0) a).picked ≡ true) (actors course (play_of now 0))
-    each = subst (Each (λ a. waits (pick course (play_of now 0) a).picked ≡ true)) (sym wait.live ∙ sym (actors_are course now 0 wait.stands.kept wait.stands.size refl))
-        (each_from_place (λ a. waits (pick course (play_of now 0) a).picked ≡ true) place (are_live old) (each_of (λ a. waits (pick course (play_of now 0) a).picked ≡ true) (from_place place (are_live old)) (λ k a at.
+    each : Each (λ a. is_waiting_pick (pick course (play_of now 0) a).picked ≡ true) (actors course (play_of now 0))
+    each = subst (Each (λ a. is_waiting_pick (pick course (play_of now 0) a).picked ≡ true)) (sym wait.live ∙ sym (actors_are course now 0 wait.stands.kept wait.stands.size refl))
+        (each_from_place (λ a. is_waiting_pick (pick course (play_of now 0) a).picked ≡ true) place (are_live old) (each_of (λ a. is_waiting_pick (pick course (play_of now 0) a).picked ≡ true) (from_place place (are_live old)) (λ k a at.
         let low = slice_get_within (from_place place (are_live old)) k a at in
         let size = turned_length place (are_live old) in
         wait.each k a (omega (arith, low, size, all)) at course wait.rounds 0)))

@@ -1,7 +1,7 @@
 -- A pick that waits changes no more than the last moment.
 use Rattle.hub_core.specs.Steps.{Absent, Choice, HandsOut, Moves, Over, Waits, after_choice, after_take_probe, at_moment, choice_of, may_probe}
 use Rattle.lock_leasing.specs.Configurations.{Configuration, Grip}
-use Rattle.run_replay.specs.Replays.{Course, Made, Passed, Pick, Picked, Play, Took, Waited, act_on, act_where_out, actor_takes, counted, detector_takes, gripped, has_ended, moves_after, passes, pick, pick_live, picked_by, run_takes, waits}
+use Rattle.run_replay.specs.Replays.{Course, Made, Passed, Pick, Picked, Play, Took, Waited, act_on, act_where_out, actor_takes, counted_pick, detector_takes, gripped, is_actor_done, is_waiting_pick, moves_after, passes, pick, pick_live, picked_by, run_takes}
 use Rattle.std.proofs.Common.{ap, refl, ◌∙◌}
 use Rattle.std.specs.Prelude.{Bool, None, Option, Some, false, if◌then◌else◌, length, option_map, suc, true, unwrap_or, zero, ℕ, ◌%◌, ◌+◌, ◌≡◌}
 
@@ -10,46 +10,46 @@ abbrev pub waited : Play → Play
 waited p = record p { configuration = at_moment p.configuration p.moment }
 
 -- a choice that is picked as a wait changes nothing
-wait_changes_nothing : (s : Configuration) (r : ℕ) (c : Choice) → waits (picked_by c) ≡ true → after_choice s r c ≡ s
+wait_changes_nothing : (s : Configuration) (r : ℕ) (c : Choice) → is_waiting_pick (picked_by c) ≡ true → after_choice s r c ≡ s
 wait_changes_nothing s r Absent e = absurd (cc)
 wait_changes_nothing s r (Over x entries) e = absurd (cc)
 wait_changes_nothing s r (Moves entries) e = absurd (cc)
 wait_changes_nothing s r (Waits why) e = refl
 wait_changes_nothing s r (HandsOut d purpose) e = absurd (cc)
 
-take_waits : (p : Play) (r : ℕ) → waits (run_takes p r).picked ≡ true → (run_takes p r).next ≡ waited p
+take_waits : (p : Play) (r : ℕ) → is_waiting_pick (run_takes p r).picked ≡ true → (run_takes p r).next ≡ waited p
 take_waits p r e = ap (λ c. record p { configuration = c }) (wait_changes_nothing (at_moment p.configuration p.moment) r (choice_of p.configuration r p.moment) e)
 
-pub detector_never_waits : (p : Play) → waits (detector_takes p).picked ≡ false
-detector_never_waits p = elim (may_probe p.configuration (p.place % length p.configuration.setting.first)) as (λ b. waits (if b then record { picked = Took (p.place % length p.configuration.setting.first); next = record p { configuration = after_take_probe p.configuration (p.place % length p.configuration.setting.first); place = p.place + 1 } } else passes (record p { place = p.place + 1 })).picked ≡ false) [ true ↦ refl | false ↦ refl ]
+pub detector_never_waits : (p : Play) → is_waiting_pick (detector_takes p).picked ≡ false
+detector_never_waits p = elim (may_probe p.configuration (p.place % length p.configuration.setting.first)) as (λ b. is_waiting_pick (if b then record { picked = Took (p.place % length p.configuration.setting.first); next = record p { configuration = after_take_probe p.configuration (p.place % length p.configuration.setting.first); place = p.place + 1 } } else passes (record p { place = p.place + 1 })).picked ≡ false) [ true ↦ refl | false ↦ refl ]
 
-pub act_never_waits : (course : Course) (p : Play) (d : ℕ) (o : Option Grip) → waits (unwrap_or (option_map (act_on course p d) o) (passes p)).picked ≡ false
+pub act_never_waits : (course : Course) (p : Play) (d : ℕ) (o : Option Grip) → is_waiting_pick (unwrap_or (option_map (act_on course p d) o) (passes p)).picked ≡ false
 act_never_waits course p d None = refl
 act_never_waits course p d (Some grip) = refl
 
-actor_waits : (p : Play) (a : ℕ) → waits (actor_takes p a).picked ≡ true → (actor_takes p a).next ≡ waited p
+actor_waits : (p : Play) (a : ℕ) → is_waiting_pick (actor_takes p a).picked ≡ true → (actor_takes p a).next ≡ waited p
 actor_waits p zero e = absurd (let never = detector_never_waits p in cc)
 actor_waits p (suc r) e = take_waits p (suc r) e
 
 -- what a pick waits for, where the actor has not ended, and holds the grip of this device, or none
-live_waits : (course : Course) (p : Play) (a : ℕ) (o : Option ℕ) → waits (unwrap_or (option_map (act_where_out course p) o) (actor_takes p a)).picked ≡ true → (unwrap_or (option_map (act_where_out course p) o) (actor_takes p a)).next ≡ waited p
+live_waits : (course : Course) (p : Play) (a : ℕ) (o : Option ℕ) → is_waiting_pick (unwrap_or (option_map (act_where_out course p) o) (actor_takes p a)).picked ≡ true → (unwrap_or (option_map (act_where_out course p) o) (actor_takes p a)).next ≡ waited p
 live_waits course p a None e = actor_waits p a e
 live_waits course p a (Some d) e = absurd (let never = act_never_waits course p d (p.configuration.grips d) in cc)
 
 -- a wait is not counted
-waits_uncounted : (x : Pick) → waits x.picked ≡ true → (counted x).next ≡ x.next
+waits_uncounted : (x : Pick) → is_waiting_pick x.picked ≡ true → (counted_pick x).next ≡ x.next
 waits_uncounted x e = by_picked x.picked e
   where
-    by_picked : (picked : Picked) → waits picked ≡ true → record x.next { moves = moves_after picked x.next.moves } ≡ x.next
+    by_picked : (picked : Picked) → is_waiting_pick picked ≡ true → record x.next { moves = moves_after picked x.next.moves } ≡ x.next
     by_picked Passed e = refl
     by_picked (Made entries) e = absurd (cc)
     by_picked (Took d) e = absurd (cc)
     by_picked (Waited why) e = refl
 
-by_end : (course : Course) (p : Play) (a : ℕ) (b : Bool) → waits (if b then passes p else counted (pick_live course p a)).picked ≡ true → (if b then passes p else counted (pick_live course p a)).next ≡ waited p
+by_end : (course : Course) (p : Play) (a : ℕ) (b : Bool) → is_waiting_pick (if b then passes p else counted_pick (pick_live course p a)).picked ≡ true → (if b then passes p else counted_pick (pick_live course p a)).next ≡ waited p
 by_end course p a true e = absurd (cc)
 by_end course p a false e = waits_uncounted (pick_live course p a) e ∙ live_waits course p a (gripped p a) e
 
 -- a pick that waits leaves the play but for its last moment
-pub wait_keeps : (course : Course) (p : Play) (a : ℕ) → waits (pick course p a).picked ≡ true → (pick course p a).next ≡ waited p
-wait_keeps course p a e = by_end course p a (has_ended course p a) e
+pub wait_keeps : (course : Course) (p : Play) (a : ℕ) → is_waiting_pick (pick course p a).picked ≡ true → (pick course p a).next ≡ waited p
+wait_keeps course p a e = by_end course p a (is_actor_done course p a) e

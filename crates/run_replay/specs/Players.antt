@@ -130,7 +130,7 @@ abbrev pub HoldNothing : {A : Type 0} → List (Option A) → Type 0
 HoldNothing {A} hands = (a : ActorId) (x : A) → slice_get hands a ≡ Some (Some x) → ⊥
 
 -- a player of the hub, with an empty hand for each actor, at the start of its play
-pub record IsOpened {D : Type 0} (hub : OpenHub D) (rounds : ℕ) (s : PlayerState D) : Type 0 where
+pub record PlayerIsOpened {D : Type 0} (hub : OpenHub D) (rounds : ℕ) (s : PlayerState D) : Type 0 where
   pub own : s.hub ≡ hub
   pub detector : s.rounds ≡ rounds
   pub start : play_of s 0 ≡ start_of hub.setting hub.rounds

@@ -1,7 +1,7 @@
 -- How a play goes on, for what the devices tell meanwhile.
 use Rattle.device_gate.specs.declared.slips.Told.{Told}
 use Rattle.home_types.specs.Numbers.{ActorId}
-use Rattle.run_replay.specs.Replays.{Course, Picked, Play, actors, draw_times, pick, pick_first, pick_live, play, waits}
+use Rattle.run_replay.specs.Replays.{Course, Picked, Play, actors, draw_times, is_waiting_pick, pick, pick_first, pick_live, play}
 use Rattle.std.specs.Prelude.{Bool, List, Some, [], length, slice_get, ℕ, ◌+◌, ◌≡◌}
 
 -- the course tells these, act after act, from the act of this number on
@@ -23,7 +23,7 @@ pub record IsPicked (rounds : ℕ) (a : ActorId) (p : Play) (picked : Picked) (q
 -- the actor was picked in the play that it is by so many acts, and waited or did not
 pub record HasPicked (rounds : ℕ) (a : ActorId) (before : ℕ → Play) (waited : Bool) (after : ℕ → Play) : Type 0 where
   pub picked : Picked
-  pub waits_so : waits picked ≡ waited
+  pub waits_so : is_waiting_pick picked ≡ waited
   pub picks : (acts : ℕ) → (later : ℕ) × IsPicked rounds a (before acts) picked (after later)
 
 -- the actor, which has not ended, was picked, and did this; the pick is not counted yet
@@ -33,8 +33,8 @@ pub record IsStepped (rounds : ℕ) (a : ActorId) (p : Play) (picked : Picked) (
   pub leads : (course : Course) → course.rounds ≡ rounds → Tells course p.acts told → pick_live course p a ≡ record { picked = picked; next = q }
 
 -- these actors were picked, one after another
-abbrev pub IsPlayed : ℕ → List ActorId → Play → Play → Type 0
-IsPlayed rounds picks p q = GoesOn rounds (λ course x. play course x picks) p q
+abbrev pub ArePicked : ℕ → List ActorId → Play → Play → Type 0
+ArePicked rounds picks p q = GoesOn rounds (λ course x. play course x picks) p q
 
 -- after some draws of the generator from this seed every actor has ended
 pub record IsFinished (rounds seed : ℕ) (p q : Play) : Type 0 where

@@ -6,7 +6,7 @@ use Rattle.home_types.specs.HomeStates.{stand_at}
 use Rattle.home_types.specs.Numbers.{ActorId, DeviceId}
 use Rattle.hub_core.specs.Homes.{HomeState}
 use Rattle.hub_core.specs.HubCalls.{NoneFails, RunsHaveEnded}
-use Rattle.hub_core.specs.OpenHubs.{OpenHub, device_at}
+use Rattle.hub_core.specs.OpenHubs.{OpenHub, progress_at}
 use Rattle.legal_days.specs.LegalWindows.{IsLegalWindow}
 use Rattle.run_replay.specs.Replays.{IsReplay, Play}
 use Rattle.std.specs.Prelude.{List, Option, Some, length, slice_get, slice_index_or, true, ℕ, ◌+◌, ◌-◌, ◌<◌, ◌≡◌}
@@ -25,6 +25,6 @@ pub record IsReplayed {D : Type 0} (tag : D → ℕ) (plan : D → Option (List 
   pub size : length home.devices ≡ length s.places
   pub numbered : AreNumbered tag home.devices
   pub plans : (d : DeviceId) (before after : D) → slice_get s.places d ≡ Some (Home before) → slice_get home.devices d ≡ Some after → plan after ≡ plan before
-  pub turns_rose : (d : DeviceId) (device : D) → slice_get home.devices d ≡ Some device → turns device ≡ (device_at s.devices d).at_opening.turns + slice_index_or closed.turns.items d 0
-  pub probes_rose : (d : DeviceId) (device : D) → slice_get home.devices d ≡ Some device → probes device ≡ (device_at s.devices d).at_opening.probes + (s.rounds - play.configuration.probes d)
-  pub faults_rose : (d : DeviceId) (device : D) → slice_get home.devices d ≡ Some device → faults device ≡ (device_at s.devices d).at_opening.faults + slice_index_or closed.faults.items d 0
+  pub turns_rose : (d : DeviceId) (device : D) → slice_get home.devices d ≡ Some device → turns device ≡ (progress_at s.devices d).at_opening.turns + slice_index_or closed.turns.items d 0
+  pub probes_rose : (d : DeviceId) (device : D) → slice_get home.devices d ≡ Some device → probes device ≡ (progress_at s.devices d).at_opening.probes + (s.rounds - play.configuration.probes d)
+  pub faults_rose : (d : DeviceId) (device : D) → slice_get home.devices d ≡ Some device → faults device ≡ (progress_at s.devices d).at_opening.faults + slice_index_or closed.faults.items d 0

@@ -53,9 +53,9 @@ abbrev pub all_rounds : Course → Play → ℕ
 all_rounds course p = course.rounds * length p.configuration.setting.first
 
 -- the detector has ended when its rounds are over and it holds no probe, a run when it has its end
-abbrev pub has_ended : Course → Play → ActorId → Bool
-has_ended course p zero = is_none (gripped p 0) && nat_le (all_rounds course p) p.place
-has_ended course p (suc r) = not (is_run p.configuration.setting.runs (suc r)) || is_some ((read_of p.configuration).run (suc r)).ended
+abbrev pub is_actor_done : Course → Play → ActorId → Bool
+is_actor_done course p zero = is_none (gripped p 0) && nat_le (all_rounds course p) p.place
+is_actor_done course p (suc r) = not (is_run p.configuration.setting.runs (suc r)) || is_some ((read_of p.configuration).run (suc r)).ended
 
 -- by how much the moment rises when the grip is acted on
 abbrev pub takes_of : Play → Grip → ℕ
@@ -127,12 +127,12 @@ abbrev pub moves_after : Picked → ℕ → ℕ
 moves_after picked moves = if has_moved picked then moves + 1 else moves
 
 -- the pick is counted
-abbrev pub counted : Pick → Pick
-counted x = record { picked = x.picked; next = record x.next { moves = moves_after x.picked x.next.moves } }
+abbrev pub counted_pick : Pick → Pick
+counted_pick x = record { picked = x.picked; next = record x.next { moves = moves_after x.picked x.next.moves } }
 
 -- one pick of an actor: a run, or 0 for the detector
 abbrev pub pick : Course → Play → ActorId → Pick
-pick course p a = if has_ended course p a then passes p else counted (pick_live course p a)
+pick course p a = if is_actor_done course p a then passes p else counted_pick (pick_live course p a)
 
 -- picks, one after another
 abbrev pub play : Course → Play → List ActorId → Play
@@ -140,40 +140,40 @@ play course p picks = fold (λ q a. (pick course q a).next) p picks
 
 -- Until every actor has ended
 
-abbrev pub waits : Picked → Bool
-waits Passed = false
-waits (Made entries) = false
-waits (Took d) = false
-waits (Waited why) = true
+abbrev pub is_waiting_pick : Picked → Bool
+is_waiting_pick Passed = false
+is_waiting_pick (Made entries) = false
+is_waiting_pick (Took d) = false
+is_waiting_pick (Waited why) = true
 
 -- the actors that have not ended, ascending
 abbrev pub actors : Course → Play → List ActorId
-actors course p = filter (λ a. not (has_ended course p a)) (range_with_len 0 (length p.configuration.setting.runs + 1))
+actors course p = filter (λ a. not (is_actor_done course p a)) (range_with_len 0 (length p.configuration.setting.runs + 1))
 
 -- picks from these in turn, until one does not wait
 abbrev pub pick_first : Course → Play → List ActorId → Play
 pick_first course p [] = p
-pick_first course p (a ∷ others) = elim (waits (pick course p a).picked) [ true ↦ pick_first course (pick course p a).next others | false ↦ (pick course p a).next ]
+pick_first course p (a ∷ others) = elim (is_waiting_pick (pick course p a).picked) [ true ↦ pick_first course (pick course p a).next others | false ↦ (pick course p a).next ]
 
 -- from this place of the list on, in cyclic order
 abbrev pub from_place : ℕ → List ActorId → List ActorId
 from_place k xs = drop k xs ++ take k xs
 
 -- a replay that goes on by draws
-pub record Drawing : Type 0 where
+pub record DrawnPlay : Type 0 where
   pub play : Play
   pub state : ℕ
 
 -- one draw: a place in the list of the actors that have not ended, from which they are picked
-abbrev pub draw_once : Course → Drawing → Drawing
+abbrev pub draw_once : Course → DrawnPlay → DrawnPlay
 draw_once course s = from_actors (actors course s.play)
   where
-    from_actors : List ActorId → Drawing
+    from_actors : List ActorId → DrawnPlay
     from_actors [] = s
     from_actors (a ∷ others) = record { play = pick_first course s.play (from_place (below (drawn s.state) (length (a ∷ others))) (a ∷ others)); state = drawn s.state }
 
 -- so many draws
-abbrev pub draw_times : Course → ℕ → Drawing → Drawing
+abbrev pub draw_times : Course → ℕ → DrawnPlay → DrawnPlay
 draw_times course zero s = s
 draw_times course (suc k) s = draw_times course k (draw_once course s)
 

@@ -2,12 +2,12 @@
 ghost use Rattle.std.specs.Prelude.{◌≡◌, ◌≢◌, ◌<◌, ◌≤◌, ◌^◌, None, Some, IfErr, IfOk, IsTrue, false, length, true, vec_capacity, ℕ};
 ghost use Rattle.hub_core.specs.BlockedMarks.{has_run};
 ghost use Rattle.hub_core.specs.BlockedRuns.{IsBlocked};
-ghost use Rattle.hub_core.specs.HubCalls.{HubStands, IsClosed, IsPacked, SameWindow};
+ghost use Rattle.hub_core.specs.HubCalls.{HubStands, IsPacked, SameWindow, WindowIsClosed};
 ghost use Rattle.hub_core.specs.OpenHubs.{configuration_of};
 ghost use Rattle.hub_core.specs.Steps.{not_quiet, opened};
-ghost use Rattle.run_replay.specs.Players.{HavePlans, HoldNothing, IsOpened, MovesAreFew, PickIsPacked, PlayerStands, is_ended, is_full, picked_of, play_of, steps_left, with_moves};
+ghost use Rattle.run_replay.specs.Players.{HavePlans, HoldNothing, MovesAreFew, PickIsPacked, PlayerIsOpened, PlayerStands, is_ended, is_full, picked_of, play_of, steps_left, with_moves};
 ghost use Rattle.run_replay.specs.Playing.{IsPicked, IsStepped};
-ghost use Rattle.run_replay.specs.Replays.{moves_after, waits};
+ghost use Rattle.run_replay.specs.Replays.{is_waiting_pick, moves_after};
 
 use crate::picked::{Picked, has_moved};
 use device_states::Device;
@@ -54,7 +54,7 @@ impl<D: Device> Hands<D> {
     ) -> Result<Hands<D>, (Hub<D>, NoMemory)>
         requires fresh { configuration_of hub ≡ opened hub.setting hub.rounds }
         requires rounds { (d : ℕ) → d < length hub.setting.first → rounds ≤ (configuration_of hub).probes d }
-        ensures opened { IfOk result (λ player. IsOpened hub rounds player) }
+        ensures opened { IfOk result (λ player. PlayerIsOpened hub rounds player) }
         ensures refused { IfErr result (λ refused. refused.0 ≡ hub) }
     {
         hub.kept();
@@ -80,12 +80,12 @@ impl<D: Device> Hands<D> {
         ensures rounds { self.new.rounds ≡ self.old.rounds }
         ensures plans { (plans : ℕ → _) → HavePlans D.plan plans self.old → HavePlans D.plan plans self.new }
         ensures moves { self.new.moves ≡ moves_after (picked_of result) self.old.moves }
-        ensures fewer { waits (picked_of result) ≡ false → is_ended self.old actor ≡ false → steps_left self.new < steps_left self.old }
+        ensures fewer { is_waiting_pick (picked_of result) ≡ false → is_ended self.old actor ≡ false → steps_left self.new < steps_left self.old }
         ensures few { MovesAreFew self.new }
         ensures hands { length self.new.grips ≡ length self.old.grips }
         ensures others { (q : ℕ) → q ≢ actor → is_ended self.new q ≡ is_ended self.old q }
         ensures over { is_ended self.old actor ≡ true → is_ended self.new actor ≡ true }
-        ensures waiting { waits (picked_of result) ≡ true → is_ended self.new actor ≡ is_ended self.old actor }
+        ensures waiting { is_waiting_pick (picked_of result) ≡ true → is_ended self.new actor ≡ is_ended self.old actor }
     {
         self.kept();
         if self.has_ended(actor) {
@@ -117,11 +117,11 @@ impl<D: Device> Hands<D> {
         ensures rounds { self.new.rounds ≡ self.old.rounds }
         ensures moves { self.new.moves ≡ self.old.moves }
         ensures plans { (plans : ℕ → _) → HavePlans D.plan plans self.old → HavePlans D.plan plans self.new }
-        ensures fewer { waits (picked_of result) ≡ false → steps_left self.new < steps_left self.old }
-        ensures left { waits (picked_of result) ≡ true → steps_left self.new ≡ steps_left self.old }
+        ensures fewer { is_waiting_pick (picked_of result) ≡ false → steps_left self.new < steps_left self.old }
+        ensures left { is_waiting_pick (picked_of result) ≡ true → steps_left self.new ≡ steps_left self.old }
         ensures hands { length self.new.grips ≡ length self.old.grips }
         ensures others { (q : ℕ) → q ≢ actor → is_ended self.new q ≡ is_ended self.old q }
-        ensures waiting { waits (picked_of result) ≡ true → is_ended self.new actor ≡ is_ended self.old actor }
+        ensures waiting { is_waiting_pick (picked_of result) ≡ true → is_ended self.new actor ≡ is_ended self.old actor }
     {
         if actor == 0 {
             return self.probe();
@@ -221,11 +221,11 @@ impl<D: Device> Hands<D> {
         ensures rounds { self.new.rounds ≡ self.old.rounds }
         ensures moves { self.new.moves ≡ self.old.moves }
         ensures plans { (plans : ℕ → _) → HavePlans D.plan plans self.old → HavePlans D.plan plans self.new }
-        ensures fewer { waits (picked_of result) ≡ false → steps_left self.new < steps_left self.old }
+        ensures fewer { is_waiting_pick (picked_of result) ≡ false → steps_left self.new < steps_left self.old }
         ensures hands { length self.new.grips ≡ length self.old.grips }
         ensures others { (q : ℕ) → q ≢ r.0 → is_ended self.new q ≡ is_ended self.old q }
-        ensures waiting { waits (picked_of result) ≡ true → is_ended self.new r.0 ≡ is_ended self.old r.0 }
-        ensures left { waits (picked_of result) ≡ true → steps_left self.new ≡ steps_left self.old }
+        ensures waiting { is_waiting_pick (picked_of result) ≡ true → is_ended self.new r.0 ≡ is_ended self.old r.0 }
+        ensures left { is_waiting_pick (picked_of result) ≡ true → steps_left self.new ≡ steps_left self.old }
     {
         let now = self.hub.moment();
         let turn = self.hub.take(r, now);
@@ -258,7 +258,7 @@ impl<D: Device> Hands<D> {
         ensures fewer { steps_left self.new < steps_left self.old }
         ensures hands { length self.new.grips ≡ length self.old.grips }
         ensures others { (q : ℕ) → q ≢ 0 → is_ended self.new q ≡ is_ended self.old q }
-        ensures goes_on { waits (picked_of result) ≡ false }
+        ensures goes_on { is_waiting_pick (picked_of result) ≡ false }
     {
         if self.holds(0) {
             Picked::Made(self.detector_acts())
@@ -307,7 +307,7 @@ impl<D: Device> Hands<D> {
         ensures fewer { steps_left self.new < steps_left self.old }
         ensures hands { length self.new.grips ≡ length self.old.grips }
         ensures others { (q : ℕ) → q ≢ 0 → is_ended self.new q ≡ is_ended self.old q }
-        ensures goes_on { waits (picked_of result) ≡ false }
+        ensures goes_on { is_waiting_pick (picked_of result) ≡ false }
     {
         self.hub.kept();
         let d = DeviceNo((self.place % self.hub.device_count()) as u16);
@@ -336,7 +336,7 @@ impl<D: Device> Hands<D> {
     ///
     /// Refused, and the hands are given back, where a run has not ended or a device is out.
     pub(crate) fn close(self) -> Result<(Home<D>, WindowRecord), (Hands<D>, NotQuiet)>
-        ensures closed { IfOk result (λ closed. IsClosed D.turns D.probes D.faults self.hub closed.0 closed.1) }
+        ensures closed { IfOk result (λ closed. WindowIsClosed D.turns D.probes D.faults self.hub closed.0 closed.1) }
         ensures quiet { IfOk result (λ closed. not_quiet (configuration_of self.hub) ≡ None) }
         ensures same { IfErr result (λ refused. refused.0 ≡ self) }
         ensures refused { IfErr result (λ refused. not_quiet (configuration_of self.hub) ≡ Some refused.1) }

@@ -1,7 +1,7 @@
 //! What came of a pick.
 ghost use Rattle.std.specs.Prelude.{◌≡◌};
 ghost use Rattle.run_replay.specs.Players.{picked_of};
-ghost use Rattle.run_replay.specs.Replays.{has_moved, waits};
+ghost use Rattle.run_replay.specs.Replays.{has_moved, is_waiting_pick};
 
 use history_book::Made;
 use home_types::DeviceNo;
@@ -23,7 +23,7 @@ pub enum Picked {
 /// Whether the actor that did this waits.
 #[inline(always)]
 pub(crate) fn has_waited(picked: Picked) -> bool
-    ensures { result ≡ waits (picked_of picked) }
+    ensures { result ≡ is_waiting_pick (picked_of picked) }
 {
     matches!(picked, Picked::Waits(_))
 }

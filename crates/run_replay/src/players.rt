@@ -2,8 +2,8 @@
 ghost use Rattle.std.specs.Prelude.{◌≡◌, ◌<◌, ◌≤◌, ◌==◌, false, filter, length, not, ℕ};
 ghost use Rattle.hub_core.specs.HubCalls.{HubStands, SameWindow};
 ghost use Rattle.run_replay.specs.Players.{HavePlans, PickIsPacked, PlayerStands, is_ended, most_moves, picked_of, play_of, steps_left};
-ghost use Rattle.run_replay.specs.Playing.{HasPicked, IsPicked, IsPlayed};
-ghost use Rattle.run_replay.specs.Replays.{moves_after, waits};
+ghost use Rattle.run_replay.specs.Playing.{ArePicked, HasPicked, IsPicked};
+ghost use Rattle.run_replay.specs.Replays.{is_waiting_pick, moves_after};
 
 use crate::hands::Hands;
 use crate::live_runs::without_run;
@@ -48,7 +48,7 @@ impl<D: Device> Player<D> {
         ensures rounds { self.new.rounds ≡ self.old.rounds }
         ensures plans { (plans : ℕ → _) → HavePlans D.plan plans self.old → HavePlans D.plan plans self.new }
         ensures moves { self.new.moves ≡ moves_after (picked_of result) self.old.moves }
-        ensures fewer { waits (picked_of result) ≡ false → is_ended self.old actor ≡ false → steps_left self.new < steps_left self.old }
+        ensures fewer { is_waiting_pick (picked_of result) ≡ false → is_ended self.old actor ≡ false → steps_left self.new < steps_left self.old }
     {
         let picked = self.hands.pick(actor);
         if has_waited(picked) {
@@ -77,7 +77,7 @@ impl<D: Device> Player<D> {
     /// Steps each of these actors, one after another. A run that is known to wait is passed over: its step would change
     /// nothing.
     pub fn play(&mut self, picks: &[u32])
-        ensures played { (acts : ℕ) → (later : ℕ) × IsPlayed self.old.rounds picks.now (play_of self.old acts) (play_of self.new later) }
+        ensures played { (acts : ℕ) → (later : ℕ) × ArePicked self.old.rounds picks.now (play_of self.old acts) (play_of self.new later) }
         ensures window { SameWindow self.old.hub self.new.hub }
         ensures rounds { self.new.rounds ≡ self.old.rounds }
         ensures plans { (plans : ℕ → _) → HavePlans D.plan plans self.old → HavePlans D.plan plans self.new }

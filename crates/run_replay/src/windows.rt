@@ -1,9 +1,9 @@
 //! A window, opened, replayed by its turns and its seed, and closed.
 ghost use Rattle.std.specs.Prelude.{◌≡◌, ◌<◌, ◌≤◌, None, Some, IfErr, IfOk, ℕ, length};
-ghost use Rattle.hub_core.specs.HubCalls.{IsClosed};
+ghost use Rattle.hub_core.specs.HubCalls.{WindowIsClosed};
 ghost use Rattle.hub_core.specs.OpenHubs.{configuration_of};
 ghost use Rattle.hub_core.specs.Steps.{not_quiet, opened};
-ghost use Rattle.run_replay.specs.Players.{IsOpened};
+ghost use Rattle.run_replay.specs.Players.{PlayerIsOpened};
 ghost use Rattle.run_replay.specs.ReplayedWindows.{IsReplayed};
 
 use crate::hands::Hands;
@@ -22,7 +22,7 @@ impl<D: Device> Player<D> {
     pub fn open(alloc: Global, hub: Hub<D>, rounds: u32) -> Result<Player<D>, (Hub<D>, NoMemory)>
         requires fresh { configuration_of hub ≡ opened hub.setting hub.rounds }
         requires rounds { (d : ℕ) → d < length hub.setting.first → rounds ≤ (configuration_of hub).probes d }
-        ensures opened { IfOk result (λ player. IsOpened hub rounds player) }
+        ensures opened { IfOk result (λ player. PlayerIsOpened hub rounds player) }
         ensures refused { IfErr result (λ refused. refused.0 ≡ hub) }
     {
         let count = hub.run_count() + 1;
@@ -56,7 +56,7 @@ impl<D: Device> Player<D> {
     ///
     /// Refused, and the player is given back, where a run has not ended or a device is out.
     pub fn close(self) -> Result<(Home<D>, WindowRecord), (Player<D>, NotQuiet)>
-        ensures closed { IfOk result (λ closed. IsClosed D.turns D.probes D.faults self.hub closed.0 closed.1) }
+        ensures closed { IfOk result (λ closed. WindowIsClosed D.turns D.probes D.faults self.hub closed.0 closed.1) }
         ensures quiet { IfOk result (λ closed. not_quiet (configuration_of self.hub) ≡ None) }
         ensures same { IfErr result (λ refused. refused.0 ≡ self) }
         ensures refused { IfErr result (λ refused. not_quiet (configuration_of self.hub) ≡ Some refused.1) }

@@ -2,7 +2,7 @@
 use Rattle.command_rules.specs.ClosedSets.{exchanged}
 use Rattle.home_types.specs.declared.items.Item.{Item}
 use Rattle.serial_line.proofs.Once.{item_back}
-use Rattle.serial_line.specs.Marks.{Mark, all_differ, front_of, is_item, is_open, items_of}
+use Rattle.serial_line.specs.Marks.{Mark, all_differ, front_of, is_item, is_open_run, items_of}
 use Rattle.std.proofs.Common.{ap, arith, get_or, refl, set, subst, ◌∙◌}
 use Rattle.std.proofs.lemmas.Grind.{common_steps}
 use Rattle.std.specs.List.{list_any, swap}
@@ -94,7 +94,7 @@ unfolding exchanged
 front_exchanged ms at zero low upto = omega arith
 front_exchanged [] at (suc k) low upto = upto
 front_exchanged (m ∷ ms) zero (suc k) low upto = absurd (omega (arith, low))
-front_exchanged (m ∷ ms) (suc at) (suc k) low upto = by_open (is_open m) upto (λ e. front_exchanged ms at k (omega (arith, low)) e)
+front_exchanged (m ∷ ms) (suc at) (suc k) low upto = by_open (is_open_run m) upto (λ e. front_exchanged ms at k (omega (arith, low)) e)
   where
     by_open : (b : Bool) → suc k ≤ (if b then 0 else front_of ms + 1) → (k ≤ front_of ms → k ≤ front_of (exchanged at ms)) → suc k ≤ (if b then 0 else front_of (exchanged at ms) + 1)
     by_open true h rest = absurd (omega (arith, h))

@@ -2,7 +2,7 @@
 use Rattle.command_rules.specs.Items.{of_run}
 use Rattle.home_types.specs.declared.items.Item.TheVariants.{Back, Failed, Ran}
 use Rattle.home_types.specs.declared.items.Item.{Item}
-use Rattle.serial_line.specs.Marks.{Mark, front_of, is_open}
+use Rattle.serial_line.specs.Marks.{Mark, front_of, is_open_run}
 use Rattle.std.proofs.Common.{ap, arith, refl, ◌∙◌}
 use Rattle.std.specs.Prelude.{Bool, List, [], false, get_or, if◌then◌else◌, insert, length, not, remove, slice_set, suc, true, zero, ℕ, ◌+◌, ◌<◌, ◌∷◌, ◌≡◌, ◌≤◌}
 
@@ -10,27 +10,27 @@ use Rattle.std.specs.Prelude.{Bool, List, [], false, get_or, if◌then◌else◌
 
 pub front_within : (ms : List Mark) → front_of ms ≤ length ms
 front_within [] = omega arith
-front_within (m ∷ ms) = by_cases (is_open m) (front_within ms)
+front_within (m ∷ ms) = by_cases (is_open_run m) (front_within ms)
   where
     by_cases : (b : Bool) → front_of ms ≤ length ms → (if b then 0 else front_of ms + 1) ≤ length (m ∷ ms)
     by_cases true rest = omega arith
     by_cases false rest = omega (arith, rest)
 
 -- where it is no smaller than a place, and no such run stands there, it is greater
-pub front_goes_on : (ms : List Mark) (k : ℕ) (d : Mark) → k < length ms → is_open (get_or ms k d) ≡ false → k ≤ front_of ms → k + 1 ≤ front_of ms
+pub front_goes_on : (ms : List Mark) (k : ℕ) (d : Mark) → k < length ms → is_open_run (get_or ms k d) ≡ false → k ≤ front_of ms → k + 1 ≤ front_of ms
 front_goes_on [] k d within closed upto = absurd (omega (arith, within))
 front_goes_on (m ∷ ms) zero d within closed upto = rw closed (omega arith)
-front_goes_on (m ∷ ms) (suc k) d within closed upto = by_cases (is_open m) upto (front_goes_on ms k d (omega (arith, within)) closed)
+front_goes_on (m ∷ ms) (suc k) d within closed upto = by_cases (is_open_run m) upto (front_goes_on ms k d (omega (arith, within)) closed)
   where
     by_cases : (b : Bool) → suc k ≤ (if b then 0 else front_of ms + 1) → (k ≤ front_of ms → k + 1 ≤ front_of ms) → suc k + 1 ≤ (if b then 0 else front_of ms + 1)
     by_cases true none more = absurd (omega (arith, none))
     by_cases false some more = let rest = more (omega (arith, some)) in omega (arith, rest)
 
 -- .. and where one stands there, it is the place
-pub front_stops : (ms : List Mark) (k : ℕ) (d : Mark) → k < length ms → is_open (get_or ms k d) ≡ true → k ≤ front_of ms → k ≡ front_of ms
+pub front_stops : (ms : List Mark) (k : ℕ) (d : Mark) → k < length ms → is_open_run (get_or ms k d) ≡ true → k ≤ front_of ms → k ≡ front_of ms
 front_stops [] k d within stands upto = absurd (omega (arith, within))
 front_stops (m ∷ ms) zero d within stands upto = rw stands refl
-front_stops (m ∷ ms) (suc k) d within stands upto = by_cases (is_open m) upto (front_stops ms k d (omega (arith, within)) stands)
+front_stops (m ∷ ms) (suc k) d within stands upto = by_cases (is_open_run m) upto (front_stops ms k d (omega (arith, within)) stands)
   where
     by_cases : (b : Bool) → suc k ≤ (if b then 0 else front_of ms + 1) → (k ≤ front_of ms → k ≡ front_of ms) → suc k ≡ (if b then 0 else front_of ms + 1)
     by_cases true none more = absurd (omega (arith, none))
@@ -47,7 +47,7 @@ pub front_inserted : (ms : List Mark) (at k : ℕ) (x : Mark) → at ≤ length 
 front_inserted ms at zero x within before upto = omega arith
 front_inserted ms zero (suc k) x within before upto = absurd (omega (arith, before))
 front_inserted [] (suc at) (suc k) x within before upto = absurd (omega (arith, within))
-front_inserted (m ∷ ms) (suc at) (suc k) x within before upto = by_cases (is_open m) upto (front_inserted ms at k x (omega (arith, within)) (omega (arith, before)))
+front_inserted (m ∷ ms) (suc at) (suc k) x within before upto = by_cases (is_open_run m) upto (front_inserted ms at k x (omega (arith, within)) (omega (arith, before)))
   where
     by_cases : (b : Bool) → suc k ≤ (if b then 0 else front_of ms + 1) → (k ≤ front_of ms → k ≤ front_of (insert ms at x)) → suc k ≤ (if b then 0 else front_of (insert ms at x) + 1)
     by_cases true none more = absurd (omega (arith, none))
@@ -58,40 +58,40 @@ pub front_removed : (ms : List Mark) (at k : ℕ) → k ≤ at → k ≤ front_o
 front_removed ms at zero before upto = omega arith
 front_removed ms zero (suc k) before upto = absurd (omega (arith, before))
 front_removed [] (suc at) (suc k) before upto = absurd (omega (arith, upto))
-front_removed (m ∷ ms) (suc at) (suc k) before upto = by_cases (is_open m) upto (front_removed ms at k (omega (arith, before)))
+front_removed (m ∷ ms) (suc at) (suc k) before upto = by_cases (is_open_run m) upto (front_removed ms at k (omega (arith, before)))
   where
     by_cases : (b : Bool) → suc k ≤ (if b then 0 else front_of ms + 1) → (k ≤ front_of ms → k ≤ front_of (remove ms at)) → suc k ≤ (if b then 0 else front_of (remove ms at) + 1)
     by_cases true none more = absurd (omega (arith, none))
     by_cases false some more = let rest = more (omega (arith, some)) in omega (arith, rest)
 
 -- a run ends
-pub front_settled : (ms : List Mark) (at k : ℕ) (new : Mark) → is_open new ≡ false → k ≤ front_of ms → k ≤ front_of (slice_set ms at new)
+pub front_settled : (ms : List Mark) (at k : ℕ) (new : Mark) → is_open_run new ≡ false → k ≤ front_of ms → k ≤ front_of (slice_set ms at new)
 front_settled [] at k new closed upto = upto
-front_settled (m ∷ ms) zero k new closed upto = by_cases (is_open m) upto
+front_settled (m ∷ ms) zero k new closed upto = by_cases (is_open_run m) upto
   where
-    by_cases : (b : Bool) → k ≤ (if b then 0 else front_of ms + 1) → k ≤ (if is_open new then 0 else front_of ms + 1)
+    by_cases : (b : Bool) → k ≤ (if b then 0 else front_of ms + 1) → k ≤ (if is_open_run new then 0 else front_of ms + 1)
     by_cases true none = rw closed (omega (arith, none))
     by_cases false some = rw closed some
 front_settled (m ∷ ms) (suc at) zero new closed upto = omega arith
-front_settled (m ∷ ms) (suc at) (suc k) new closed upto = by_cases (is_open m) upto (front_settled ms at k new closed)
+front_settled (m ∷ ms) (suc at) (suc k) new closed upto = by_cases (is_open_run m) upto (front_settled ms at k new closed)
   where
     by_cases : (b : Bool) → suc k ≤ (if b then 0 else front_of ms + 1) → (k ≤ front_of ms → k ≤ front_of (slice_set ms at new)) → suc k ≤ (if b then 0 else front_of (slice_set ms at new) + 1)
     by_cases true none more = absurd (omega (arith, none))
     by_cases false some more = let rest = more (omega (arith, some)) in omega (arith, rest)
 
 -- a change that ends no run
-pub front_stays : (ms : List Mark) (at : ℕ) (new d : Mark) → at < length ms → is_open new ≡ is_open (get_or ms at d) → front_of (slice_set ms at new) ≡ front_of ms
+pub front_stays : (ms : List Mark) (at : ℕ) (new d : Mark) → at < length ms → is_open_run new ≡ is_open_run (get_or ms at d) → front_of (slice_set ms at new) ≡ front_of ms
 front_stays [] at new d within same = refl
 front_stays (m ∷ ms) zero new d within same = ap (λ b. if b then 0 else front_of ms + 1) same
-front_stays (m ∷ ms) (suc at) new d within same = ap (λ k. if is_open m then 0 else k + 1) (front_stays ms at new d (omega (arith, within)) same)
+front_stays (m ∷ ms) (suc at) new d within same = ap (λ k. if is_open_run m then 0 else k + 1) (front_stays ms at new d (omega (arith, within)) same)
 
 -- a mark of the same item, of which the same is told
-pub stays_open : (new old : Mark) → new.item ≡ old.item → new.ended ≡ old.ended → is_open new ≡ is_open old
+pub stays_open : (new old : Mark) → new.item ≡ old.item → new.ended ≡ old.ended → is_open_run new ≡ is_open_run old
 stays_open new old item ended = λ i. of_run (λ r. not (ended i)) (item i)
 
 -- one that has ended
-pub ended_closed : (new old : Mark) → new ≡ record old { ended = true } → is_open new ≡ false
-ended_closed new old is = ap is_open is ∙ closed old.item
+pub ended_closed : (new old : Mark) → new ≡ record old { ended = true } → is_open_run new ≡ false
+ended_closed new old is = ap is_open_run is ∙ closed old.item
   where
     closed : (i : Item) → of_run (λ r. false) i ≡ false
     closed (Ran r) = refl

@@ -2,7 +2,7 @@
 use Rattle.command_rules.proofs.Meeting.{both_touch}
 use Rattle.command_rules.proofs.Sharing.{found}
 use Rattle.command_rules.specs.Apart.{are_tied, meet, share_device}
-use Rattle.command_rules.specs.Rosters.{Run, commands_of, followed_by, follows, is_on, is_run, run_at, shares, touches}
+use Rattle.command_rules.specs.Rosters.{Run, commands_of, followed_by, follows, is_on, is_run, run_in_roster, shares, touches}
 use Rattle.home_types.proofs.DeviceBits.{contains_insert}
 use Rattle.home_types.proofs.Snocs.{snoc_get}
 use Rattle.home_types.specs.DeviceSets.{Devices, Meet}
@@ -59,31 +59,31 @@ of_these : (p : ℕ → Bool) (xs : List ℕ) → list_any p xs ≡ list_any (λ
 of_these p [] = refl
 of_these p (x ∷ xs) = ap (λ b. p x || b) (of_these p xs)
 
-commands_at : (rs : List Run) (r : ℕ) (kept : KeptRun) → run_at rs r ≡ Some (kept_run kept) → commands_of rs r ≡ map on_device (set.items kept.devices)
+commands_at : (rs : List Run) (r : ℕ) (kept : KeptRun) → run_in_roster rs r ≡ Some (kept_run kept) → commands_of rs r ≡ map on_device (set.items kept.devices)
 commands_at rs r kept told = ap (λ (o : Option Run). unwrap_or (option_map (λ (run : Run). run.commands) o) []) told
 
-no_commands : (rs : List Run) (r : ℕ) → run_at rs r ≡ None → commands_of rs r ≡ []
+no_commands : (rs : List Run) (r : ℕ) → run_in_roster rs r ≡ None → commands_of rs r ≡ []
 no_commands rs r told = ap (λ (o : Option Run). unwrap_or (option_map (λ (run : Run). run.commands) o) []) told
 
-pub touches_kept : (rs : List Run) (r d : ℕ) (kept : KeptRun) → run_at rs r ≡ Some (kept_run kept) → set.contains kept.devices d ≡ touches rs r d
+pub touches_kept : (rs : List Run) (r d : ℕ) (kept : KeptRun) → run_in_roster rs r ≡ Some (kept_run kept) → set.contains kept.devices d ≡ touches rs r d
 touches_kept rs r d kept told = listed kept.devices d ∙ on_these d (set.items kept.devices) ∙ ap (list_any (is_on d)) (sym (commands_at rs r kept told))
 
 -- .. of which some are among these
-pub touches_some : (rs : List Run) (r : ℕ) (kept : KeptRun) (devices : Devices) (result : Bool) → run_at rs r ≡ Some (kept_run kept) → (IsTrue result ↔ Meet kept.devices devices) → result ≡ list_any (touches rs r) (set.items devices)
+pub touches_some : (rs : List Run) (r : ℕ) (kept : KeptRun) (devices : Devices) (result : Bool) → run_in_roster rs r ≡ Some (kept_run kept) → (IsTrue result ↔ Meet kept.devices devices) → result ≡ list_any (touches rs r) (set.items devices)
 touches_some rs r kept devices result told met = meets_told devices kept.devices result met ∙ (λ i. list_any (λ d. touches_kept rs r d kept told i) (set.items devices))
 
-pub touches_none : (rs : List Run) (r : ℕ) (devices : Devices) → run_at rs r ≡ None → false ≡ list_any (touches rs r) (set.items devices)
+pub touches_none : (rs : List Run) (r : ℕ) (devices : Devices) → run_in_roster rs r ≡ None → false ≡ list_any (touches rs r) (set.items devices)
 touches_none rs r devices told = none (set.items devices)
   where
     none : (xs : List ℕ) → false ≡ list_any (touches rs r) xs
     none [] = refl
     none (x ∷ xs) = none xs ∙ ap (λ cs. list_any (is_on x) cs || list_any (touches rs r) xs) (sym (no_commands rs r told))
 
-pub shares_kept : (rs : List Run) (a b : ℕ) (kept : KeptRun) → run_at rs a ≡ Some (kept_run kept) → list_any (touches rs b) (set.items kept.devices) ≡ shares rs a b
+pub shares_kept : (rs : List Run) (a b : ℕ) (kept : KeptRun) → run_in_roster rs a ≡ Some (kept_run kept) → list_any (touches rs b) (set.items kept.devices) ≡ shares rs a b
 shares_kept rs a b kept told = of_these (touches rs b) (set.items kept.devices) ∙ ap (list_any (λ (c : Command). touches rs b c.device.0)) (sym (commands_at rs a kept told))
 
 -- a run by its number
-pub run_kept : (ks : List KeptRun) (r : ℕ) → r ≢ 0 → option_map kept_run (slice_get ks (r - 1)) ≡ run_at (map kept_run ks) r
+pub run_kept : (ks : List KeptRun) (r : ℕ) → r ≢ 0 → option_map kept_run (slice_get ks (r - 1)) ≡ run_in_roster (map kept_run ks) r
 run_kept ks zero some = absurd (some refl)
 run_kept ks (suc i) some = let same : suc i - 1 ≡ i = omega arith in ap (λ k. option_map kept_run (slice_get ks k)) same ∙ sym (slice_get-map kept_run ks i)
 

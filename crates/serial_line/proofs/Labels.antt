@@ -1,6 +1,6 @@
 -- The labels of a line: that they rise and leave room after an item comes or goes, and after they are given anew.
 use Rattle.home_types.specs.declared.items.Item.{Item}
-use Rattle.serial_line.specs.Labels.{AreLabels, IsBetween, IsUnder, LabelsAreInOrder, LastLeavesRoom, LeavesRoom, Rises, has_free, label_before, label_of}
+use Rattle.serial_line.specs.Labels.{AreLabels, IsBetween, IsUnder, LabelsAreInOrder, LabelsRise, LastLeavesRoom, LeavesRoom, has_free, label_before, label_of}
 use Rattle.serial_line.specs.Marks.{Marked, place_of}
 use Rattle.std.proofs.Common.{ap, arith, refl, subst, sym, ◌∙◌}
 use Rattle.std.proofs.lemmas.Grind.{common_steps}
@@ -19,7 +19,7 @@ before_at left [] k d within = absurd (omega (arith, within))
 before_at left (x ∷ xs) zero d within = before_first x xs
 before_at left (x ∷ xs) (suc k) d within = before_at x xs k d (omega (arith, within))
 
-pub rises_at : (left : ℕ) (xs : List ℕ) (k d : ℕ) → Rises left xs → k < length xs → label_before left k xs < get_or xs k d
+pub rises_at : (left : ℕ) (xs : List ℕ) (k d : ℕ) → LabelsRise left xs → k < length xs → label_before left k xs < get_or xs k d
 rises_at left [] k d rises within = absurd (omega (arith, within))
 rises_at left (x ∷ xs) zero d rises within = rises.0
 rises_at left (x ∷ xs) (suc k) d rises within = rises_at x xs k d rises.1 (omega (arith, within))
@@ -30,12 +30,12 @@ room_at first (x ∷ xs) zero d room within = let here = room.0 in omega (arith,
 room_at first (x ∷ xs) (suc k) d room within = let rest = room_at (first + 1) xs k d room.1 (omega (arith, within)) in omega (arith, rest)
 
 -- each is greater than those before it
-rises_over : (left : ℕ) (xs : List ℕ) (k d : ℕ) → Rises left xs → k < length xs → left < get_or xs k d
+rises_over : (left : ℕ) (xs : List ℕ) (k d : ℕ) → LabelsRise left xs → k < length xs → left < get_or xs k d
 rises_over left [] k d rises within = absurd (omega (arith, within))
 rises_over left (x ∷ xs) zero d rises within = rises.0
 rises_over left (x ∷ xs) (suc k) d rises within = let rest = rises_over x xs k d rises.1 (omega (arith, within)) in let here = rises.0 in omega (arith, rest, here)
 
-pub rises_between : (left : ℕ) (xs : List ℕ) (i j d : ℕ) → Rises left xs → i < j → j < length xs → get_or xs i d < get_or xs j d
+pub rises_between : (left : ℕ) (xs : List ℕ) (i j d : ℕ) → LabelsRise left xs → i < j → j < length xs → get_or xs i d < get_or xs j d
 rises_between left [] i j d rises before within = absurd (omega (arith, within))
 rises_between left (x ∷ xs) i zero d rises before within = absurd (omega (arith, before))
 rises_between left (x ∷ xs) zero (suc j) d rises before within = rises_over x xs j d rises.1 (omega (arith, within))
@@ -43,7 +43,7 @@ rises_between left (x ∷ xs) (suc i) (suc j) d rises before within = rises_betw
 
 -- The first ones
 
-rises_part : (left : ℕ) (xs : List ℕ) (k : ℕ) → Rises left xs → Rises left (take k xs)
+rises_part : (left : ℕ) (xs : List ℕ) (k : ℕ) → LabelsRise left xs → LabelsRise left (take k xs)
 rises_part left xs zero rises = tt
 rises_part left [] (suc k) rises = tt
 rises_part left (x ∷ xs) (suc k) rises = (rises.0, rises_part x xs k rises.1)
@@ -58,7 +58,7 @@ labels_part xs k are = record { rising = rises_part 0 xs k are.rising; room = ro
 
 -- An item comes
 
-rises_inserted : (left : ℕ) (xs : List ℕ) (at x : ℕ) → Rises left xs → label_before left at xs < x → IsUnder x at xs → Rises left (insert xs at x)
+rises_inserted : (left : ℕ) (xs : List ℕ) (at x : ℕ) → LabelsRise left xs → label_before left at xs < x → IsUnder x at xs → LabelsRise left (insert xs at x)
 rises_inserted left [] zero x rises above under = (above, tt)
 rises_inserted left [] (suc at) x rises above under = (above, tt)
 rises_inserted left (y ∷ ys) zero x rises above under = (above, (under, rises.1))
@@ -111,17 +111,17 @@ under_end (x ∷ xs) (suc at) label past = under_end xs at label (omega (arith, 
 
 -- An item goes
 
-rises_smaller : (low left : ℕ) (xs : List ℕ) → low < left → Rises left xs → Rises low xs
+rises_smaller : (low left : ℕ) (xs : List ℕ) → low < left → LabelsRise left xs → LabelsRise low xs
 rises_smaller low left [] small rises = tt
 rises_smaller low left (x ∷ xs) small rises = let here = rises.0 in (omega (arith, small, here), rises.1)
 
-rises_removed : (left : ℕ) (xs : List ℕ) (k : ℕ) → Rises left xs → Rises left (remove xs k)
+rises_removed : (left : ℕ) (xs : List ℕ) (k : ℕ) → LabelsRise left xs → LabelsRise left (remove xs k)
 rises_removed left [] zero rises = tt
 rises_removed left [] (suc k) rises = tt
 rises_removed left (x ∷ xs) zero rises = rises_smaller left x xs rises.0 rises.1
 rises_removed left (x ∷ xs) (suc k) rises = (rises.0, rises_removed x xs k rises.1)
 
-room_by_last : (left first : ℕ) (xs : List ℕ) → Rises left xs → LastLeavesRoom first xs → LeavesRoom first xs
+room_by_last : (left first : ℕ) (xs : List ℕ) → LabelsRise left xs → LastLeavesRoom first xs → LeavesRoom first xs
 room_by_last left first [] rises last = tt
 room_by_last left first (x ∷ []) rises last = (last, tt)
 room_by_last left first (x ∷ y ∷ ys) rises last =
@@ -146,7 +146,7 @@ last_leaves left first (x ∷ y ∷ ys) some low = last_leaves x (first + 1) (y 
 
 -- They are given anew
 
-rises_told : (left : ℕ) (xs : List ℕ) (k x : ℕ) → k < length xs → Rises left (take k xs) → label_before left k xs < x → Rises left (take (suc k) (slice_set xs k x))
+rises_told : (left : ℕ) (xs : List ℕ) (k x : ℕ) → k < length xs → LabelsRise left (take k xs) → label_before left k xs < x → LabelsRise left (take (suc k) (slice_set xs k x))
 rises_told left [] k x within rises above = absurd (omega (arith, within))
 rises_told left (y ∷ ys) zero x within rises above = (above, tt)
 rises_told left (y ∷ ys) (suc k) x within rises above = (rises.0, rises_told y ys k x (omega (arith, within)) rises.1 above)
@@ -211,7 +211,7 @@ pub label_told : (x : Item) (line : Marked) (i a : ℕ) → place_of x line.mark
 label_told x line i a place told = sym (ap (option_and_then (slice_get line.labels)) place) ∙ told
 
 -- where the labels rise, the earlier one has the smaller label
-pub in_order : (line : Marked) → Rises 0 line.labels → LabelsAreInOrder line
+pub in_order : (line : Marked) → LabelsRise 0 line.labels → LabelsAreInOrder line
 in_order line rises x y i j a b px py lx ly = by_cases (nat_lt i j) (nat_lt j i) refl refl
   where
     fx : (i < length line.labels) × (get_or line.labels i 0 ≡ a)

@@ -4,7 +4,7 @@ use Rattle.command_rules.specs.Items.{is_ran}
 use Rattle.home_types.specs.declared.items.Item.TheVariants.{Back, Failed, Ran}
 use Rattle.home_types.specs.declared.items.Item.{Item}
 use Rattle.serial_line.proofs.Searches.{any_at, position_none, position_told, position_untold}
-use Rattle.serial_line.specs.Marks.{Mark, all_differ, is_failure, is_item, is_restart, items_of, place_of, stands, untouched}
+use Rattle.serial_line.specs.Marks.{Mark, all_differ, is_failure, is_item, is_restart_of, items_of, place_of, stands, untouched}
 use Rattle.command_rules.specs.Searches.{last_place}
 use Rattle.std.proofs.Common.{ap, ap₂, arith, cond, refl, sym, ◌∙◌}
 use Rattle.std.proofs.lemmas.Grind.{common_steps}
@@ -24,7 +24,7 @@ like (Failed d k) (Failed f n) z e = let device : d.0 ≡ f.0 = grind (arith, co
 like (Failed d k) (Back f n) z e = absurd (cc)
 like (Back d k) (Ran r) z e = absurd (cc)
 like (Back d k) (Failed f n) z e = absurd (cc)
-like (Back d k) (Back f n) z e = let device : d.0 ≡ f.0 = grind (arith, common_steps) in let number : k ≡ n = grind (arith, common_steps) in ap₂ (λ a b. is_restart a b z) device number
+like (Back d k) (Back f n) z e = let device : d.0 ≡ f.0 = grind (arith, common_steps) in let number : k ≡ n = grind (arith, common_steps) in ap₂ (λ a b. is_restart_of a b z) device number
 
 pub item_back : (x y : Item) → is_item x y ≡ is_item y x
 item_back (Ran r) (Ran q) = grind (arith, common_steps)

@@ -8,7 +8,7 @@ use Rattle.serial_line.proofs.Exchanged.{any_exchanged, differ_exchanged, get_el
 use Rattle.serial_line.proofs.Once.{place_is, place_told, untold_stands}
 use Rattle.serial_line.proofs.Searches.{any_at}
 use Rattle.serial_line.specs.Marks.{Mark, all_differ, items_of, stands, untouched}
-use Rattle.serial_line.specs.RunPlaces.{ArePlaces, ArePlacesBefore, is_before, run_place, with_place}
+use Rattle.serial_line.specs.RunPlaces.{ArePlacesBefore, AreRunPlaces, is_before_place, run_place, with_place}
 use Rattle.std.proofs.Common.{ap, arith, refl, subst, sym, ◌∙◌}
 use Rattle.std.proofs.lemmas.Grind.{common_steps, get_or-set_at}
 use Rattle.std.proofs.lemmas.List.{get_or-map, get_or-set_other, length-map}
@@ -35,7 +35,7 @@ none_from r ms ns d moved none = by_cases (run_place r ms) refl
 -- what is kept is read
 
 -- no item: no places
-pub no_places : (n : ℕ) → ArePlaces [] (replicate n None)
+pub no_places : (n : ℕ) → AreRunPlaces [] (replicate n None)
 no_places n r within = none_at n r
   where
     nothing : Option ℕ
@@ -83,14 +83,14 @@ told_one ms k i d places differ inside is before r within here = by_cases (is_ra
     by_cases true e = placed_here r i (Some k) places e kept ∙ sym (place_is (the_run r) ms k d differ inside (ap (is_ran r) (sym is) ∙ e))
     by_cases false e = placed_other r i (Some k) places e ∙ before r kept (earlier (run_place r ms) refl here)
       where
-        earlier : (o : Option ℕ) → run_place r ms ≡ o → is_before (k + 1) o ≡ true → is_before k o ≡ true
+        earlier : (o : Option ℕ) → run_place r ms ≡ o → is_before_place (k + 1) o ≡ true → is_before_place k o ≡ true
         earlier None f upto = refl
         earlier (Some j) f upto =
             let apart : j ≢ k = λ same. cc (sym (ap (is_ran r) is ∙ ap (λ n. is_ran r (get_or ms n d).item) (sym same) ∙ (place_told (the_run r) ms j d f).1) ∙ e) in
             grind (arith, common_steps)
 
 -- an item comes: the places before it are right
-pub before_inserted : (ms : List Mark) (at : ℕ) (x : Mark) (places : List (Option ℕ)) → all_differ (items_of ms) ≡ true → at ≤ length ms → ArePlaces ms places → ArePlacesBefore at (insert ms at x) places
+pub before_inserted : (ms : List Mark) (at : ℕ) (x : Mark) (places : List (Option ℕ)) → all_differ (items_of ms) ≡ true → at ≤ length ms → AreRunPlaces ms places → ArePlacesBefore at (insert ms at x) places
 before_inserted ms at x places differ upto are r within here = are r within ∙ by_cases (run_place r (insert ms at x)) refl here
   where
     moved : (k : ℕ) → k < length ms → is_ran r (get_or ms k x).item ≡ true → stands (the_run r) (insert ms at x) ≡ true
@@ -103,7 +103,7 @@ before_inserted ms at x places differ upto are r within here = are r within ∙ 
           stands_at r (insert ms at x) (k + 1) x (rw (length-insert ms at x upto) (omega (arith, inside))) (ap (λ m. is_ran r m.item) (get_or-insert_above ms at x x k above upto) ∙ is))
     ] refl
 
-    by_cases : (o : Option ℕ) → run_place r (insert ms at x) ≡ o → is_before at o ≡ true → run_place r ms ≡ run_place r (insert ms at x)
+    by_cases : (o : Option ℕ) → run_place r (insert ms at x) ≡ o → is_before_place at o ≡ true → run_place r ms ≡ run_place r (insert ms at x)
     by_cases None e first = none_from r ms (insert ms at x) x moved e ∙ sym e
     by_cases (Some j) e first =
         let found = place_told (the_run r) (insert ms at x) j x e in
@@ -117,7 +117,7 @@ other_run r q (Failed d k) apart is = refl
 other_run r q (Back d k) apart is = refl
 
 -- a run goes, and has no place any more: those before where it stood are right
-pub before_removed : (ms : List Mark) (q : RunNo) (k : ℕ) (places : List (Option ℕ)) → all_differ (items_of ms) ≡ true → run_place q.0 ms ≡ Some k → all_differ (items_of (remove ms k)) ≡ true → ArePlaces ms places → ArePlacesBefore k (remove ms k) (with_place (Ran q) None places)
+pub before_removed : (ms : List Mark) (q : RunNo) (k : ℕ) (places : List (Option ℕ)) → all_differ (items_of ms) ≡ true → run_place q.0 ms ≡ Some k → all_differ (items_of (remove ms k)) ≡ true → AreRunPlaces ms places → ArePlacesBefore k (remove ms k) (with_place (Ran q) None places)
 before_removed ms q k places differ told rest are r within here = by_cases (is_ran r (Ran q)) refl
   where
     d : Mark
@@ -138,7 +138,7 @@ before_removed ms q k places differ told rest are r within here = by_cases (is_r
         same : r ≡ q.0
         same = grind (arith, common_steps)
 
-        gone : (o : Option ℕ) → run_place r (remove ms k) ≡ o → is_before k o ≡ true → o ≡ None
+        gone : (o : Option ℕ) → run_place r (remove ms k) ≡ o → is_before_place k o ≡ true → o ≡ None
         gone None f first = refl
         gone (Some j) f first =
             let found = place_told (the_run r) (remove ms k) j d f in
@@ -163,7 +163,7 @@ before_removed ms q k places differ told rest are r within here = by_cases (is_r
               stands_at r (remove ms k) (j - 1) d (omega (arith, count, within, next)) (ap (λ m. is_ran r m.item) (get_or-remove_above ms k d (j - 1) above inside) ∙ ap (λ n. is_ran r (get_or ms n d).item) next ∙ is))
         ] refl
 
-        stays : (o : Option ℕ) → run_place r (remove ms k) ≡ o → is_before k o ≡ true → run_place r ms ≡ run_place r (remove ms k)
+        stays : (o : Option ℕ) → run_place r (remove ms k) ≡ o → is_before_place k o ≡ true → run_place r ms ≡ run_place r (remove ms k)
         stays None f first = none_from r ms (remove ms k) d moved f ∙ sym f
         stays (Some j) f first =
             let found = place_told (the_run r) (remove ms k) j d f in
@@ -171,12 +171,12 @@ before_removed ms q k places differ told rest are r within here = by_cases (is_r
             place_is (the_run r) ms j d differ (omega (arith, below, inside)) (ap (λ m. is_ran r m.item) (sym (get_or-remove_below ms k d j below inside)) ∙ found.1) ∙ sym f
 
 -- the items stay: so do the places
-pub places_stay : (ms ns : List Mark) (places : List (Option ℕ)) → items_of ns ≡ items_of ms → ArePlaces ms places → ArePlaces ns places
+pub places_stay : (ms ns : List Mark) (places : List (Option ℕ)) → items_of ns ≡ items_of ms → AreRunPlaces ms places → AreRunPlaces ns places
 places_stay ms ns places same are r within = are r within ∙ ap (λ is. position (is_ran r) is) (sym same)
 
 -- two neighbours are exchanged: both are told their places
-pub places_exchanged : (ms : List Mark) (at : ℕ) (i j : Item) (d e : Mark) (places : List (Option ℕ)) → all_differ (items_of ms) ≡ true → suc at < length ms → i ≡ (get_or (exchanged at ms) at d).item → j ≡ (get_or (exchanged at ms) (suc at) e).item → ArePlaces ms places
-    → ArePlaces (exchanged at ms) (with_place j (Some (suc at)) (with_place i (Some at) places))
+pub places_exchanged : (ms : List Mark) (at : ℕ) (i j : Item) (d e : Mark) (places : List (Option ℕ)) → all_differ (items_of ms) ≡ true → suc at < length ms → i ≡ (get_or (exchanged at ms) at d).item → j ≡ (get_or (exchanged at ms) (suc at) e).item → AreRunPlaces ms places
+    → AreRunPlaces (exchanged at ms) (with_place j (Some (suc at)) (with_place i (Some at) places))
 places_exchanged ms at i j d e places differ inside first second' are r within = by_second (is_ran r j) refl
   where
     default : (xs : List Mark) (k : ℕ) → k < length xs → get_or xs k e ≡ get_or xs k d

@@ -4,7 +4,7 @@ use Rattle.home_types.specs.declared.items.Item.TheVariants.{Back, Failed, Ran}
 use Rattle.home_types.specs.declared.items.Item.{Item}
 use Rattle.home_types.specs.declared.numbers.RunNo.{RunNo}
 use Rattle.serial_line.proofs.Once.{place_told}
-use Rattle.serial_line.specs.Marks.{Mark, front_of, is_item, is_open, place_of, settling, stands, touching, untouched, with_item, without}
+use Rattle.serial_line.specs.Marks.{Mark, front_of, is_item, is_open_run, marks_without, place_of, settling, stands, touching, untouched, with_item}
 use Rattle.serial_line.specs.Ties.{Each, EndsAs}
 use Rattle.std.proofs.Common.{ap, arith, cond, refl, sym, ◌∙◌}
 use Rattle.std.proofs.lemmas.Grind.{common_steps}
@@ -40,9 +40,9 @@ not_open r (Back d k) b none closed = refl
 -- a run that has not ended is none of them
 pub live_unsealed : (ended : ℕ → Bool) (r : RunNo) (ms : List Mark) → Each (EndsAs ended) ms → ended r.0 ≡ false → stands (Ran r) (take (front_of ms) ms) ≡ false
 live_unsealed ended r [] ends live = refl
-live_unsealed ended r (m ∷ ms) ends live = by_open (is_open m) refl (live_unsealed ended r ms ends.1 live)
+live_unsealed ended r (m ∷ ms) ends live = by_open (is_open_run m) refl (live_unsealed ended r ms ends.1 live)
   where
-    other : is_open m ≡ false → (b : Bool) → is_ran r.0 m.item ≡ b → b ≡ false
+    other : is_open_run m ≡ false → (b : Bool) → is_ran r.0 m.item ≡ b → b ≡ false
     other closed true e = absurd (cc (sym e ∙ not_open r.0 m.item m.ended (ends.0 ∙ own m.item e) closed))
       where
         own : (i : Item) → is_ran r.0 i ≡ true → of_run ended i ≡ false
@@ -51,18 +51,18 @@ live_unsealed ended r (m ∷ ms) ends live = by_open (is_open m) refl (live_unse
         own (Back d k) is = absurd (cc)
     other closed false e = refl
 
-    by_open : (b : Bool) → is_open m ≡ b → stands (Ran r) (take (front_of ms) ms) ≡ false → stands (Ran r) (take (if b then 0 else front_of ms + 1) (m ∷ ms)) ≡ false
+    by_open : (b : Bool) → is_open_run m ≡ b → stands (Ran r) (take (front_of ms) ms) ≡ false → stands (Ran r) (take (if b then 0 else front_of ms + 1) (m ∷ ms)) ≡ false
     by_open true e rest = refl
     by_open false e rest =
         let next : suc (front_of ms) ≡ front_of ms + 1 = omega arith in
         ap (λ n. stands (Ran r) (take n (m ∷ ms))) (sym next) ∙ (λ i. other e (is_ran r.0 m.item) refl i || rest i)
 
 -- a run that leaves, and is none of them, leaves them
-pub front_without : (r : RunNo) (ms : List Mark) → stands (Ran r) (take (front_of ms) ms) ≡ false → front_of ms ≤ front_of (without r.0 ms)
+pub front_without : (r : RunNo) (ms : List Mark) → stands (Ran r) (take (front_of ms) ms) ≡ false → front_of ms ≤ front_of (marks_without r.0 ms)
 front_without r [] none = omega arith
-front_without r (m ∷ ms) none = by_open (is_open m) refl none (front_without r ms)
+front_without r (m ∷ ms) none = by_open (is_open_run m) refl none (front_without r ms)
   where
-    by_open : (b : Bool) → is_open m ≡ b → stands (Ran r) (take (if b then 0 else front_of ms + 1) (m ∷ ms)) ≡ false → (stands (Ran r) (take (front_of ms) ms) ≡ false → front_of ms ≤ front_of (without r.0 ms)) → (if b then 0 else front_of ms + 1) ≤ front_of (without r.0 (m ∷ ms))
+    by_open : (b : Bool) → is_open_run m ≡ b → stands (Ran r) (take (if b then 0 else front_of ms + 1) (m ∷ ms)) ≡ false → (stands (Ran r) (take (front_of ms) ms) ≡ false → front_of ms ≤ front_of (marks_without r.0 ms)) → (if b then 0 else front_of ms + 1) ≤ front_of (marks_without r.0 (m ∷ ms))
     by_open true e none rest = omega arith
     by_open false e none rest = goes (is_ran r.0 m.item) refl
       where
@@ -72,7 +72,7 @@ front_without r (m ∷ ms) none = by_open (is_open m) refl none (front_without r
         parts : (is_ran r.0 m.item || stands (Ran r) (take (front_of ms) ms)) ≡ false
         parts = ap (λ n. stands (Ran r) (take n (m ∷ ms))) next ∙ none
 
-        goes : (b : Bool) → is_ran r.0 m.item ≡ b → front_of ms + 1 ≤ front_of (cond (not b) (m ∷ without r.0 ms) (without r.0 ms))
+        goes : (b : Bool) → is_ran r.0 m.item ≡ b → front_of ms + 1 ≤ front_of (cond (not b) (m ∷ marks_without r.0 ms) (marks_without r.0 ms))
         goes true f = absurd (grind (arith, common_steps))
         goes false f =
             let more = rest (grind (arith, common_steps)) in
@@ -81,14 +81,14 @@ front_without r (m ∷ ms) none = by_open (is_open m) refl none (front_without r
 -- a run that ends only adds to them
 pub front_settling : (r : ℕ) (ms : List Mark) → front_of ms ≤ front_of (settling r ms)
 front_settling r [] = omega arith
-front_settling r (m ∷ ms) = by_run (is_ran r m.item) (is_open m) refl (front_settling r ms)
+front_settling r (m ∷ ms) = by_run (is_ran r m.item) (is_open_run m) refl (front_settling r ms)
   where
     closed : (i : Item) → of_run (λ q. false) i ≡ false
     closed (Ran q) = refl
     closed (Failed d k) = refl
     closed (Back d k) = refl
 
-    by_run : (b o : Bool) → is_open m ≡ o → front_of ms ≤ front_of (settling r ms) → (if o then 0 else front_of ms + 1) ≤ front_of ((if b then record m { ended = true } else m) ∷ settling r ms)
+    by_run : (b o : Bool) → is_open_run m ≡ o → front_of ms ≤ front_of (settling r ms) → (if o then 0 else front_of ms + 1) ≤ front_of ((if b then record m { ended = true } else m) ∷ settling r ms)
     by_run b true e rest = omega arith
     by_run true false e rest = rw (closed m.item) (omega (arith, rest))
     by_run false false e rest = rw e (omega (arith, rest))
@@ -98,20 +98,20 @@ pub front_touching : (r d : ℕ) (ms : List Mark) → front_of (touching r d ms)
 front_touching r d [] = refl
 front_touching r d (m ∷ ms) = by_run (is_ran r m.item) (front_touching r d ms)
   where
-    by_run : (b : Bool) → front_of (touching r d ms) ≡ front_of ms → front_of ((if b then record m { touched = set.insert m.touched d } else m) ∷ touching r d ms) ≡ (if is_open m then 0 else front_of ms + 1)
-    by_run true rest = ap (λ k. if is_open m then 0 else k + 1) rest
-    by_run false rest = ap (λ k. if is_open m then 0 else k + 1) rest
+    by_run : (b : Bool) → front_of (touching r d ms) ≡ front_of ms → front_of ((if b then record m { touched = set.insert m.touched d } else m) ∷ touching r d ms) ≡ (if is_open_run m then 0 else front_of ms + 1)
+    by_run true rest = ap (λ k. if is_open_run m then 0 else k + 1) rest
+    by_run false rest = ap (λ k. if is_open_run m then 0 else k + 1) rest
 
 -- a run that comes behind them leaves them
 pub front_placed : (r : RunNo) (ms : List Mark) (at : ℕ) → front_of ms ≤ at → front_of (with_item at (Ran r) ms) ≡ front_of ms
 front_placed r [] zero behind = refl
 front_placed r [] (suc at) behind = refl
-front_placed r (m ∷ ms) zero behind = by_open (is_open m) behind
+front_placed r (m ∷ ms) zero behind = by_open (is_open_run m) behind
   where
     by_open : (b : Bool) → (if b then 0 else front_of ms + 1) ≤ 0 → 0 ≡ (if b then 0 else front_of ms + 1)
     by_open true low = refl
     by_open false low = absurd (omega (arith, low))
-front_placed r (m ∷ ms) (suc at) behind = by_open (is_open m) behind (front_placed r ms at)
+front_placed r (m ∷ ms) (suc at) behind = by_open (is_open_run m) behind (front_placed r ms at)
   where
     by_open : (b : Bool) → (if b then 0 else front_of ms + 1) ≤ suc at → (front_of ms ≤ at → front_of (with_item at (Ran r) ms) ≡ front_of ms) → (if b then 0 else front_of (with_item at (Ran r) ms) + 1) ≡ (if b then 0 else front_of ms + 1)
     by_open true low rest = refl

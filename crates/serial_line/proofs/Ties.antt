@@ -7,7 +7,7 @@ use Rattle.home_types.specs.declared.items.Item.{Item}
 use Rattle.home_types.specs.declared.numbers.RunNo.{RunNo}
 use Rattle.home_types.proofs.DeviceBits.{contains_insert}
 use Rattle.serial_line.proofs.Searches.{up_to_first}
-use Rattle.serial_line.specs.Marks.{Mark, front_of, has_touched, is_item, items_of, settling, touching, untouched, with_end, with_item, with_touch, without}
+use Rattle.serial_line.specs.Marks.{Mark, front_of, is_item, items_of, mark_has_touched, marks_without, settling, touching, untouched, with_end, with_item, with_touch}
 use Rattle.command_rules.specs.Searches.{last_place}
 use Rattle.serial_line.specs.Ties.{Each, EndsAs, IsLineOf, TouchesAs}
 use Rattle.std.proofs.Common.{ap, arith, cond, refl, sym, ◌∙◌}
@@ -67,10 +67,10 @@ items_filtered p (m ∷ marks) = by_cases (p m.item) (items_filtered p marks)
     by_cases false e = e
 
 -- the items are those of before without the run
-pub items_removed : (r : ℕ) (marks : List Mark) → items_of (without r marks) ≡ filter (λ i. not (is_ran r i)) (items_of marks)
+pub items_removed : (r : ℕ) (marks : List Mark) → items_of (marks_without r marks) ≡ filter (λ i. not (is_ran r i)) (items_of marks)
 items_removed r marks = items_filtered (λ i. not (is_ran r i)) marks
 
-pub line_removed : {line : List Item} {touched : Item → ℕ → Bool} {ended : ℕ → Bool} {marks : List Mark} (r : ℕ) → IsLineOf line touched ended marks → IsLineOf (filter (λ i. not (is_ran r i)) line) touched ended (without r marks)
+pub line_removed : {line : List Item} {touched : Item → ℕ → Bool} {ended : ℕ → Bool} {marks : List Mark} (r : ℕ) → IsLineOf line touched ended marks → IsLineOf (filter (λ i. not (is_ran r i)) line) touched ended (marks_without r marks)
 line_removed {marks} r old = record {
   items = items_removed r marks ∙ ap (filter (λ i. not (is_ran r i))) old.items;
   touches = each_filtered _ (λ i. not (is_ran r i)) marks old.touches;
@@ -217,13 +217,13 @@ at_run touched r d (Failed e k) = refl
 at_run touched r d (Back e k) = refl
 
 -- a run of the line has touched a device where the test tells it
-pub touched_in_line : {line : List Item} {touched : Item → ℕ → Bool} {ended : ℕ → Bool} {marks : List Mark} (r : RunNo) (d : ℕ) → IsLineOf line touched ended marks → list_any (is_ran r.0) line ≡ true → has_touched r.0 d marks ≡ touched (Ran r) d
+pub touched_in_line : {line : List Item} {touched : Item → ℕ → Bool} {ended : ℕ → Bool} {marks : List Mark} (r : RunNo) (d : ℕ) → IsLineOf line touched ended marks → list_any (is_ran r.0) line ≡ true → mark_has_touched r.0 d marks ≡ touched (Ran r) d
 touched_in_line {line} {touched} {ended} {marks} r d is there = any marks is.touches ∙ ap (λ b. b && touched (Ran r) d) (ap (list_any (is_ran r.0)) is.items ∙ there)
   where
     one : (m : Mark) → TouchesAs touched m → (is_ran r.0 m.item && set.contains m.touched d) ≡ (is_ran r.0 m.item && touched (Ran r) d)
     one m fits = ap (λ b. is_ran r.0 m.item && b) (fits d) ∙ at_run touched r d m.item
 
-    any : (ms : List Mark) → Each (TouchesAs touched) ms → has_touched r.0 d ms ≡ (list_any (is_ran r.0) (items_of ms) && touched (Ran r) d)
+    any : (ms : List Mark) → Each (TouchesAs touched) ms → mark_has_touched r.0 d ms ≡ (list_any (is_ran r.0) (items_of ms) && touched (Ran r) d)
     any [] all = refl
     any (m ∷ ms) all = rw (one m all.0, any ms all.1) (grind (arith, common_steps))
 

@@ -6,9 +6,9 @@ use Rattle.std.specs.Option.{option_and_then}
 use Rattle.std.specs.Prelude.{Bool, List, Option, Some, [], nat_lt, slice_get, suc, take, true, zero, ℕ, ⊤, ◌+◌, ◌<◌, ◌^◌, ◌∷◌, ◌≡◌, ◌≤◌}
 
 -- each is greater than the one before it, and the first one than this
-abbrev pub Rises : ℕ → List ℕ → Type 0
-Rises left [] = ⊤
-Rises left (x ∷ xs) = (left < x) × Rises x xs
+abbrev pub LabelsRise : ℕ → List ℕ → Type 0
+LabelsRise left [] = ⊤
+LabelsRise left (x ∷ xs) = (left < x) × LabelsRise x xs
 
 -- each, the first one at this place, leaves room in 64 bits for 2^32 more items behind the first
 abbrev pub LeavesRoom : LinePlace → List ℕ → Type 0
@@ -17,7 +17,7 @@ LeavesRoom at (x ∷ xs) = (x + 2 ^ 32 ≤ 2 ^ 64 + at) × LeavesRoom (at + 1) x
 
 -- what is kept of the labels of a line
 pub record AreLabels (labels : List ℕ) : Type 0 where
-  pub rising : Rises 0 labels
+  pub rising : LabelsRise 0 labels
   pub room : LeavesRoom 0 labels
 
 -- the label before this place, where this one stands before the first

@@ -45,16 +45,16 @@ is_failure d k (Failed e n) = (e.0 == d) && (n == k)
 is_failure d k (Back e n) = false
 
 -- the item is the device's restart of this number
-abbrev pub is_restart : DeviceId → ℕ → Item → Bool
-is_restart d k (Ran q) = false
-is_restart d k (Failed e n) = false
-is_restart d k (Back e n) = (e.0 == d) && (n == k)
+abbrev pub is_restart_of : DeviceId → ℕ → Item → Bool
+is_restart_of d k (Ran q) = false
+is_restart_of d k (Failed e n) = false
+is_restart_of d k (Back e n) = (e.0 == d) && (n == k)
 
 -- it is this item
 abbrev pub is_item : Item → Item → Bool
 is_item (Ran r) = is_ran r.0
 is_item (Failed d k) = is_failure d.0 k
-is_item (Back d k) = is_restart d.0 k
+is_item (Back d k) = is_restart_of d.0 k
 
 -- no item stands twice
 abbrev pub all_differ : List Item → Bool
@@ -80,8 +80,8 @@ abbrev pub with_item : LinePlace → Item → List Mark → List Mark
 with_item at item marks = insert marks at (untouched item)
 
 -- the others stand in their order, with what is told of them
-abbrev pub without : RunId → List Mark → List Mark
-without r marks = filter (λ m. not (is_ran r m.item)) marks
+abbrev pub marks_without : RunId → List Mark → List Mark
+marks_without r marks = filter (λ m. not (is_ran r m.item)) marks
 
 -- the device too, where the mark is the run's
 abbrev pub with_touch : RunId → DeviceId → Mark → Mark
@@ -100,17 +100,17 @@ abbrev pub settling : RunId → List Mark → List Mark
 settling r marks = map (with_end r) marks
 
 -- it is a run that has not ended
-abbrev pub is_open : Mark → Bool
-is_open m = of_run (λ r. not m.ended) m.item
+abbrev pub is_open_run : Mark → Bool
+is_open_run m = of_run (λ r. not m.ended) m.item
 
 -- the number of items before the first such run, all where there is none
 abbrev pub front_of : List Mark → ℕ
 front_of [] = 0
-front_of (m ∷ ms) = if is_open m then 0 else front_of ms + 1
+front_of (m ∷ ms) = if is_open_run m then 0 else front_of ms + 1
 
 -- the run has touched the device
-abbrev pub has_touched : RunId → DeviceId → List Mark → Bool
-has_touched r d marks = list_any (λ m. is_ran r m.item && set.contains m.touched d) marks
+abbrev pub mark_has_touched : RunId → DeviceId → List Mark → Bool
+mark_has_touched r d marks = list_any (λ m. is_ran r m.item && set.contains m.touched d) marks
 
 abbrev pub place_of : Item → List Mark → Option LinePlace
 place_of item marks = position (is_item item) (items_of marks)

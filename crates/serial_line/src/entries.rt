@@ -3,21 +3,21 @@ ghost use Rattle.std.specs.Prelude.{◌≡◌, ◌<◌, true};
 ghost use Rattle.command_rules.specs.Items.{is_ran};
 ghost use Rattle.std.specs.FinSet as set;
 ghost use Rattle.home_types.specs.Limits.{most_devices};
-ghost use Rattle.serial_line.specs.Marks.{is_item, is_open, meets, untouched};
+ghost use Rattle.serial_line.specs.Marks.{is_item, is_open_run, meets, untouched};
 
 use home_types::{DeviceNo, DeviceSet, Item, RunNo};
 use std::marker::Model;
 
 /// An item of the line, with the devices that it has touched, and whether it is a run that has ended.
 #[derive(Drop)]
-pub(crate) struct Entry {
+pub(crate) struct MarkedItem {
     item: Item,
     // of a run; an event has touched its own device alone
     touches: DeviceSet,
     ended: bool,
 }
 
-impl Model for Entry {
+impl Model for MarkedItem {
     ghost use Rattle.serial_line.specs.Marks.{Mark, mark_code, touched_by};
 
     ghost Value = { Mark };
@@ -27,12 +27,12 @@ impl Model for Entry {
     ghost view = { λ e. record { item = e.item; touched = touched_by e.item e.touches; ended = e.ended } };
 }
 
-impl Entry {
+impl MarkedItem {
     /// An item as it comes into the line.
-    pub(crate) fn new(item: Item) -> Entry
+    pub(crate) fn new(item: Item) -> MarkedItem
         ensures { result ≡ untouched item }
     {
-        Entry {
+        MarkedItem {
             item,
             touches: DeviceSet::none(),
             ended: false,
@@ -95,7 +95,7 @@ impl Entry {
 
     /// Whether it is a run that has not ended.
     pub(crate) fn is_open(&self) -> bool
-        ensures { result ≡ is_open self.now }
+        ensures { result ≡ is_open_run self.now }
     {
         match self.item {
             Item::Ran(_) => !self.ended,

@@ -4,7 +4,7 @@ ghost use Rattle.std.specs.FinSet as set;
 ghost use Rattle.std.specs.List.{list_any};
 ghost use Rattle.command_rules.specs.Apart.{meet};
 ghost use Rattle.command_rules.specs.Footprints.{FitsIndex};
-ghost use Rattle.command_rules.specs.Rosters.{follows, is_on, run_at, runs_of, shares, touches};
+ghost use Rattle.command_rules.specs.Rosters.{follows, is_on, run_in_roster, runs_of, shares, touches};
 ghost use Rattle.home_types.specs.Limits.{most_devices};
 ghost use Rattle.serial_line.specs.KeptRuns.{AreKeptOf, has_device, kept_run};
 
@@ -131,7 +131,7 @@ impl KeptRuns {
 
     /// What is kept of the run, `None` where there is none of this number.
     fn run(&self, run: RunNo) -> Option<&KeptRun>
-        ensures { option_map kept_run (option_copied result) ≡ run_at self.now run.0 }
+        ensures { option_map kept_run (option_copied result) ≡ run_in_roster self.now run.0 }
     {
         if run.0 == 0 {
             return None;

@@ -7,10 +7,10 @@ ghost use Rattle.home_types.specs.Limits.{most_devices};
 ghost use Rattle.home_types.specs.declared.items.Item.TheVariants.{Ran};
 ghost use Rattle.serial_line.specs.KeptRuns.{AreKeptOf, is_known};
 ghost use Rattle.serial_line.specs.Labels.{LabelsAreInOrder, has_free, is_sealed, label_of};
-ghost use Rattle.serial_line.specs.Marks.{all_differ, front_of, has_touched, items_of, last_meeting, meet_marks, meets, place_of, settling, stands, touching, with_item, without};
-ghost use Rattle.serial_line.specs.RunPlaces.{ArePlaces, ArePlacesBefore, with_place};
+ghost use Rattle.serial_line.specs.Marks.{all_differ, front_of, items_of, last_meeting, mark_has_touched, marks_without, meet_marks, meets, place_of, settling, stands, touching, with_item};
+ghost use Rattle.serial_line.specs.RunPlaces.{ArePlacesBefore, AreRunPlaces, with_place};
 
-use crate::entries::Entry;
+use crate::entries::MarkedItem;
 use crate::kept_runs::KeptRuns;
 use crate::order_labels::{insert_label, remove_label};
 use command_rules::Roster;
@@ -32,7 +32,7 @@ const PLACES: usize = limits::RUNS as usize + 1;
 /// command for each of their devices.
 #[derive(Drop)]
 pub struct Line {
-    entries: Vec<Entry>,
+    entries: Vec<MarkedItem>,
     // of each item, in the order of the items
     labels: Vec<u64>,
     spare: u32,
@@ -52,11 +52,11 @@ impl Model for Line {
 
     ghost coded = { marked_code };
 
-    ghost use Rattle.serial_line.specs.Lines.{IsSound};
+    ghost use Rattle.serial_line.specs.Lines.{LineIsSound};
 
     ghost view = { λ l. record { marks = l.entries.items; labels = l.labels.items; spare = l.spare; sealed = l.sealed; runs = l.runs } };
 
-    ghost invariant = { IsSound };
+    ghost invariant = { LineIsSound };
 }
 
 impl Line {
@@ -132,7 +132,7 @@ impl Line {
         ensures final_labels { take self.old.sealed self.new.labels ≡ take self.old.sealed self.old.labels }
         ensures labels { has_free 0 at self.old.labels ≡ true → remove self.new.labels at ≡ self.old.labels }
     {
-        let inserted = self.entries.insert(at as usize, Entry::new(item));
+        let inserted = self.entries.insert(at as usize, MarkedItem::new(item));
         inserted.unwrap();
         insert_label(&mut self.labels, at, self.sealed);
         self.spare -= 1;
@@ -148,7 +148,7 @@ impl Line {
     pub fn remove(&mut self, run: RunNo) -> bool
         requires unsealed { is_sealed (Ran run) self.old ≡ false }
         ensures was_there { result ≡ stands (Ran run) self.old.marks }
-        ensures marks { self.new.marks ≡ without run.0 self.old.marks }
+        ensures marks { self.new.marks ≡ marks_without run.0 self.old.marks }
         ensures spare { self.new.spare ≡ (if result then self.old.spare + 1 else self.old.spare) }
         ensures sealed { self.new.sealed ≡ self.old.sealed }
         ensures runs { self.new.runs ≡ self.old.runs }
@@ -360,7 +360,7 @@ impl Line {
     pub fn get(&self, at: u32) -> Option<Item>
         ensures { result ≡ slice_get (items_of self.now.marks) at }
     {
-        self.entries.get(at as usize).map(Entry::item)
+        self.entries.get(at as usize).map(MarkedItem::item)
     }
 
     /// How many items the line has. With its room they are always below 2^32.
@@ -400,7 +400,7 @@ impl Line {
     /// Whether the run has touched the device.
     pub fn touched(&self, run: RunNo, device: DeviceNo) -> bool
         requires { stands (Ran run) self.now.marks ≡ true }
-        ensures { result ≡ has_touched run.0 device.0 self.now.marks }
+        ensures { result ≡ mark_has_touched run.0 device.0 self.now.marks }
     {
         match self.place_of(Item::Ran(run)) {
             Some(at) => self.entries[at as usize].has_touched(device),
@@ -410,7 +410,7 @@ impl Line {
 }
 
 /// The number of items before the first run that has not ended, which is no smaller than `from`.
-fn front_from(entries: &[Entry], from: u32) -> u32
+fn front_from(entries: &[MarkedItem], from: u32) -> u32
     requires few { length entries.now < 2 ^ 32 }
     requires from { from ≤ front_of entries.now }
     ensures { result ≡ front_of entries.now }
@@ -425,11 +425,11 @@ fn front_from(entries: &[Entry], from: u32) -> u32
 }
 
 /// Each run from this place on is told its place; those before it have theirs, and those that are not in the line none.
-fn tell_places(places: &mut [Option<u32>], entries: &[Entry], from: u32)
+fn tell_places(places: &mut [Option<u32>], entries: &[MarkedItem], from: u32)
     requires once { all_differ (items_of entries.now) ≡ true }
     requires few { length entries.now < 2 ^ 32 }
     requires before { ArePlacesBefore from entries.now places.old }
-    ensures { ArePlaces entries.now places.new }
+    ensures { AreRunPlaces entries.now places.new }
 {
     'entries: for at in from..entries.len() as u32 {
         tell_place(places, entries[at as usize].item(), Some(at));

@@ -5,19 +5,19 @@ use lib.ListN.{get_elem?}
 use Rattle.crossbeam_utils.specs.Register.{Turns, Forks, Merges}
 use Rattle.atomic_table.proofs.Lists.{at_set, at_snoc, set_again}
 use Rattle.status_board.specs.declared.day_counts.Counts.{Counts}
-use Rattle.status_board.specs.declared.passes.View.{View}
+use Rattle.status_board.specs.declared.passes.PassView.{PassView}
 use Rattle.status_board.specs.Publishings.{nothing, last_of, IsNotBelow, StartsWith}
-use Rattle.status_board.specs.Views.{publishing, watching, meeting, KnowsABeginning, IsKept, HasPublished, HasLooked}
+use Rattle.status_board.specs.Views.{publishing, watching, meeting, KnowsABeginning, ViewsAreKept, HasPublished, HasLooked}
 use Rattle.status_board.proofs.Publishings.{last_more, rises_more, starts_same, starts_none, starts_more}
 
 off : false ≡ true → ⊥
 off e = true≢false (sym e)
 
-knows_set : (seat : ℕ) (log : List Counts) (views : List View) (by : ℕ) (w : View) → ((j : ℕ) (u : View) → j ≢ by → get_elem? views j ≡ some u → KnowsABeginning seat log j u) → KnowsABeginning seat log by w
-    → (j : ℕ) (u : View) → get_elem? (set views by w) j ≡ some u → KnowsABeginning seat log j u
+knows_set : (seat : ℕ) (log : List Counts) (views : List PassView) (by : ℕ) (w : PassView) → ((j : ℕ) (u : PassView) → j ≢ by → get_elem? views j ≡ some u → KnowsABeginning seat log j u) → KnowsABeginning seat log by w
+    → (j : ℕ) (u : PassView) → get_elem? (set views by w) j ≡ some u → KnowsABeginning seat log j u
 knows_set seat log views by w others mine j u e =
     ⊎_elim
-    (λ (x : (j ≡ by) × (w ≡ u)). subst (λ (y : ℕ × View). KnowsABeginning seat log y.0 y.1) (λ i. (sym x.0 i, x.1 i)) mine)
+    (λ (x : (j ≡ by) × (w ≡ u)). subst (λ (y : ℕ × PassView). KnowsABeginning seat log y.0 y.1) (λ i. (sym x.0 i, x.1 i)) mine)
     (λ (x : (j ≢ by) × (get_elem? views j ≡ some u)). others j u x.0 x.1)
     (at_set views by j w u e)
 
@@ -25,14 +25,14 @@ knows_set seat log views by w others mine j u e =
 quiet : (seat : ℕ) (log : List Counts) (by : ℕ) (seen : List Counts) → StartsWith log seen → KnowsABeginning seat log by (watching seen)
 quiet seat log by seen so = record { seated = λ p. absurd (off p); all = λ p. absurd (off p); seen = so; met = starts_none log }
 
-pub begins : IsKept nothing (publishing [] ∷ [])
+pub begins : ViewsAreKept nothing (publishing [] ∷ [])
 begins = record { seat = 0; log = []; last = refl; rises = tt; fits = one }
   where
-    one : (by : ℕ) (v : View) → get_elem? (publishing [] ∷ []) by ≡ some v → KnowsABeginning 0 [] by v
+    one : (by : ℕ) (v : PassView) → get_elem? (publishing [] ∷ []) by ≡ some v → KnowsABeginning 0 [] by v
     one zero v e = subst (KnowsABeginning 0 [] 0) (some-injective _ _ e) (record { seated = λ _. refl; all = λ _. refl; seen = starts_none []; met = starts_none [] })
     one (suc by) v e = absurd (some-ne-none v (sym e))
 
-pub publishes : (by : ℕ) (seen : List Counts) (c : Counts) → IsNotBelow (last_of seen) c → Turns IsKept by (publishing seen) (λ _. c) HasPublished
+pub publishes : (by : ℕ) (seen : List Counts) (c : Counts) → IsNotBelow (last_of seen) c → Turns ViewsAreKept by (publishing seen) (λ _. c) HasPublished
 publishes by seen c up x views h at =
     let mine = h.fits by (publishing seen) at in
     let whole : seen ≡ h.log = mine.all refl in (
@@ -59,10 +59,10 @@ publishes by seen c up x views h at =
       refl,
     )
 
-pub looks : (by : ℕ) (v : View) → Turns IsKept by v (λ x. x) HasLooked
+pub looks : (by : ℕ) (v : PassView) → Turns ViewsAreKept by v (λ x. x) HasLooked
 looks by v x views h at =
     let mine = h.fits by v at in
-    let w : View = record { publishes = v.publishes; seen = h.log; met = [] } in (
+    let w : PassView = record { publishes = v.publishes; seen = h.log; met = [] } in (
       w,
       record {
         seat = h.seat;
@@ -74,7 +74,7 @@ looks by v x views h at =
       record { plain = refl; grows = mine.seen; same = λ p. sym (mine.all p); met = mine.met; found = h.last; rises = h.rises },
     )
 
-pub watches : (by : ℕ) (v : View) → Forks IsKept by v v (watching v.seen)
+pub watches : (by : ℕ) (v : PassView) → Forks ViewsAreKept by v v (watching v.seen)
 watches by v x views h at = record {
   seat = h.seat;
   log = h.log;
@@ -86,7 +86,7 @@ watches by v x views h at = record {
       (at_snoc (set views by v) (watching v.seen) u j e);
 }
 
-pub meets : (by : ℕ) (v : View) (other : ℕ) (u : View) → Merges IsKept by v other u (meeting v u) (watching [])
+pub meets : (by : ℕ) (v : PassView) (other : ℕ) (u : PassView) → Merges ViewsAreKept by v other u (meeting v u) (watching [])
 meets by v other u x views h at apart there =
     let w = meeting v u in
     let mine = h.fits by v at in
@@ -102,5 +102,5 @@ meets by v other u x views h at apart there =
     }
 
 -- the same at a view that is known by an equation
-pub publishes_as : (by : ℕ) (v : View) (c : Counts) → v ≡ publishing v.seen → IsNotBelow (last_of v.seen) c → Turns IsKept by v (λ _. c) HasPublished
-publishes_as by v c is up = subst (λ (u : View). Turns IsKept by u (λ _. c) HasPublished) (sym is) (publishes by v.seen c up)
+pub publishes_as : (by : ℕ) (v : PassView) (c : Counts) → v ≡ publishing v.seen → IsNotBelow (last_of v.seen) c → Turns ViewsAreKept by v (λ _. c) HasPublished
+publishes_as by v c is up = subst (λ (u : PassView). Turns ViewsAreKept by u (λ _. c) HasPublished) (sym is) (publishes by v.seen c up)

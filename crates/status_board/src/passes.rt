@@ -7,7 +7,7 @@ use std::collections::LinkedList;
 
 /// What a pass knows: whether it publishes, the publishings that it has seen, and those that a pass which it took in has
 /// seen and that it has not compared yet. No value of it is made.
-pub struct View {
+pub struct PassView {
     pub publishes: bool,
     pub seen: LinkedList<Counts>,
     pub met: LinkedList<Counts>,
@@ -17,11 +17,11 @@ pub struct View {
 /// beginning of it.
 pub struct OneList;
 
-impl Protocol<Counts, View> for OneList {
-    ghost use Rattle.status_board.specs.Views.{IsKept, publishing};
+impl Protocol<Counts, PassView> for OneList {
+    ghost use Rattle.status_board.specs.Views.{ViewsAreKept, publishing};
     ghost use Rattle.std.specs.Prelude.{[]};
 
-    ghost holds = { IsKept };
+    ghost holds = { ViewsAreKept };
 
     ghost first = { publishing [] };
 }
@@ -29,7 +29,7 @@ impl Protocol<Counts, View> for OneList {
 /// The pass that publishes adds what it writes.
 pub struct Publishes;
 
-impl Outcome<Counts, View> for Publishes {
+impl Outcome<Counts, PassView> for Publishes {
     ghost use Rattle.status_board.specs.Views.{HasPublished};
 
     ghost then = { HasPublished };
@@ -38,7 +38,7 @@ impl Outcome<Counts, View> for Publishes {
 /// A pass reads, and has then seen all publishings.
 pub struct Looks;
 
-impl Outcome<Counts, View> for Looks {
+impl Outcome<Counts, PassView> for Looks {
     ghost use Rattle.status_board.specs.Views.{HasLooked};
 
     ghost then = { HasLooked };
@@ -47,7 +47,7 @@ impl Outcome<Counts, View> for Looks {
 /// A pass that watches is cut off, and has seen what the other has.
 pub struct CutsWatcher;
 
-impl Split<View> for CutsWatcher {
+impl Split<PassView> for CutsWatcher {
     ghost use Rattle.status_board.specs.Views.{watching};
 
     ghost left = { λ v. v };
@@ -58,7 +58,7 @@ impl Split<View> for CutsWatcher {
 /// A pass is taken in.
 pub struct TakesIn;
 
-impl Join<View> for TakesIn {
+impl Join<PassView> for TakesIn {
     ghost use Rattle.status_board.specs.Views.{meeting, watching};
     ghost use Rattle.std.specs.Prelude.{[]};
 
@@ -68,7 +68,7 @@ impl Join<View> for TakesIn {
 }
 
 /// The cell of a board.
-pub type BoardCell = RuledSeqCell<Counts, View, OneList, 5>;
+pub type BoardCell = RuledSeqCell<Counts, PassView, OneList, 5>;
 
 /// A pass of that cell.
-pub type BoardPass = Pass<Counts, View>;
+pub type BoardPass = Pass<Counts, PassView>;

@@ -1,5 +1,5 @@
 -- An order that passes the tests meets what its execution asks.
-use Rattle.command_rules.specs.Rosters.{Run, is_run, plain_run, run_at, runs_of}
+use Rattle.command_rules.specs.Rosters.{Run, is_run, plain_run, run_in_roster, runs_of}
 use Rattle.command_rules.specs.declared.rosters.Roster.{Roster}
 use Rattle.home_types.specs.declared.items.Item.TheVariants.{Back, Failed, Ran}
 use Rattle.home_types.specs.declared.items.Item.{Item}

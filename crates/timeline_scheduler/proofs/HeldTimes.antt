@@ -13,7 +13,7 @@ use Rattle.std.specs.List.{list_any}
 use Rattle.std.specs.Prelude.{Bool, List, None, Option, Some, [], drop, false, find, fold, if◌then◌else◌, length, max, min, option_map, slice_index_or, slice_set, suc, true, unwrap_or, zero, ℕ, ◌++◌, ◌+◌, ◌<◌, ◌==◌, ◌||◌, ◌∷◌, ◌≡◌, ◌≢◌, ◌≤◌}
 use Rattle.timeline_scheduler.proofs.SlotSets.{set_here, set_other, slot_read}
 use Rattle.timeline_scheduler.specs.Scratches.{HoldsTimes, planned_in, planned_span}
-use Rattle.timeline_scheduler.specs.Slots.{AreHomed, plan_behind, slot_at, used_again}
+use Rattle.timeline_scheduler.specs.Slots.{RunsAreHomed, plan_behind, slot_at, used_again}
 use Rattle.timeline_scheduler.specs.declared.slots.Slot.{Slot}
 
 -- the times are those of the slot
@@ -151,7 +151,7 @@ pub plan_same : (a b : List Slot) (cs : List Command) (m : ℕ) → LeavesPassed
 plan_same a b cs m left = ap (λ (f : ℕ → ℕ). (fold (plan_more f) (record { clock = m; planned = [] }) cs).planned) (λ i d. left.free d i)
 
 -- the device of a command is one of so many
-pub command_within : (n : ℕ) (runs : List Run) (r : ℕ) (cs : List Command) (k : ℕ) (c : Command) → AreHomed n runs → cs ≡ commands_of runs r → k < length cs → (slice_index_or cs k c).device.0 < n
+pub command_within : (n : ℕ) (runs : List Run) (r : ℕ) (cs : List Command) (k : ℕ) (c : Command) → RunsAreHomed n runs → cs ≡ commands_of runs r → k < length cs → (slice_index_or cs k c).device.0 < n
 command_within n runs r cs k c homed its within = homed r (slice_index_or cs k c).device.0 (ap (list_any (is_on (slice_index_or cs k c).device.0)) (sym its) ∙ own_device cs k c within)
 
 -- the command at a place within, whatever else is told

@@ -15,9 +15,9 @@ use Rattle.std.proofs.Common.{ap, arith, subst, sym, ◌∙◌}
 use Rattle.std.proofs.lemmas.Grind.{common_steps}
 use Rattle.std.specs.List.{list_any}
 use Rattle.std.specs.Prelude.{Bool, IsTrue, List, Some, [], false, is_some, length, slice_get, suc, true, zero, ℕ, ◌<◌, ◌||◌, ◌∷◌, ◌≡◌, ◌≤◌}
-use Rattle.timeline_scheduler.specs.Gathered.{AreKnown, IsKnown}
+use Rattle.timeline_scheduler.specs.Gathered.{IsKnown, ItemsAreKnown}
 use Rattle.timeline_scheduler.specs.Placings.{MayPlan, Planning}
-use Rattle.timeline_scheduler.specs.Slots.{AreHomed}
+use Rattle.timeline_scheduler.specs.Slots.{RunsAreHomed}
 
 -- what none of a list is, the one at a place is not
 not_at : {A : Type 0} (p : A → Bool) (xs : List A) (k : ℕ) (x : A) → list_any p xs ≡ false → slice_get xs k ≡ Some x → p x ≡ false
@@ -56,7 +56,7 @@ module _ (w : Setting) (allowed : IsRosterFor (length w.first) w.runs) where
 
 module _ (table : List LineageState) (line : List Mark) (history : List Kept) (runs : List Run) (r : ℕ) where
   -- the items of the line are known
-  pub all_known : MayPlan table line history runs r → AreKnown runs (items_of line)
+  pub all_known : MayPlan table line history runs r → ItemsAreKnown runs (items_of line)
   all_known (Planning s parts run) at i there =
       subst (λ rs. IsKnown rs i) parts.its_roster
       (known_item s.setting parts.allowed i
@@ -66,7 +66,7 @@ module _ (table : List LineageState) (line : List Mark) (history : List Kept) (r
   device_within s parts x d on = device_below d (length s.setting.first) (commands_of s.setting.runs x) (λ k c there. parts.allowed.homed x k c there) on
 
   -- each command is on a device of the table
-  pub all_homed : MayPlan table line history runs r → AreHomed (length table) runs
+  pub all_homed : MayPlan table line history runs r → RunsAreHomed (length table) runs
   all_homed (Planning s parts run) x d on =
       let size = parts.its_table.devices in
       let below = device_within s parts x d (ap (λ rs. touches rs x d) parts.its_roster ∙ on) in

@@ -23,14 +23,14 @@ use Rattle.lock_leasing.specs.Configurations.{Configuration, Grips, grips_comman
 use Rattle.lock_leasing.specs.Standings.{IsRosterFor, IsStandingOf, has_ended, item_has_touched}
 use Rattle.lock_leasing.specs.Words.{has_touched}
 use Rattle.serial_line.proofs.Meetings.{meets_by}
-use Rattle.serial_line.specs.Marks.{Mark, front_of, is_open, items_of, meets}
+use Rattle.serial_line.specs.Marks.{Mark, front_of, is_open_run, items_of, meets}
 use Rattle.serial_line.specs.Ties.{Each, EndsAs, TouchesAs}
 use Rattle.std.proofs.Common.{ap, ap₂, arith, refl, sym, ◌∙◌}
 use Rattle.std.proofs.lemmas.Grind.{common_steps}
 use Rattle.std.specs.FinSet as set
 use Rattle.std.specs.List.{list_any}
 use Rattle.std.specs.Prelude.{Bool, IsTrue, List, None, Option, Some, [], false, if◌then◌else◌, is_none, is_some, length, map, nat_lt, not, option_map, slice_get, suc, true, unwrap_or, zero, ℕ, ◌&&◌, ◌+◌, ◌<◌, ◌==◌, ◌||◌, ◌∷◌, ◌≡◌, ◌≤◌}
-use Rattle.timeline_scheduler.specs.Bases.{binds, goes_on, is_needed, seeds}
+use Rattle.timeline_scheduler.specs.Bases.{goes_on, is_needed, run_binds, seeds}
 
 -- Flags one by one
 
@@ -43,7 +43,7 @@ module _ (history : List Kept) (runs : List Run) (r : ℕ) where
   -- the flag at a place
   pub seed_at : (marks : List Mark) (k : ℕ) → k < length marks → slice_get (seeds history runs r marks) k ≡ Some (nat_lt k (front_of marks) || unwrap_or (option_map (is_needed history runs r) (slice_get marks k)) false)
   seed_at [] k within = absurd (omega (arith, within))
-  seed_at (m ∷ ms) k within = at (is_open m) k within (λ j inside. seed_at ms j inside)
+  seed_at (m ∷ ms) k within = at (is_open_run m) k within (λ j inside. seed_at ms j inside)
     where
       some_at : (xs : List Mark) (j : ℕ) → j < length xs → option_map (is_needed history runs r) (slice_get xs j) ≡ Some (unwrap_or (option_map (is_needed history runs r) (slice_get xs j)) false)
       some_at [] j inside = absurd (omega (arith, inside))
@@ -75,8 +75,8 @@ module _ (history : List Kept) (runs : List Run) (r : ℕ) where
         less a b h = grind (arith, common_steps)
 
     module _ (devices : Devices) (are : (d : ℕ) → set.contains devices d ≡ touches runs r d) where
-      needed_by : (m : Mark) → is_needed history runs r m ≡ (meets devices m || of_run (binds history runs r) m.item)
-      needed_by m = ap (λ b. b || of_run (binds history runs r) m.item) (sym (meets_by (λ (c : Command). c.device.0) (set.contains m.touched) devices (commands_of runs r) are))
+      needed_by : (m : Mark) → is_needed history runs r m ≡ (meets devices m || of_run (run_binds history runs r) m.item)
+      needed_by m = ap (λ b. b || of_run (run_binds history runs r) m.item) (sym (meets_by (λ (c : Command). c.device.0) (set.contains m.touched) devices (commands_of runs r) are))
 
       last : (b : Bool) → (b || true) ≡ true
       last true = refl
@@ -88,10 +88,10 @@ module _ (history : List Kept) (runs : List Run) (r : ℕ) where
         where
           by_mark : (o : Option Mark) → true ≡ unwrap_or (option_map (meets devices) o) false → unwrap_or (option_map (is_needed history runs r) o) false ≡ true
           by_mark None e = sym e
-          by_mark (Some m) e = needed_by m ∙ ap (λ b. b || of_run (binds history runs r) m.item) (sym e)
+          by_mark (Some m) e = needed_by m ∙ ap (λ b. b || of_run (run_binds history runs r) m.item) (sym e)
 
       -- another one
-      pub seed_rest : (item : Item) (bound : Bool) → front_of marks ≤ k → false ≡ unwrap_or (option_map (meets devices) (slice_get marks k)) false → slice_get (items_of marks) k ≡ Some item → bound ≡ of_run (binds history runs r) item
+      pub seed_rest : (item : Item) (bound : Bool) → front_of marks ≤ k → false ≡ unwrap_or (option_map (meets devices) (slice_get marks k)) false → slice_get (items_of marks) k ≡ Some item → bound ≡ of_run (run_binds history runs r) item
           → slice_get (seeds history runs r marks) k ≡ Some bound
       seed_rest item bound behind unmet there is = seed_at marks k within ∙ ap₂ (λ a b. Some (a || b)) (more k (front_of marks) behind) (by_mark (slice_get marks k) unmet (sym (map_get (λ (m : Mark). m.item) marks k) ∙ there))
         where
@@ -100,12 +100,12 @@ module _ (history : List Kept) (runs : List Run) (r : ℕ) where
 
           by_mark : (o : Option Mark) → false ≡ unwrap_or (option_map (meets devices) o) false → option_map (λ (m : Mark). m.item) o ≡ Some item → unwrap_or (option_map (is_needed history runs r) o) false ≡ bound
           by_mark None e at = absurd (cc)
-          by_mark (Some m) e at = let own : m.item ≡ item = cc in needed_by m ∙ ap₂ (λ a b. a || b) (sym e) (ap (of_run (binds history runs r)) own ∙ sym is)
+          by_mark (Some m) e at = let own : m.item ≡ item = cc in needed_by m ∙ ap₂ (λ a b. a || b) (sym e) (ap (of_run (run_binds history runs r)) own ∙ sym is)
 
   -- there are as many as items
   pub seeds_length : (marks : List Mark) → length (seeds history runs r marks) ≡ length marks
   seeds_length [] = refl
-  seeds_length (m ∷ ms) = at (is_open m) (seeds_length ms)
+  seeds_length (m ∷ ms) = at (is_open_run m) (seeds_length ms)
     where
       mapped : (xs : List Mark) → length (map (is_needed history runs r) xs) ≡ length xs
       mapped [] = refl
@@ -172,7 +172,7 @@ module _ (w : Setting) (n : Reading) (g : Grips) (f : Facts w n g) (allowed : Is
       grind (arith, common_steps)
 
   -- a run of the line
-  run_needed : (x : ℕ) → is_some (n.run x).placed ≡ true → (list_any (has_touched n g x) (devices_of w r) || binds history w.runs r x) ≡ gaps.is_needed w n r (Ran (record { 0 = x }))
+  run_needed : (x : ℕ) → is_some (n.run x).placed ≡ true → (list_any (has_touched n g x) (devices_of w r) || run_binds history w.runs r x) ≡ gaps.is_needed w n r (Ran (record { 0 = x }))
   run_needed x placed = by_end (n.run x).ended refl
     where
       bound : Option End → Bool
@@ -231,18 +231,18 @@ module _ (w : Setting) (n : Reading) (g : Grips) (f : Facts w n g) (allowed : Is
           nothing true = refl
           nothing false = refl
 
-      by_end : (o : Option End) → (n.run x).ended ≡ o → (list_any (has_touched n g x) (devices_of w r) || binds history w.runs r x) ≡ gaps.is_needed w n r (Ran (record { 0 = x }))
+      by_end : (o : Option End) → (n.run x).ended ≡ o → (list_any (has_touched n g x) (devices_of w r) || run_binds history w.runs r x) ≡ gaps.is_needed w n r (Ran (record { 0 = x }))
       by_end o over = ap (λ e. list_any (has_touched n g x) (devices_of w r) || bound e) (ends x ∙ over) ∙ of_end o over
           ∙ ap (λ e. list_any (λ d. did n x d || ((is_some (n.run x).placed && is_none e) && is_next_on w n x d)) (devices_of w r) || (follows w.runs r x && unwrap_or (option_map is_committing e) false)) (sym over)
 
   -- an item of the line
   pub mark_needed : (m : Mark) → TouchesAs (item_has_touched n g) m → ((x : RunNo) → m.item ≡ Ran x → is_some (n.run x.0).placed ≡ true) → is_needed history w.runs r m ≡ gaps.is_needed w n r m.item
   mark_needed m told placed =
-      ap (λ b. b || of_run (binds history w.runs r) m.item) (any_alike (λ (c : Command). set.contains m.touched c.device.0) (λ (c : Command). item_has_touched n g m.item c.device.0) (λ c. told c.device.0) (commands_of w.runs r))
+      ap (λ b. b || of_run (run_binds history w.runs r) m.item) (any_alike (λ (c : Command). set.contains m.touched c.device.0) (λ (c : Command). item_has_touched n g m.item c.device.0) (λ c. told c.device.0) (commands_of w.runs r))
       ∙ by_item m.item (λ x e. placed x e)
     where
-      by_item : (i : Item) → ((x : RunNo) → i ≡ Ran x → is_some (n.run x.0).placed ≡ true) → (list_any (λ (c : Command). item_has_touched n g i c.device.0) (commands_of w.runs r) || of_run (binds history w.runs r) i) ≡ gaps.is_needed w n r i
-      by_item (Ran x) there = ap (λ b. b || binds history w.runs r x.0) (sym (devices_by_commands w r (has_touched n g x.0) allowed)) ∙ run_needed x.0 (there x refl)
+      by_item : (i : Item) → ((x : RunNo) → i ≡ Ran x → is_some (n.run x.0).placed ≡ true) → (list_any (λ (c : Command). item_has_touched n g i c.device.0) (commands_of w.runs r) || of_run (run_binds history w.runs r) i) ≡ gaps.is_needed w n r i
+      by_item (Ran x) there = ap (λ b. b || run_binds history w.runs r x.0) (sym (devices_by_commands w r (has_touched n g x.0) allowed)) ∙ run_needed x.0 (there x refl)
       by_item (Failed e k) there = on_device e.0
         where
           on_device : (d : ℕ) → (list_any (λ (c : Command). d == c.device.0) (commands_of w.runs r) || false) ≡ touches w.runs r d
@@ -266,7 +266,7 @@ module _ (w : Setting) (n : Reading) (g : Grips) (f : Facts w n g) (allowed : Is
               turned : (a b : ℕ) → (a == b) ≡ (b == a)
               turned a b = grind (arith, common_steps)
 
-  open_is : (m : Mark) → EndsAs (has_ended n) m → ((x : RunNo) → m.item ≡ Ran x → is_some (n.run x.0).placed ≡ true) → is_open m ≡ of_run (is_live n) m.item
+  open_is : (m : Mark) → EndsAs (has_ended n) m → ((x : RunNo) → m.item ≡ Ran x → is_some (n.run x.0).placed ≡ true) → is_open_run m ≡ of_run (is_live n) m.item
   open_is m told placed = ap (λ b. of_run (λ x. not b) m.item) told ∙ by_item m.item placed
     where
       lives : (o : OfRun) → is_some o.placed ≡ true → not (is_some o.ended) ≡ (is_some o.placed && is_none o.ended)

@@ -32,7 +32,7 @@ use Rattle.timeline_scheduler.proofs.Needs.{base_is, seeds_length}
 use Rattle.timeline_scheduler.proofs.Passes.{set_free}
 use Rattle.timeline_scheduler.specs.Bases.{seeds}
 use Rattle.timeline_scheduler.specs.Placings.{InEach, IsEarliestOf, IsLeastOf, IsPlaceOf, IsPlanOf, IsSetOf}
-use Rattle.timeline_scheduler.specs.Scratches.{HoldsTimes, Room}
+use Rattle.timeline_scheduler.specs.Scratches.{HoldsTimes, ScratchRoom}
 use Rattle.timeline_scheduler.specs.Slots.{is_misfit, passed_set, plan_behind, reads_some, slot_at}
 use Rattle.timeline_scheduler.specs.declared.slots.Slot.{Slot}
 
@@ -159,38 +159,38 @@ module _ (table : List LineageState) (line : List Mark) (history : List Kept) (r
   Times before slots planned = HoldsTimes planned (plan_behind (passed_set table history runs r (chosen before (items_of line)) slots) (commands_of runs r) m)
 
   -- the first round, as the scratch passes through it
-  pub first_of : (old seeded closed planned : Room) → seeded ≡ record old { before = seeds history runs r line } → closed ≡ record seeded { before = closure (meet runs) seeded.before (items_of line) } → planned ≡ record closed { slots = planned.slots }
+  pub first_of : (old seeded closed planned : ScratchRoom) → seeded ≡ record old { before = seeds history runs r line } → closed ≡ record seeded { before = closure (meet runs) seeded.before (items_of line) } → planned ≡ record closed { slots = planned.slots }
       → length old.slots ≡ length table → length planned.slots ≡ length closed.slots → Times closed.before closed.slots planned.slots → IsRound planned.before planned.slots
   first_of old seeded closed planned seeded_is closed_is planned_is size long holds =
       first_round planned.before closed.slots planned.slots
-      (ap (λ (s : Room). s.before) planned_is ∙ ap (λ (s : Room). s.before) closed_is ∙ ap (λ (s : Room). closure (meet runs) s.before (items_of line)) seeded_is)
-      (ap (λ (s : Room). length s.slots) closed_is ∙ ap (λ (s : Room). length s.slots) seeded_is ∙ size) long
-      (subst (λ bs. Times bs closed.slots planned.slots) (sym (ap (λ (s : Room). s.before) planned_is)) holds)
+      (ap (λ (s : ScratchRoom). s.before) planned_is ∙ ap (λ (s : ScratchRoom). s.before) closed_is ∙ ap (λ (s : ScratchRoom). closure (meet runs) s.before (items_of line)) seeded_is)
+      (ap (λ (s : ScratchRoom). length s.slots) closed_is ∙ ap (λ (s : ScratchRoom). length s.slots) seeded_is ∙ size) long
+      (subst (λ bs. Times bs closed.slots planned.slots) (sym (ap (λ (s : ScratchRoom). s.before) planned_is)) holds)
 
   -- the flags that were taken in are as many as the items
-  pub taken_flags : (was taken : Room) → IsRound was.before was.slots → taken ≡ record was { before = either_of was.before (misfits was.slots) } → length taken.before ≡ length line
-  taken_flags was taken round taken_is = ap (λ (s : Room). length s.before) taken_is ∙ either_size was.before (misfits was.slots) (barred_length was.before was.slots round) ∙ round.flags
+  pub taken_flags : (was taken : ScratchRoom) → IsRound was.before was.slots → taken ≡ record was { before = either_of was.before (misfits was.slots) } → length taken.before ≡ length line
+  taken_flags was taken round taken_is = ap (λ (s : ScratchRoom). length s.before) taken_is ∙ either_size was.before (misfits was.slots) (barred_length was.before was.slots round) ∙ round.flags
 
   -- .. and those of a closed set are
-  pub closed_flags : (seeded closed : Room) → closed ≡ record seeded { before = closure (meet runs) seeded.before (items_of line) } → length closed.before ≡ length line
-  closed_flags seeded closed closed_is = ap (λ (s : Room). length s.before) closed_is ∙ closure_size (meet runs) seeded.before (items_of line) ∙ items_length
+  pub closed_flags : (seeded closed : ScratchRoom) → closed ≡ record seeded { before = closure (meet runs) seeded.before (items_of line) } → length closed.before ≡ length line
+  closed_flags seeded closed closed_is = ap (λ (s : ScratchRoom). length s.before) closed_is ∙ closure_size (meet runs) seeded.before (items_of line) ∙ items_length
 
   -- .. and each further one
-  module _ (was taken closed planned : Room) (round : IsRound was.before was.slots) (taken_is : taken ≡ record was { before = either_of was.before (misfits was.slots) }) (closed_is : closed ≡ record taken { before = closure (meet runs) taken.before (items_of line) }) (planned_is : planned ≡ record closed { slots = planned.slots }) where
+  module _ (was taken closed planned : ScratchRoom) (round : IsRound was.before was.slots) (taken_is : taken ≡ record was { before = either_of was.before (misfits was.slots) }) (closed_is : closed ≡ record taken { before = closure (meet runs) taken.before (items_of line) }) (planned_is : planned ≡ record closed { slots = planned.slots }) where
     pub next_of : length planned.slots ≡ length closed.slots → Times closed.before closed.slots planned.slots → IsRound planned.before planned.slots
     next_of long holds =
-        next_round was.before taken.before planned.before was.slots planned.slots round (ap (λ (s : Room). s.before) taken_is) (ap (λ (s : Room). s.before) planned_is ∙ ap (λ (s : Room). s.before) closed_is)
+        next_round was.before taken.before planned.before was.slots planned.slots round (ap (λ (s : ScratchRoom). s.before) taken_is) (ap (λ (s : ScratchRoom). s.before) planned_is ∙ ap (λ (s : ScratchRoom). s.before) closed_is)
         (long ∙ ap length slots_stay)
-        (subst (λ ss. Times planned.before ss planned.slots) slots_stay (subst (λ bs. Times bs closed.slots planned.slots) (sym (ap (λ (s : Room). s.before) planned_is)) holds))
+        (subst (λ ss. Times planned.before ss planned.slots) slots_stay (subst (λ bs. Times bs closed.slots planned.slots) (sym (ap (λ (s : ScratchRoom). s.before) planned_is)) holds))
       where
         slots_stay : closed.slots ≡ was.slots
-        slots_stay = ap (λ (s : Room). s.slots) closed_is ∙ ap (λ (s : Room). s.slots) taken_is
+        slots_stay = ap (λ (s : ScratchRoom). s.slots) closed_is ∙ ap (λ (s : ScratchRoom). s.slots) taken_is
 
     -- fewer items are outside
     pub next_fewer : count_by not taken.before < count_by not was.before → count_by not planned.before < count_by not was.before
     next_fewer less =
-        let most : count_by not planned.before ≤ count_by not taken.before = subst (λ bs. count_by not bs ≤ count_by not taken.before) (sym (ap (λ (s : Room). s.before) planned_is ∙ ap (λ (s : Room). s.before) closed_is))
-        (outside_part taken.before (closure (meet runs) taken.before (items_of line)) (closure_holds (meet runs) taken.before (items_of line) (ap (λ (s : Room). length s.before) taken_is ∙ either_size was.before (misfits was.slots) (barred_length was.before was.slots round) ∙ round.flags ∙ sym items_length))) in
+        let most : count_by not planned.before ≤ count_by not taken.before = subst (λ bs. count_by not bs ≤ count_by not taken.before) (sym (ap (λ (s : ScratchRoom). s.before) planned_is ∙ ap (λ (s : ScratchRoom). s.before) closed_is))
+        (outside_part taken.before (closure (meet runs) taken.before (items_of line)) (closure_holds (meet runs) taken.before (items_of line) (ap (λ (s : ScratchRoom). length s.before) taken_is ∙ either_size was.before (misfits was.slots) (barred_length was.before was.slots round) ∙ round.flags ∙ sym items_length))) in
         omega (arith, less, most)
 
   -- The last one: none does not fit

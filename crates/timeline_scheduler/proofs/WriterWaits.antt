@@ -9,7 +9,7 @@ use Rattle.std.specs.List.{range_with_len}
 use Rattle.std.specs.Prelude.{Bool, List, None, Some, false, filter, if◌then◌else◌, length, max, nat_lt, true, ℕ, ◌&&◌, ◌-◌, ◌<◌, ◌≡◌}
 use Rattle.timeline_scheduler.proofs.DeviceWalks.{rest}
 use Rattle.timeline_scheduler.proofs.SlotSets.{changed_fewer}
-use Rattle.timeline_scheduler.specs.Slots.{AreHomed, changed, devices_among, slot_waiting}
+use Rattle.timeline_scheduler.specs.Slots.{RunsAreHomed, changed, devices_among, slot_waiting}
 use Rattle.timeline_scheduler.specs.declared.slots.Slot.{Slot}
 
 -- r reads the device first, and x writes it
@@ -54,5 +54,5 @@ module _ (runs : List Run) (r x : ℕ) where
     none_waiting from none q low = sym (are q) ∙ none q low
 
     -- .. is a device of the home
-    pub waiting_below : (devices from d : ℕ) → AreHomed devices runs → IsFirstFrom (λ e. set.contains waiting e) from (Some d) → d < devices
+    pub waiting_below : (devices from d : ℕ) → RunsAreHomed devices runs → IsFirstFrom (λ e. set.contains waiting e) from (Some d) → d < devices
     waiting_below devices from d homed next = homed r d (waits_touched d (sym (are d) ∙ next.1))

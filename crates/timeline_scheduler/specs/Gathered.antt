@@ -18,8 +18,8 @@ IsKnown runs (Ran x) = IsTrue (is_run runs x.0) × (x.0 ≤ most_runs) × ((f : 
 IsKnown runs (Failed d k) = d.0 < most_devices
 IsKnown runs (Back d k) = d.0 < most_devices
 
-abbrev pub AreKnown : List Run → List Item → Type 0
-AreKnown runs items = (at : ℕ) (i : Item) → slice_get items at ≡ Some i → IsKnown runs i
+abbrev pub ItemsAreKnown : List Run → List Item → Type 0
+ItemsAreKnown runs items = (at : ℕ) (i : Item) → slice_get items at ≡ Some i → IsKnown runs i
 
 -- these are the devices of the items, the runs among them, and those that these follow
 pub record IsGathered (runs : List Run) (items : List Item) (gathered : Gathered) : Type 0 where

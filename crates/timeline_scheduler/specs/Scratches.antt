@@ -7,7 +7,7 @@ use Rattle.std.specs.Prelude.{Bool, List, None, Option, Some, if◌then◌else�
 use Rattle.timeline_scheduler.specs.declared.slots.Slot.{Slot}
 
 -- for each device when it is free and what is planned there, for each item whether it stands before the run, and for how many items there is room
-pub record Room : Type 0 where
+pub record ScratchRoom : Type 0 where
   pub slots : List Slot
   pub before : List Bool
   pub items : ℕ

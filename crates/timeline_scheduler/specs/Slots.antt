@@ -35,8 +35,8 @@ cleared slots = map (λ s. no_slot) slots
 -- The devices of a run
 
 -- each command is on a device of the home
-abbrev pub AreHomed : ℕ → List Run → Type 0
-AreHomed devices runs = (x : RunId) (d : DeviceId) → touches runs x d ≡ true → d < devices
+abbrev pub RunsAreHomed : ℕ → List Run → Type 0
+RunsAreHomed devices runs = (x : RunId) (d : DeviceId) → touches runs x d ≡ true → d < devices
 
 -- the devices of so many that the run has in its footprint
 abbrev pub devices_among : List Run → RunId → ℕ → List DeviceId
@@ -51,9 +51,9 @@ abbrev pub is_followed : List Run → RunId → DeviceId → Bool
 is_followed runs r d = reads_some runs r || touches runs r d
 
 -- these devices are followed, all where none are named
-abbrev pub is_among : Option Devices → DeviceId → Bool
-is_among None d = true
-is_among (Some devices) d = set.contains devices d
+abbrev pub is_device_followed : Option Devices → DeviceId → Bool
+is_device_followed None d = true
+is_device_followed (Some devices) d = set.contains devices d
 
 -- the device is one of these, of those to which x has an access where none are named
 abbrev pub is_with_access : List LineageState → RunId → Option Devices → DeviceId → Bool
@@ -61,7 +61,7 @@ is_with_access table x None d = has_access x (accesses_at table d)
 is_with_access table x (Some devices) d = set.contains devices d
 
 abbrev pub AreFollowed : List Run → RunId → Option Devices → Type 0
-AreFollowed runs r devices = (d : DeviceId) → is_among devices d ≡ is_followed runs r d
+AreFollowed runs r devices = (d : DeviceId) → is_device_followed devices d ≡ is_followed runs r d
 
 -- x has an access to the device, which is followed
 abbrev pub is_passed : List LineageState → List Run → RunId → RunId → DeviceId → Bool

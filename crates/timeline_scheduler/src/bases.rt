@@ -3,8 +3,8 @@ ghost use Rattle.std.specs.Prelude.{◌≡◌, ◌<◌, IsTrue, Some, length, sl
 ghost use Rattle.command_rules.specs.Items.{of_run};
 ghost use Rattle.command_rules.specs.Rosters.{is_run, runs_of};
 ghost use Rattle.serial_line.specs.Marks.{items_of};
-ghost use Rattle.timeline_scheduler.specs.Bases.{binds, goes_on, seeds};
-ghost use Rattle.timeline_scheduler.specs.Gathered.{AreKnown, IsKnown};
+ghost use Rattle.timeline_scheduler.specs.Bases.{goes_on, run_binds, seeds};
+ghost use Rattle.timeline_scheduler.specs.Gathered.{IsKnown, ItemsAreKnown};
 
 use history_book::End;
 use home_types::{Item, RunNo};
@@ -14,7 +14,7 @@ use lock_leasing::Standing;
 /// a device of `r`, or is a run that must.
 pub(crate) fn is_needed(s: &Standing, r: RunNo, at: u32) -> bool
     requires run { IsTrue (is_run (runs_of s.now.roster.now) r.0) }
-    requires known { AreKnown (runs_of s.now.roster.now) (items_of s.now.line.now.marks) }
+    requires known { ItemsAreKnown (runs_of s.now.roster.now) (items_of s.now.line.now.marks) }
     requires there { at < length s.now.line.now.marks }
     ensures { slice_get (seeds s.now.book.now.items (runs_of s.now.roster.now) r.0 s.now.line.now.marks) at ≡ Some result }
 {
@@ -32,7 +32,7 @@ pub(crate) fn is_needed(s: &Standing, r: RunNo, at: u32) -> bool
 fn binds_item(s: &Standing, r: RunNo, item: Item) -> bool
     requires run { IsTrue (is_run (runs_of s.now.roster.now) r.0) }
     requires known { IsKnown (runs_of s.now.roster.now) item }
-    ensures { result ≡ of_run (binds s.now.book.now.items (runs_of s.now.roster.now) r.0) item }
+    ensures { result ≡ of_run (run_binds s.now.book.now.items (runs_of s.now.roster.now) r.0) item }
 {
     match item {
         Item::Ran(x) => binds(s, r, x),
@@ -45,7 +45,7 @@ fn binds_item(s: &Standing, r: RunNo, item: Item) -> bool
 fn binds(s: &Standing, r: RunNo, x: RunNo) -> bool
     requires run { IsTrue (is_run (runs_of s.now.roster.now) r.0) }
     requires other { IsTrue (is_run (runs_of s.now.roster.now) x.0) }
-    ensures { result ≡ binds s.now.book.now.items (runs_of s.now.roster.now) r.0 x.0 }
+    ensures { result ≡ run_binds s.now.book.now.items (runs_of s.now.roster.now) r.0 x.0 }
 {
     match s.book.end_of(x) {
         None => goes_on(s, r, x),

@@ -6,9 +6,9 @@ ghost use Rattle.command_rules.specs.Items.{of_run};
 ghost use Rattle.command_rules.specs.Rosters.{commands_of, is_run, runs_of};
 ghost use Rattle.serial_line.specs.Marks.{items_of};
 ghost use Rattle.timeline_scheduler.specs.Bases.{seeds};
-ghost use Rattle.timeline_scheduler.specs.Gathered.{AreKnown};
+ghost use Rattle.timeline_scheduler.specs.Gathered.{ItemsAreKnown};
 ghost use Rattle.timeline_scheduler.specs.Scratches.{HoldsTimes, planned_in};
-ghost use Rattle.timeline_scheduler.specs.Slots.{AreFollowed, AreHomed, is_misfit, passed_set, plan_behind};
+ghost use Rattle.timeline_scheduler.specs.Slots.{AreFollowed, RunsAreHomed, is_misfit, passed_set, plan_behind};
 
 use crate::bases::is_needed;
 use crate::gathered::Gathered;
@@ -30,9 +30,9 @@ pub struct Scratch {
 
 impl Model for Scratch {
     ghost use Rattle.std.specs.Prelude.{length, vec_capacity, ◌≡◌, ◌≤◌};
-    ghost use Rattle.timeline_scheduler.specs.Scratches.{Room};
+    ghost use Rattle.timeline_scheduler.specs.Scratches.{ScratchRoom};
 
-    ghost Value = { Room };
+    ghost Value = { ScratchRoom };
 
     ghost view = { λ s. record { slots = s.slots; before = s.before.items; items = s.items } };
 
@@ -98,7 +98,7 @@ impl Scratch {
     pub(crate) fn seed(&mut self, s: &Standing, r: RunNo)
         requires room { length s.now.line.now.marks ≤ self.old.items }
         requires run { IsTrue (is_run (runs_of s.now.roster.now) r.0) }
-        requires known { AreKnown (runs_of s.now.roster.now) (items_of s.now.line.now.marks) }
+        requires known { ItemsAreKnown (runs_of s.now.roster.now) (items_of s.now.line.now.marks) }
         ensures flags { self.new ≡ record self.old { before = seeds s.now.book.now.items (runs_of s.now.roster.now) r.0 s.now.line.now.marks } }
         ensures few { length s.now.line.now.marks < 2 ^ 32 }
     {
@@ -111,7 +111,7 @@ impl Scratch {
     /// The items that must stand before one of the set are put in.
     pub(crate) fn close(&mut self, s: &Standing)
         requires size { length self.old.before ≡ length s.now.line.now.marks }
-        requires known { AreKnown (runs_of s.now.roster.now) (items_of s.now.line.now.marks) }
+        requires known { ItemsAreKnown (runs_of s.now.roster.now) (items_of s.now.line.now.marks) }
         ensures { self.new ≡ record self.old { before = closure (meet (runs_of s.now.roster.now)) self.old.before (items_of s.now.line.now.marks) } }
     {
         let mut gathered = Gathered::new();
@@ -130,8 +130,8 @@ impl Scratch {
         requires size { length self.old.slots ≡ length s.now.table.now }
         requires flags { length self.old.before ≡ length s.now.line.now.marks }
         requires run { IsTrue (is_run (runs_of s.now.roster.now) r.0) }
-        requires known { AreKnown (runs_of s.now.roster.now) (items_of s.now.line.now.marks) }
-        requires homed { AreHomed (length s.now.table.now) (runs_of s.now.roster.now) }
+        requires known { ItemsAreKnown (runs_of s.now.roster.now) (items_of s.now.line.now.marks) }
+        requires homed { RunsAreHomed (length s.now.table.now) (runs_of s.now.roster.now) }
         requires followed { AreFollowed (runs_of s.now.roster.now) r.0 (option_map (λ b. b.now) followed) }
         ensures times { HoldsTimes self.new.slots (plan_behind (passed_set s.now.table.now s.now.book.now.items (runs_of s.now.roster.now) r.0 (chosen self.old.before (items_of s.now.line.now.marks)) self.old.slots) (commands_of (runs_of s.now.roster.now) r.0) moment) }
         ensures rest { self.new ≡ record self.old { slots = self.new.slots } }

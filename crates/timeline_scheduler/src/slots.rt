@@ -11,7 +11,7 @@ ghost use Rattle.lineage_table.specs.Accesses.{access_of, has_access};
 ghost use Rattle.lineage_table.specs.Lineages.{accesses_at};
 ghost use Rattle.timeline_scheduler.specs.Gathered.{IsKnown};
 ghost use Rattle.timeline_scheduler.specs.Scratches.{HoldsTimes, planned_in};
-ghost use Rattle.timeline_scheduler.specs.Slots.{AreFollowed, AreHomed, changed, cleared, devices_among, devices_passed, is_among, is_misfit, is_with_access, overlaps, passed_item, plan_behind, slot_at, slot_behind, slot_passed, slot_waiting, used_again, whole_passed};
+ghost use Rattle.timeline_scheduler.specs.Slots.{AreFollowed, RunsAreHomed, changed, cleared, devices_among, devices_passed, is_device_followed, is_misfit, is_with_access, overlaps, passed_item, plan_behind, slot_at, slot_behind, slot_passed, slot_waiting, used_again, whole_passed};
 
 use chain_arena::Knot;
 use command_rules::IndexedRoster;
@@ -100,7 +100,7 @@ impl Slots {
         requires size { length self.old ≡ length s.now.table.now }
         requires run { IsTrue (is_run (runs_of s.now.roster.now) r.0) }
         requires known { IsKnown (runs_of s.now.roster.now) item }
-        requires homed { AreHomed (length s.now.table.now) (runs_of s.now.roster.now) }
+        requires homed { RunsAreHomed (length s.now.table.now) (runs_of s.now.roster.now) }
         requires followed { AreFollowed (runs_of s.now.roster.now) r.0 (option_map (λ b. b.now) followed) }
         ensures { self.new ≡ passed_item s.now.table.now s.now.book.now.items (runs_of s.now.roster.now) r.0 item self.old }
     {
@@ -146,7 +146,7 @@ impl Slots {
     fn wait_for_writer(&mut self, roster: &IndexedRoster, r: RunNo, x: RunNo, whole: u64)
         requires run { IsTrue (is_run (runs_of roster.now) r.0) }
         requires writer { IsTrue (is_run (runs_of roster.now) x.0) }
-        requires homed { AreHomed (length self.old) (runs_of roster.now) }
+        requires homed { RunsAreHomed (length self.old) (runs_of roster.now) }
         ensures { self.new ≡ changed (slot_waiting (runs_of roster.now) r.0 x.0 whole) (devices_among (runs_of roster.now) r.0 (length self.old)) self.old }
     {
         roster.kept();
@@ -165,7 +165,7 @@ impl Slots {
     /// Asks that nothing is planned yet.
     pub(crate) fn plan(&mut self, roster: &IndexedRoster, r: RunNo, moment: u64)
         requires run { IsTrue (is_run (runs_of roster.now) r.0) }
-        requires homed { AreHomed (length self.old) (runs_of roster.now) }
+        requires homed { RunsAreHomed (length self.old) (runs_of roster.now) }
         requires none { (d : ℕ) → (slot_at self.old d).planned ≡ None }
         ensures times { HoldsTimes self.new (plan_behind self.old (commands_of (runs_of roster.now) r.0) moment) }
         ensures size { length self.new ≡ length self.old }
@@ -261,7 +261,7 @@ fn find(table: &Table, d: DeviceNo, x: RunNo, near: &mut Option<Knot>) -> Access
 
 /// The devices among these to which the run has an access. `None`, for all, where none are named.
 fn devices_to_pass(table: &Table, x: RunNo, among: Option<&DeviceSet>) -> Option<DeviceSet>
-    ensures devices { (d : ℕ) → is_with_access table.now x.0 result d ≡ (has_access x.0 (accesses_at table.now d) && is_among (option_map (λ b. b.now) among.entry) d) }
+    ensures devices { (d : ℕ) → is_with_access table.now x.0 result d ≡ (has_access x.0 (accesses_at table.now d) && is_device_followed (option_map (λ b. b.now) among.entry) d) }
     ensures homed { IfSome result (λ found. (d : ℕ) → set.contains found d ≡ true → (d < length table.now) × (d < most_devices)) }
 {
     match among {

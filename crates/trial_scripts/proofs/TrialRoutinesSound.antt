@@ -3,7 +3,7 @@ use Rattle.home_types.specs.declared.commands.Job.TheVariants.{Check, Load, Set,
 use Rattle.home_types.specs.declared.kinds.Kind.TheVariants.{Range}
 use Rattle.routine_reader.specs.Routines.{routine_names}
 use Rattle.routine_reader.specs.Scripts.{PlainRoutine}
-use Rattle.routine_reader.specs.Sound.{AreDifferent, IsSoundCommand, IsSoundRoutine, suits}
+use Rattle.routine_reader.specs.Sound.{AreDifferent, IsSoundCommand, IsSoundRoutine, suits_device}
 use Rattle.seeded_draws.specs.Draws.{below, drawn}
 use Rattle.std.proofs.Common.{Bool, List, [], ap, arith, false, length, map, refl, subst, suc, sym, true, zero, ℕ, ◌+◌, ◌<◌, ◌≡◌, ◌∙◌, ◌∷◌}
 use Rattle.std.proofs.lemmas.Grind.{common_steps}
@@ -14,23 +14,23 @@ use Rattle.std.specs.Prelude.{All, codes, if◌then◌else◌, ◌++◌, ◌==�
 use Rattle.trial_scripts.proofs.DrawnEach.{all_made, below_bound, length_made}
 use Rattle.trial_scripts.proofs.TrialDevicesSound.{devices_count, kind_of_device}
 use Rattle.trial_scripts.proofs.TrialNames.{are_different, name_is}
-use Rattle.trial_scripts.specs.Drawings.{draw_each, two_digits}
+use Rattle.trial_scripts.specs.Drawings.{draw_each, two_digit_text}
 use Rattle.trial_scripts.specs.TrialDevices.{device_count, trial_devices}
 use Rattle.trial_scripts.specs.TrialRoutines.{draw_command, draw_job, draw_job_of, draw_routine, draw_routines, draw_valued, routine_count}
 
-value_fits : (state : ℕ) → suits (Range 0 999) (Set (below (drawn state) 1000)) ≡ true
+value_fits : (state : ℕ) → suits_device (Range 0 999) (Set (below (drawn state) 1000)) ≡ true
 value_fits state = let b = below_bound (drawn state) 1000 (omega arith) in grind (arith, common_steps)
 
 -- a job that is drawn has a value from 0 to 999
-job_suits : (number state : ℕ) → suits (Range 0 999) (draw_job_of number state).made ≡ true
+job_suits : (number state : ℕ) → suits_device (Range 0 999) (draw_job_of number state).made ≡ true
 job_suits number state = by_number (number == 0) (number == 1) (number == 2)
   where
-    read : (two : Bool) → suits (Range 0 999) (if two then Load else Store) ≡ true
+    read : (two : Bool) → suits_device (Range 0 999) (if two then Load else Store) ≡ true
     read true = refl
     read false = refl
 
     by_number : (none one two : Bool)
-        → suits (Range 0 999) (if none then draw_valued Set state else (if one then draw_valued Check state else (record { made = if two then Load else Store; state = state }))).made ≡ true
+        → suits_device (Range 0 999) (if none then draw_valued Set state else (if one then draw_valued Check state else (record { made = if two then Load else Store; state = state }))).made ≡ true
     by_number true one two = value_fits state
     by_number false true two = value_fits state
     by_number false false two = read two
@@ -41,7 +41,7 @@ command_is_sound state =
     let device = below_bound (drawn state) device_count (omega arith) in
     record {
       device = subst (λ n. below (drawn state) device_count < n) (sym devices_count) device;
-      value = ap (λ kind. suits kind (draw_job (drawn state)).made) (kind_of_device (below (drawn state) device_count) device) ∙ job_suits (below (drawn (drawn state)) 4) (drawn (drawn state));
+      value = ap (λ kind. suits_device kind (draw_job (drawn state)).made) (kind_of_device (below (drawn state) device_count) device) ∙ job_suits (below (drawn (drawn state)) 4) (drawn (drawn state));
       when = omega arith;
       ms = omega arith;
       takes = omega arith;
@@ -66,12 +66,12 @@ pub routines_count : (state : ℕ) → length (draw_routines state).made ≡ rou
 unfolding draw_routines
 routines_count state = length_made draw_routine routine_count state
 
-names_made : (count state : ℕ) → routine_names (draw_each draw_routine count state).made ≡ map (λ k. codes "r" ++ two_digits k) (range_with_len 0 count)
+names_made : (count state : ℕ) → routine_names (draw_each draw_routine count state).made ≡ map (λ k. codes "r" ++ two_digit_text k) (range_with_len 0 count)
 unfolding draw_each draw_routine
 names_made zero state = refl
 names_made (suc count) state =
     let before = draw_each draw_routine count state in
-    let f : ℕ → List ℕ = λ k. codes "r" ++ two_digits k in
+    let f : ℕ → List ℕ = λ k. codes "r" ++ two_digit_text k in
     let name : PlainRoutine → List ℕ = λ routine. routine.name in
     let one : count + 1 ≡ suc count = omega arith in
     map-append name before.made ((draw_routine count before.state).made ∷ [])

@@ -15,5 +15,5 @@ draw_each draw (suc n) state =
     record { made = before.made ++ last.made ∷ []; state = last.state }
 
 -- a number below 100 in two digits
-abbrev pub two_digits : ℕ → List ℕ
-two_digits n = (48 + n / 10) ∷ (48 + n % 10) ∷ []
+abbrev pub two_digit_text : ℕ → List ℕ
+two_digit_text n = (48 + n / 10) ∷ (48 + n % 10) ∷ []

@@ -6,7 +6,7 @@ use Rattle.home_types.specs.declared.commands.Job.{Job}
 use Rattle.routine_reader.specs.Scripts.{PlainRoutine}
 use Rattle.seeded_draws.specs.Draws.{below, drawn}
 use Rattle.std.specs.Prelude.{Bool, List, codes, false, if◌then◌else◌, true, ℕ, ◌++◌, ◌==◌}
-use Rattle.trial_scripts.specs.Drawings.{Drawing, draw_each, two_digits}
+use Rattle.trial_scripts.specs.Drawings.{Drawing, draw_each, two_digit_text}
 use Rattle.trial_scripts.specs.TrialDevices.{device_count}
 
 -- how many there are
@@ -49,7 +49,7 @@ draw_command state =
 unfoldable pub draw_routine : ℕ → ℕ → Drawing PlainRoutine
 draw_routine number state =
     let commands = draw_each (λ _. draw_command) 4 state in
-    record { made = record { name = codes "r" ++ two_digits number; commands = commands.made }; state = commands.state }
+    record { made = record { name = codes "r" ++ two_digit_text number; commands = commands.made }; state = commands.state }
 
 unfoldable pub draw_routines : ℕ → Drawing (List PlainRoutine)
 draw_routines state = draw_each draw_routine routine_count state

@@ -9,7 +9,7 @@ use routine_reader::DeviceText;
 use std::alloc::Global;
 
 /// How many devices the home has.
-pub const DEVICES: u32 = 32;
+pub const HOME_DEVICES: u32 = 32;
 
 /// The greatest value of a device. The least is 0, and there it starts.
 const HIGHEST: Value = 999;
@@ -33,7 +33,7 @@ pub fn make_devices(alloc: Global) -> Result<List<DeviceText>, NoMemory>
     ensures { IfOk result (λ devices. map plain_device devices.items ≡ trial_devices) }
 {
     let mut devices = List::new(alloc);
-    'devices: for number in 0..DEVICES {
+    'devices: for number in 0..HOME_DEVICES {
         devices.push(make_device(alloc, number)?)?;
     }
     Ok(devices)

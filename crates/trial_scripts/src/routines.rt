@@ -6,7 +6,7 @@ ghost use Rattle.std.specs.Prelude.{◌≡◌, ◌<◌, IfOk, map};
 ghost use Rattle.trial_scripts.specs.Drawings.{draw_each};
 ghost use Rattle.trial_scripts.specs.TrialRoutines.{draw_command, draw_job, draw_routine, draw_routines};
 
-use crate::devices::DEVICES;
+use crate::devices::HOME_DEVICES;
 use crate::names::numbered_name;
 use home_types::{Command, DeviceNo, Guard, Job, List, NoMemory, Routine, Value};
 use routine_reader::RoutineText;
@@ -14,7 +14,7 @@ use seeded_draws::Draws;
 use std::alloc::Global;
 
 /// How many routines there are.
-pub const ROUTINES: u32 = 64;
+pub const HOME_ROUTINES: u32 = 64;
 
 /// How many commands a routine has.
 const COMMANDS: u32 = 4;
@@ -54,7 +54,7 @@ fn draw_job(draws: &mut Draws) -> Job
 fn draw_command(draws: &mut Draws) -> Command
     ensures { record { made = result; state = draws.new } ≡ draw_command draws.old }
 {
-    let device = DeviceNo(draws.below(u64::from(DEVICES)) as u16);
+    let device = DeviceNo(draws.below(u64::from(HOME_DEVICES)) as u16);
     let job = draw_job(draws);
     Command {
         device,
@@ -94,7 +94,7 @@ pub fn draw_routines(alloc: Global, draws: &mut Draws) -> Result<List<RoutineTex
     ensures { IfOk result (λ routines. record { made = map plain_routine routines.items; state = draws.new } ≡ draw_routines draws.old) }
 {
     let mut routines = List::new(alloc);
-    'routines: for number in 0..ROUTINES {
+    'routines: for number in 0..HOME_ROUTINES {
         routines.push(draw_routine(alloc, draws, number)?)?;
     }
     Ok(routines)

@@ -6,7 +6,7 @@ ghost use Rattle.std.specs.Prelude.{◌≡◌, ◌<◌, ◌≤◌, IfOk, map};
 ghost use Rattle.trial_scripts.specs.Drawings.{draw_each};
 ghost use Rattle.trial_scripts.specs.TrialWindows.{draw_run, draw_window, draw_windows, trial_time};
 
-use crate::routines::ROUTINES;
+use crate::routines::HOME_ROUTINES;
 use day_clock::When;
 use home_types::{List, NoMemory};
 use routine_reader::{RunText, WindowText};
@@ -43,7 +43,7 @@ fn draw_run(draws: &mut Draws) -> RunText
     ensures { record { made = result; state = draws.new } ≡ draw_run draws.old }
 {
     RunText {
-        routine: draws.below(u64::from(ROUTINES)) as u32,
+        routine: draws.below(u64::from(HOME_ROUTINES)) as u32,
         follows: None,
     }
 }

@@ -13,7 +13,7 @@ use Rattle.lock_leasing.specs.Waits.{down_at_end}
 use Rattle.lock_leasing.specs.Words.{has_touched}
 use Rattle.serial_line.proofs.Ties.{touched_in_line}
 use Rattle.serial_line.specs.Marks.{Mark, stands}
-use Rattle.serial_line.specs.Marks.{has_touched as mark_has_touched}
+use Rattle.serial_line.specs.Marks.{mark_has_touched}
 use Rattle.std.proofs.Common.{ap, arith, refl, sym, ◌∙◌}
 use Rattle.std.proofs.lemmas.Grind.{common_steps}
 use Rattle.std.specs.List.{list_any, range_with_len}

@@ -13,18 +13,18 @@ use Rattle.home_types.specs.declared.numbers.RunNo.{RunNo}
 use Rattle.lineage_table.specs.Lineages.{LineageState}
 use Rattle.lock_leasing.specs.Configurations.{read_of}
 use Rattle.lock_leasing.specs.Standings.{has_ended}
-use Rattle.serial_line.specs.Marks.{Mark, front_of, is_open, items_of}
+use Rattle.serial_line.specs.Marks.{Mark, front_of, is_open_run, items_of}
 use Rattle.serial_line.specs.Ties.{Each, EndsAs}
 use Rattle.std.proofs.Common.{ap, arith, refl, sym, ◌∙◌}
 use Rattle.std.proofs.lemmas.Bool.{eqb-true}
 use Rattle.std.proofs.lemmas.Grind.{common_steps}
 use Rattle.std.specs.Option.{option_or}
 use Rattle.std.specs.Prelude.{Bool, List, None, Option, Some, [], drop, false, if◌then◌else◌, is_none, is_some, not, suc, true, ℕ, ◌&&◌, ◌+◌, ◌==◌, ◌∷◌, ◌≡◌}
-use Rattle.visibility_models.specs.Models.{InOrder, MayAsk, Weakly}
+use Rattle.visibility_models.specs.Models.{InOrder, MayAskOfModel, Weakly}
 use Rattle.visibility_models.specs.Searches.{first_unended_before, is_strict_model, unended_run}
 
 -- an item that is no run which has not ended is not r, which has not, and is not waited for
-passed : (test : ℕ → Bool) (n : Reading) (history : List Kept) (r : ℕ) (m : Mark) (items : List Item) → ((x : ℕ) → end_of history x ≡ (n.run x).ended) → has_ended n r ≡ false → EndsAs (has_ended n) m → is_open m ≡ false
+passed : (test : ℕ → Bool) (n : Reading) (history : List Kept) (r : ℕ) (m : Mark) (items : List Item) → ((x : ℕ) → end_of history x ≡ (n.run x).ended) → has_ended n r ≡ false → EndsAs (has_ended n) m → is_open_run m ≡ false
     → first_unended_before test history r (m.item ∷ items) ≡ first_unended_before test history r items
 passed test n history r m items told lives as_told closed = by_item m.item m.ended as_told closed
   where
@@ -46,9 +46,9 @@ passed test n history r m items told lives as_told closed = by_item m.item m.end
 from_front : (test : ℕ → Bool) (n : Reading) (history : List Kept) (r : ℕ) (marks : List Mark) → ((x : ℕ) → end_of history x ≡ (n.run x).ended) → has_ended n r ≡ false → Each (EndsAs (has_ended n)) marks
     → first_unended_before test history r (items_of marks) ≡ first_unended_before test history r (drop (front_of marks) (items_of marks))
 from_front test n history r [] told lives all = refl
-from_front test n history r (m ∷ marks) told lives all = by_cases (is_open m) (passed test n history r m (items_of marks) told lives all.0) (from_front test n history r marks told lives all.1) refl
+from_front test n history r (m ∷ marks) told lives all = by_cases (is_open_run m) (passed test n history r m (items_of marks) told lives all.0) (from_front test n history r marks told lives all.1) refl
   where
-    by_cases : (b : Bool) → (is_open m ≡ false → first_unended_before test history r (m.item ∷ items_of marks) ≡ first_unended_before test history r (items_of marks)) → first_unended_before test history r (items_of marks) ≡ first_unended_before test history r (drop (front_of marks) (items_of marks)) → is_open m ≡ b
+    by_cases : (b : Bool) → (is_open_run m ≡ false → first_unended_before test history r (m.item ∷ items_of marks) ≡ first_unended_before test history r (items_of marks)) → first_unended_before test history r (items_of marks) ≡ first_unended_before test history r (drop (front_of marks) (items_of marks)) → is_open_run m ≡ b
         → first_unended_before test history r (m.item ∷ items_of marks) ≡ first_unended_before test history r (drop (if b then 0 else front_of marks + 1) (m.item ∷ items_of marks))
     by_cases true pass rest e = refl
     by_cases false pass rest e =
@@ -56,7 +56,7 @@ from_front test n history r (m ∷ marks) told lives all = by_cases (is_open m) 
         pass e ∙ rest ∙ ap (λ k. first_unended_before test history r (drop k (m.item ∷ items_of marks))) (sym next)
 
 -- where a strict model may be asked about the run, the search for the one that it waits for may begin there
-pub waits_from_front : (test : ℕ → Bool) (model : Visibility) (table : List LineageState) (line : List Mark) (history : List Kept) (runs : List Run) (r : ℕ) → MayAsk model table line history runs r → is_strict_model model ≡ true
+pub waits_from_front : (test : ℕ → Bool) (model : Visibility) (table : List LineageState) (line : List Mark) (history : List Kept) (runs : List Run) (r : ℕ) → MayAskOfModel model table line history runs r → is_strict_model model ≡ true
     → first_unended_before test history r (items_of line) ≡ first_unended_before test history r (drop (front_of line) (items_of line))
 waits_from_front test model table line history runs r (InOrder s is turn) strict =
     from_front test (read_of s) history r line (λ x. ap (λ h. end_of h x) (sym is.its_history) ∙ end_is s.setting s.history x is.well_formed) (unended ((read_of s).run r) turn.live) is.its_line.ends

@@ -22,7 +22,7 @@ use Rattle.std.proofs.lemmas.Bool.{both_ways}
 use Rattle.std.proofs.lemmas.Grind.{common_steps}
 use Rattle.std.specs.List.{list_any}
 use Rattle.std.specs.Prelude.{IsTrue, List, None, Option, Some, [], false, is_none, is_some, not, option_map, slice_get, suc, true, unwrap_or, zero, ℕ, ◌&&◌, ◌||◌, ◌∷◌, ◌≡◌}
-use Rattle.visibility_models.specs.Models.{InOrder, IsUnderWay, MayAsk, Weakly}
+use Rattle.visibility_models.specs.Models.{InOrder, IsUnderWay, MayAskOfModel, Weakly}
 use Rattle.visibility_models.specs.Searches.{AreRunsOf, IsRunOf, is_strict_model}
 
 -- a run of the line is placed
@@ -83,6 +83,6 @@ in_order s table line history runs r is turn =
         at (Some e) live = absurd (grind (arith, common_steps))
 
 -- where a strict model may be asked about the run
-pub on_its_way : (model : Visibility) (table : List LineageState) (line : List Mark) (history : List Kept) (runs : List Run) (r : RunNo) → MayAsk model table line history runs r.0 → is_strict_model model ≡ true → IsOnItsWay line runs r
+pub on_its_way : (model : Visibility) (table : List LineageState) (line : List Mark) (history : List Kept) (runs : List Run) (r : RunNo) → MayAskOfModel model table line history runs r.0 → is_strict_model model ≡ true → IsOnItsWay line runs r
 on_its_way model table line history runs r (InOrder s is turn) strict = in_order s table line history runs r is turn
 on_its_way model table line history runs r (Weakly s is turn weak) strict = absurd (both_ways (is_strict_model model) (ap is_strict_model weak) strict)

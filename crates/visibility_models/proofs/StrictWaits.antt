@@ -12,7 +12,7 @@ use Rattle.home_types.specs.declared.modes.Visibility.{Visibility}
 use Rattle.lineage_table.specs.Lineages.{LineageState}
 use Rattle.lock_leasing.specs.Configurations.{Configuration, read_of}
 use Rattle.lock_leasing.specs.Standings.{IsStandingOf}
-use Rattle.lock_leasing.specs.Waits.{bars, strict_wait}
+use Rattle.lock_leasing.specs.Waits.{model_bars, strict_wait}
 use Rattle.lock_leasing.specs.Words.{live_runs}
 use Rattle.serial_line.specs.Marks.{Mark, items_of}
 use Rattle.std.proofs.Common.{ap, arith, refl, sym, ◌∙◌}
@@ -42,18 +42,18 @@ found_before test n history r (Ran x ∷ items) live =
     at false rest here = grind (arith, common_steps)
 
 pub wait_is : (model : Visibility) (s : Configuration) (r : ℕ) (table : List LineageState) (line : List Mark) (history : List Kept) (runs : List Run) → IsStandingOf s table line history runs
-    → first_unended_before (bars model runs r) history r (items_of line) ≡ option_map run_no (strict_wait (under model s.setting) (read_of s) r)
+    → first_unended_before (model_bars model runs r) history r (items_of line) ≡ option_map run_no (strict_wait (under model s.setting) (read_of s) r)
 wait_is model s r table line history runs is =
-    ap (first_unended_before (bars model runs r) history r) is.its_line.items
-    ∙ found_before (bars model runs r) (read_of s) history r (read_of s).line (λ x among. live_in_line s x table line history runs is among)
-    ∙ ap (λ rs. option_map run_no (find (bars model rs r) (live_runs (read_of s) (before r (read_of s).line)))) (sym is.its_roster)
+    ap (first_unended_before (model_bars model runs r) history r) is.its_line.items
+    ∙ found_before (model_bars model runs r) (read_of s) history r (read_of s).line (λ x among. live_in_line s x table line history runs is among)
+    ∙ ap (λ rs. option_map run_no (find (model_bars model rs r) (live_runs (read_of s) (before r (read_of s).line)))) (sym is.its_roster)
     ∙ by_model model
   where
     none_of : (xs : List ℕ) → find (λ x. false) xs ≡ None
     none_of [] = refl
     none_of (x ∷ xs) = none_of xs
 
-    by_model : (m : Visibility) → option_map run_no (find (bars m s.setting.runs r) (live_runs (read_of s) (before r (read_of s).line))) ≡ option_map run_no (strict_wait (under m s.setting) (read_of s) r)
+    by_model : (m : Visibility) → option_map run_no (find (model_bars m s.setting.runs r) (live_runs (read_of s) (before r (read_of s).line))) ≡ option_map run_no (strict_wait (under m s.setting) (read_of s) r)
     by_model Weak = ap (option_map run_no) (none_of (live_runs (read_of s) (before r (read_of s).line)))
     by_model Global = refl
     by_model Partitioned = refl

@@ -21,9 +21,9 @@ pub record IsUnderWay (n : Reading) (r : RunId) : Type 0 where
   pub sound : is_doomed n r ≡ false
 
 -- the parts belong to one window, in which the run is under way; where its model is the weak one, no other is asked about
-pub data MayAsk (model : Visibility) (table : List LineageState) (line : List Mark) (history : List Kept) (runs : List Run) (r : RunId) : Type 0 where
-  InOrder : (s : Configuration) (parts : IsStandingOf s table line history runs) (turn : IsUnderWay (read_of s) r) → MayAsk model table line history runs r
-  Weakly : (s : Configuration) (parts : IsWeakStandingOf s table history runs) (turn : IsUnderWay (read_of s) r) (weak : model ≡ Weak) → MayAsk model table line history runs r
+pub data MayAskOfModel (model : Visibility) (table : List LineageState) (line : List Mark) (history : List Kept) (runs : List Run) (r : RunId) : Type 0 where
+  InOrder : (s : Configuration) (parts : IsStandingOf s table line history runs) (turn : IsUnderWay (read_of s) r) → MayAskOfModel model table line history runs r
+  Weakly : (s : Configuration) (parts : IsWeakStandingOf s table history runs) (turn : IsUnderWay (read_of s) r) (weak : model ≡ Weak) → MayAskOfModel model table line history runs r
 
 -- the setting, under this model
 abbrev pub under : Visibility → Setting → Setting

@@ -10,7 +10,7 @@ use Rattle.home_types.specs.declared.modes.Visibility.TheVariants.{Eventual, Glo
 use Rattle.home_types.specs.declared.modes.Visibility.{Visibility}
 use Rattle.home_types.specs.declared.numbers.RunNo.{RunNo}
 use Rattle.lineage_table.specs.Lineages.{LineageState, lineage_at}
-use Rattle.serial_line.specs.Marks.{Mark, has_touched}
+use Rattle.serial_line.specs.Marks.{Mark, mark_has_touched}
 use Rattle.std.specs.List.{range_with_len}
 use Rattle.std.specs.Option.{option_or}
 use Rattle.std.specs.Prelude.{Bool, IsTrue, List, None, Option, Some, [], false, find, if◌then◌else◌, is_none, length, not, slice_get, true, ℕ, ⊤, ◌&&◌, ◌∷◌, ◌≡◌}
@@ -44,7 +44,7 @@ AreRunsOf runs items = (at : ℕ) (i : Item) → slice_get items at ≡ Some i �
 
 -- the device is counted down, and the run has it in its footprint and has touched it
 abbrev pub is_down_for : List LineageState → List Mark → List Run → RunId → DeviceId → Bool
-is_down_for table line runs r d = not (lineage_at table d).up && touches runs r d && has_touched r d line
+is_down_for table line runs r d = not (lineage_at table d).up && touches runs r d && mark_has_touched r d line
 
 -- the smallest such device
 abbrev pub first_down_for : List LineageState → List Mark → List Run → RunId → Option DeviceId

@@ -3,7 +3,7 @@ ghost use Rattle.std.specs.Prelude.{◌≡◌, IsTrue, None, option_map, true};
 ghost use Rattle.command_rules.specs.Rosters.{device_no, is_run, runs_of};
 ghost use Rattle.home_types.specs.declared.items.Item.TheVariants.{Ran};
 ghost use Rattle.serial_line.specs.Marks.{stands};
-ghost use Rattle.visibility_models.specs.Models.{IsDownAtEndOf, MayAsk};
+ghost use Rattle.visibility_models.specs.Models.{IsDownAtEndOf, MayAskOfModel};
 ghost use Rattle.visibility_models.specs.Searches.{first_down_for};
 
 use crate::models::is_strict;
@@ -16,7 +16,7 @@ use lock_leasing::Standing;
 /// under the eventual and the weak model. The four parts belong to one window, and `r` is placed, neither doomed nor
 /// ended. Takes no memory, and reads nothing of the history.
 pub fn down_at_end(model: Visibility, s: &Standing, r: RunNo) -> Option<DeviceNo>
-    requires { MayAsk model s.now.table.now s.now.line.now.marks s.now.book.now.items (runs_of s.now.roster.now) r.0 }
+    requires { MayAskOfModel model s.now.table.now s.now.line.now.marks s.now.book.now.items (runs_of s.now.roster.now) r.0 }
     ensures down { IsDownAtEndOf model s.now.table.now s.now.line.now.marks s.now.book.now.items (runs_of s.now.roster.now) r.0 result }
     ensures weak { model ≡ Visibility.Weak → result ≡ None }
 {

@@ -1,10 +1,10 @@
 //! For which run a model lets a run wait.
-ghost use Rattle.lock_leasing.specs.Waits.{bars};
+ghost use Rattle.lock_leasing.specs.Waits.{model_bars};
 ghost use Rattle.std.specs.Prelude.{◌≡◌, IsTrue, None, drop};
 ghost use Rattle.command_rules.specs.Items.{is_ran};
 ghost use Rattle.command_rules.specs.Rosters.{is_run, runs_of};
 ghost use Rattle.serial_line.specs.Marks.{front_of, items_of};
-ghost use Rattle.visibility_models.specs.Models.{IsStrictWaitOf, MayAsk};
+ghost use Rattle.visibility_models.specs.Models.{IsStrictWaitOf, MayAskOfModel};
 ghost use Rattle.visibility_models.specs.Searches.{AreRunsOf, IsRunOf, first_unended_before, unended_run};
 
 use crate::models::is_strict;
@@ -19,7 +19,7 @@ use lock_leasing::Standing;
 /// and `r` is placed, neither doomed nor ended. Takes no memory, and reads of the history no more than the ends of runs.
 #[inline(always)]
 pub fn may_go(model: Visibility, s: &Standing, r: RunNo) -> Option<RunNo>
-    requires { MayAsk model s.now.table.now s.now.line.now.marks s.now.book.now.items (runs_of s.now.roster.now) r.0 }
+    requires { MayAskOfModel model s.now.table.now s.now.line.now.marks s.now.book.now.items (runs_of s.now.roster.now) r.0 }
     ensures wait { IsStrictWaitOf model s.now.table.now s.now.line.now.marks s.now.book.now.items (runs_of s.now.roster.now) r.0 result }
     ensures weak { model ≡ Visibility.Weak → result ≡ None }
 {
@@ -36,8 +36,8 @@ pub fn may_go(model: Visibility, s: &Standing, r: RunNo) -> Option<RunNo>
 fn find_unended(model: Visibility, s: &Standing, r: RunNo) -> Option<RunNo>
     requires run { IsTrue (is_run (runs_of s.now.roster.now) r.0) }
     requires known { AreRunsOf (runs_of s.now.roster.now) (items_of s.now.line.now.marks) }
-    requires past { first_unended_before (bars model (runs_of s.now.roster.now) r.0) s.now.book.now.items r.0 (items_of s.now.line.now.marks) ≡ first_unended_before (bars model (runs_of s.now.roster.now) r.0) s.now.book.now.items r.0 (drop (front_of s.now.line.now.marks) (items_of s.now.line.now.marks)) }
-    ensures { result ≡ first_unended_before (bars model (runs_of s.now.roster.now) r.0) s.now.book.now.items r.0 (items_of s.now.line.now.marks) }
+    requires past { first_unended_before (model_bars model (runs_of s.now.roster.now) r.0) s.now.book.now.items r.0 (items_of s.now.line.now.marks) ≡ first_unended_before (model_bars model (runs_of s.now.roster.now) r.0) s.now.book.now.items r.0 (drop (front_of s.now.line.now.marks) (items_of s.now.line.now.marks)) }
+    ensures { result ≡ first_unended_before (model_bars model (runs_of s.now.roster.now) r.0) s.now.book.now.items r.0 (items_of s.now.line.now.marks) }
 {
     'items: for at in s.line.front()..s.line.len() {
         let item = s.line.get(at).unwrap();
@@ -65,7 +65,7 @@ fn is_ran(r: RunNo, item: Item) -> bool
 fn unended_run(model: Visibility, s: &Standing, r: RunNo, item: Item) -> Option<RunNo>
     requires run { IsTrue (is_run (runs_of s.now.roster.now) r.0) }
     requires known { IsRunOf (runs_of s.now.roster.now) item }
-    ensures { result ≡ unended_run (bars model (runs_of s.now.roster.now) r.0) s.now.book.now.items item }
+    ensures { result ≡ unended_run (model_bars model (runs_of s.now.roster.now) r.0) s.now.book.now.items item }
 {
     match item {
         Item::Ran(x) if s.book.end_of(x).is_none() && bars(model, s.roster, r, x) => Some(x),
@@ -77,7 +77,7 @@ fn unended_run(model: Visibility, s: &Standing, r: RunNo, item: Item) -> Option<
 fn bars(model: Visibility, roster: &IndexedRoster, r: RunNo, x: RunNo) -> bool
     requires run { IsTrue (is_run (runs_of roster.now) r.0) }
     requires other { IsTrue (is_run (runs_of roster.now) x.0) }
-    ensures { result ≡ bars model (runs_of roster.now) r.0 x.0 }
+    ensures { result ≡ model_bars model (runs_of roster.now) r.0 x.0 }
 {
     match model {
         Visibility::Global => true,

@@ -12,7 +12,7 @@ use Rattle.history_book.specs.declared.entries.Entry.TheVariants.{Ended}
 use Rattle.home_types.specs.HomeStates.{stand_at}
 use Rattle.home_types.specs.declared.items.Item.TheVariants.{Back, Failed, Ran}
 use Rattle.home_types.specs.declared.items.Item.{Item}
-use Rattle.lineage_table.specs.Accesses.{without}
+use Rattle.lineage_table.specs.Accesses.{accesses_without}
 use Rattle.lineage_table.specs.Lineages.{LineageState, removed}
 use Rattle.lock_leasing.specs.Configurations.{Grips}
 use Rattle.lock_leasing.specs.Tables.{uses}
@@ -48,9 +48,9 @@ aborted_kept w n g r cause read may d s kept = record {
   may_pass = λ q passed. put_says (may_by g d) n.run r new refl q ∙ kept.may_pass q passed;
   committed = kept.committed ∙ sym (ap (λ o. unwrap_or o (stand_at w.first d).value) (write_without n m d r n.line none others_write None));
   accesses =
-      ap (without r) kept.accesses
+      ap (accesses_without r) kept.accesses
       ∙ without_along (uses w n d) (uses w m d) (commits_write n d) (commits_write m d) (access_read w n g kept.passed d) (access_read w m g kept.passed d) r n.line (λ x. refl) (λ i. uncommitted i && is_some ((n.run r).on d).wrote) others;
-  room = subst (λ x. x ≤ (removed r s).room) (sym (same_unplaced n m d 1 w.runs (put_says (λ q o. is_none o.placed) n.run r new refl))) (more (unplaced_on w n d) s.room (length s.accesses - length (without r s.accesses)) kept.room);
+  room = subst (λ x. x ≤ (removed r s).room) (sym (same_unplaced n m d 1 w.runs (put_says (λ q o. is_none o.placed) n.run r new refl))) (more (unplaced_on w n d) s.room (length s.accesses - length (accesses_without r s.accesses)) kept.room);
   up = kept.up;
 }
   where

@@ -8,7 +8,7 @@ use Rattle.home_types.specs.declared.items.Item.TheVariants.{Back, Failed, Ran}
 use Rattle.home_types.specs.declared.items.Item.{Item}
 use Rattle.lineage_table.proofs.Splits.{put_at}
 use Rattle.home_types.specs.declared.numbers.RunNo.{RunNo}
-use Rattle.lineage_table.specs.Accesses.{has_access, is_acquired, is_of, is_released, put_before, put_before_run, some_acquired, with_change, without}
+use Rattle.lineage_table.specs.Accesses.{accesses_without, has_access, is_acquired, is_of, is_released, put_access_before, put_before_run, some_acquired, with_change}
 use Rattle.lineage_table.specs.declared.accesses.Status.TheVariants.{Scheduled}
 use Rattle.lineage_table.specs.declared.accesses.Access.{Access}
 use Rattle.std.proofs.Common.{ap, arith, refl, subst, sym, ◌∙◌}
@@ -232,23 +232,23 @@ covers_without c e r (Ran q ∷ is) none others = at_ (q.0 == r) refl (covers_wi
 covers_without c e r (Failed d k ∷ is) none others = covers_without c e r is none others
 covers_without c e r (Back d k ∷ is) none others = covers_without c e r is none others
 
-pub without_along : (p q c e : ℕ → Bool) (f h : ℕ → Access) (r : ℕ) (is : List Item) → ((x : ℕ) → (f x).run.0 ≡ x) → c r ≡ false → SameBut r p q c e f h → without r (accesses_along p c f is) ≡ accesses_along q e h (line_without r is)
+pub without_along : (p q c e : ℕ → Bool) (f h : ℕ → Access) (r : ℕ) (is : List Item) → ((x : ℕ) → (f x).run.0 ≡ x) → c r ≡ false → SameBut r p q c e f h → accesses_without r (accesses_along p c f is) ≡ accesses_along q e h (line_without r is)
 without_along p q c e f h r [] own none others = refl
 without_along p q c e f h r (Ran x ∷ is) own none others = at_ (x.0 == r) refl (without_along p q c e f h r is own none others)
   where
-    gone : (b : Bool) → (x.0 == r) ≡ true → without r (if b then (f x.0 ∷ accesses_along p c f is) else accesses_along p c f is) ≡ without r (accesses_along p c f is)
-    gone true k = λ i. if not ((ap (λ y. y == r) (own x.0) ∙ k) i) then (f x.0 ∷ without r (accesses_along p c f is)) else without r (accesses_along p c f is)
+    gone : (b : Bool) → (x.0 == r) ≡ true → accesses_without r (if b then (f x.0 ∷ accesses_along p c f is) else accesses_along p c f is) ≡ accesses_without r (accesses_along p c f is)
+    gone true k = λ i. if not ((ap (λ y. y == r) (own x.0) ∙ k) i) then (f x.0 ∷ accesses_without r (accesses_along p c f is)) else accesses_without r (accesses_along p c f is)
     gone false k = refl
 
-    kept : (b : Bool) → (x.0 == r) ≡ false → without r (accesses_along p c f is) ≡ accesses_along q e h (line_without r is)
-        → without r (if b then (f x.0 ∷ accesses_along p c f is) else accesses_along p c f is) ≡ (if b then (h x.0 ∷ accesses_along q e h (line_without r is)) else accesses_along q e h (line_without r is))
+    kept : (b : Bool) → (x.0 == r) ≡ false → accesses_without r (accesses_along p c f is) ≡ accesses_along q e h (line_without r is)
+        → accesses_without r (if b then (f x.0 ∷ accesses_along p c f is) else accesses_along p c f is) ≡ (if b then (h x.0 ∷ accesses_along q e h (line_without r is)) else accesses_along q e h (line_without r is))
     kept true k rest =
-        (λ i. if not ((ap (λ y. y == r) (own x.0) ∙ k) i) then (f x.0 ∷ without r (accesses_along p c f is)) else without r (accesses_along p c f is))
+        (λ i. if not ((ap (λ y. y == r) (own x.0) ∙ k) i) then (f x.0 ∷ accesses_without r (accesses_along p c f is)) else accesses_without r (accesses_along p c f is))
         ∙ (λ i. sym (others.access x.0 (eqb-false x.0 r k)) i ∷ rest i)
     kept false k rest = rest
 
-    at_ : (b : Bool) → (x.0 == r) ≡ b → without r (accesses_along p c f is) ≡ accesses_along q e h (line_without r is)
-        → without r (if p x.0 && not (list_any (of_run c) is) then (f x.0 ∷ accesses_along p c f is) else accesses_along p c f is) ≡ accesses_along q e h (if not b then (Ran x ∷ line_without r is) else line_without r is)
+    at_ : (b : Bool) → (x.0 == r) ≡ b → accesses_without r (accesses_along p c f is) ≡ accesses_along q e h (line_without r is)
+        → accesses_without r (if p x.0 && not (list_any (of_run c) is) then (f x.0 ∷ accesses_along p c f is) else accesses_along p c f is) ≡ accesses_along q e h (if not b then (Ran x ∷ line_without r is) else line_without r is)
     at_ true k rest = gone (p x.0 && not (list_any (of_run c) is)) k ∙ rest
     at_ false k rest =
         kept (p x.0 && not (list_any (of_run c) is)) k rest
@@ -375,7 +375,7 @@ apart_rest a q is apart x there = apart x (or_right (q.0 == x) (list_any (is_ran
 
 -- an access is put behind those of the front, before the first one of a run of the back: that one and those behind it wait again
 pub put_between : (p c : ℕ → Bool) (f h : ℕ → Access) (y : Access) (a : List Access) (is : List Item) → RunsAreDistinct is → ((x : ℕ) → (f x).run.0 ≡ x) → ((x : ℕ) → list_any (is_ran x) is ≡ true → p x ≡ true → h x ≡ waits_again (f x)) → AreApart a is
-    → put_before (first_with_access (a ++ accesses_along p c f is) is) y (with_again (first_with_access (a ++ accesses_along p c f is) is) (a ++ accesses_along p c f is)) ≡ a ++ y ∷ accesses_along p c h is
+    → put_access_before (first_with_access (a ++ accesses_along p c f is) is) y (with_again (first_with_access (a ++ accesses_along p c f is) is) (a ++ accesses_along p c f is)) ≡ a ++ y ∷ accesses_along p c h is
 unfolding RunsAreDistinct
 put_between p c f h y a [] distinct own each apart = ap (λ xs. xs ++ y ∷ []) (append-nil a)
 put_between p c f h y a (Ran q ∷ is) distinct own each apart = at_ (p q.0) refl (not (list_any (of_run c) is)) (put_between p c f h y a is distinct.1 own (λ x there. each x (or_right (q.0 == x) (list_any (is_ran x) is) there)) (apart_rest a q is apart))
@@ -392,19 +392,19 @@ put_between p c f h y a (Ran q ∷ is) distinct own each apart = at_ (p q.0) ref
     again_own : is_of q.0 (waits_again (f q.0)) ≡ true
     again_own = ap (λ (r : RunNo). r.0 == q.0) (again_run (f q.0)) ∙ its_own p c f own q.0
 
-    nowhere : put_before (first_with_access (a ++ rest_) is) y (with_again (first_with_access (a ++ rest_) is) (a ++ rest_)) ≡ a ++ y ∷ accesses_along p c h is
-        → put_before (first_with_access (a ++ rest_) (Ran q ∷ is)) y (with_again (first_with_access (a ++ rest_) (Ran q ∷ is)) (a ++ rest_)) ≡ a ++ y ∷ accesses_along p c h is
+    nowhere : put_access_before (first_with_access (a ++ rest_) is) y (with_again (first_with_access (a ++ rest_) is) (a ++ rest_)) ≡ a ++ y ∷ accesses_along p c h is
+        → put_access_before (first_with_access (a ++ rest_) (Ran q ∷ is)) y (with_again (first_with_access (a ++ rest_) (Ran q ∷ is)) (a ++ rest_)) ≡ a ++ y ∷ accesses_along p c h is
     nowhere rest =
-        (λ i. put_before (if absent i then Some q else first_with_access (a ++ rest_) is) y (with_again (if absent i then Some q else first_with_access (a ++ rest_) is) (a ++ rest_))) ∙ rest
+        (λ i. put_access_before (if absent i then Some q else first_with_access (a ++ rest_) is) y (with_again (if absent i then Some q else first_with_access (a ++ rest_) is) (a ++ rest_))) ∙ rest
       where
         absent : has_access q.0 (a ++ rest_) ≡ false
         absent = stands_nowhere p c f own q.0 a is none distinct.0
 
-    at_ : (u : Bool) → p q.0 ≡ u → (v : Bool) → put_before (first_with_access (a ++ rest_) is) y (with_again (first_with_access (a ++ rest_) is) (a ++ rest_)) ≡ a ++ y ∷ accesses_along p c h is
-        → put_before (first_with_access (a ++ (if u && v then (f q.0 ∷ rest_) else rest_)) (Ran q ∷ is)) y (with_again (first_with_access (a ++ (if u && v then (f q.0 ∷ rest_) else rest_)) (Ran q ∷ is)) (a ++ (if u && v then (f q.0 ∷ rest_) else rest_)))
+    at_ : (u : Bool) → p q.0 ≡ u → (v : Bool) → put_access_before (first_with_access (a ++ rest_) is) y (with_again (first_with_access (a ++ rest_) is) (a ++ rest_)) ≡ a ++ y ∷ accesses_along p c h is
+        → put_access_before (first_with_access (a ++ (if u && v then (f q.0 ∷ rest_) else rest_)) (Ran q ∷ is)) y (with_again (first_with_access (a ++ (if u && v then (f q.0 ∷ rest_) else rest_)) (Ran q ∷ is)) (a ++ (if u && v then (f q.0 ∷ rest_) else rest_)))
         ≡ a ++ y ∷ (if u && v then (h q.0 ∷ accesses_along p c h is) else accesses_along p c h is)
     at_ true e true rest =
-        (λ i. put_before (if here i then Some q else first_with_access (a ++ f q.0 ∷ rest_) is) y (with_again (if here i then Some q else first_with_access (a ++ f q.0 ∷ rest_) is) (a ++ f q.0 ∷ rest_)))
+        (λ i. put_access_before (if here i then Some q else first_with_access (a ++ f q.0 ∷ rest_) is) y (with_again (if here i then Some q else first_with_access (a ++ f q.0 ∷ rest_) is) (a ++ f q.0 ∷ rest_)))
         ∙ ap (put_before_run q.0 y) (again_from_at q.0 a (f q.0) rest_ none (its_own p c f own q.0))
         ∙ put_at q.0 y a (waits_again (f q.0)) (map waits_again rest_) none again_own
         ∙ (λ i. a ++ y ∷ sym (each q.0 (or_left (q.0 == q.0) (list_any (is_ran q.0) is) (eq-eqb q.0 q.0 refl)) e) i ∷ changed i)

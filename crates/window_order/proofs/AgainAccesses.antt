@@ -5,7 +5,7 @@ use Rattle.home_types.specs.declared.numbers.RunNo.{RunNo}
 use Rattle.lineage_table.proofs.Pairs.{Pairs, pairs_back, pairs_from_all}
 use Rattle.lineage_table.proofs.Splits.{behind_at, put_at, without_at}
 use Rattle.lineage_table.proofs.Steps.{status_at}
-use Rattle.lineage_table.specs.Accesses.{AreInTurn, AreOfTwoRuns, IsDisciplined, access_of, behind, has_access, is_acquired, is_of, is_released, is_scheduled, put_before, run_behind, some_acquired, status_of, without}
+use Rattle.lineage_table.specs.Accesses.{AreInTurn, AreOfTwoRuns, IsDisciplined, access_of, accesses_behind, accesses_without, has_access, is_acquired, is_of, is_released, is_scheduled, put_access_before, run_behind, some_acquired, status_of}
 use Rattle.lineage_table.specs.Lineages.{LineageState, removed, scheduled}
 use Rattle.lineage_table.specs.declared.accesses.Access.{Access}
 use Rattle.lineage_table.specs.declared.accesses.Status.TheVariants.{Acquired, Released, Scheduled}
@@ -145,7 +145,7 @@ module _ (q : RunNo) (x : Access) (s : LineageState) (disciplined : IsDiscipline
     fewer_ : length (accesses_from next s.accesses) < length (from_run q.0 s.accesses)
     after : with_again next s.accesses ≡ cut.front ++ x ∷ map waits_again b
     before_ : ForSome next (λ r. status_of r.0 (cut.front ++ map waits_again b) ≡ Some Scheduled)
-    put : put_before next again (cut.front ++ map waits_again b) ≡ cut.front ++ again ∷ map waits_again b
+    put : put_access_before next again (cut.front ++ map waits_again b) ≡ cut.front ++ again ∷ map waits_again b
 
   behind_it : (b : List Access) → s.accesses ≡ cut.front ++ x ∷ b → some_acquired (x ∷ b) ≡ false → Behind b (option_map (λ (y : Access). y.run) (slice_get b 0))
   behind_it [] list none = record {
@@ -198,7 +198,7 @@ module _ (q : RunNo) (x : Access) (s : LineageState) (disciplined : IsDiscipline
       o_ = option_map (λ (y : Access). y.run) (slice_get cut.back 0)
 
       named : next ≡ o_
-      named = is ∙ ap (λ l. option_map (λ (y : Access). y.run) (slice_get l 0)) (ap (behind q.0) cut.list ∙ behind_at q.0 cut.front x cut.back cut.none cut.own)
+      named = is ∙ ap (λ l. option_map (λ (y : Access). y.run) (slice_get l 0)) (ap (accesses_behind q.0) cut.list ∙ behind_at q.0 cut.front x cut.back cut.none cut.own)
 
       back_ : List Access
       back_ = map waits_again cut.back
@@ -211,21 +211,21 @@ module _ (q : RunNo) (x : Access) (s : LineageState) (disciplined : IsDiscipline
         room = omega (arith, one);
         before = λ r h. ap (status_of r.0) left ∙ k.before_ r h;
         same = λ i. record s {
-          accesses = (ap (put_before o_ again) left ∙ k.put ∙ sym (ap (with_again_from q.0) cut.list ∙ again_from_at q.0 cut.front x cut.back cut.none cut.own ∙ (λ j. cut.front ++ (if released j then again else x) ∷ back_))) i;
+          accesses = (ap (put_access_before o_ again) left ∙ k.put ∙ sym (ap (with_again_from q.0) cut.list ∙ again_from_at q.0 cut.front x cut.back cut.none cut.own ∙ (λ j. cut.front ++ (if released j then again else x) ∷ back_))) i;
           room = room_is i;
         };
       }
         where
-          left : without q.0 (with_again o_ s.accesses) ≡ cut.front ++ back_
-          left = ap (without q.0) k.after ∙ without_at q.0 cut.front x back_ cut.none (lacks_back cut.back cut.list) cut.own
+          left : accesses_without q.0 (with_again o_ s.accesses) ≡ cut.front ++ back_
+          left = ap (accesses_without q.0) k.after ∙ without_at q.0 cut.front x back_ cut.none (lacks_back cut.back cut.list) cut.own
 
-          one : length (with_again o_ s.accesses) - length (without q.0 (with_again o_ s.accesses)) ≡ 1
+          one : length (with_again o_ s.accesses) - length (accesses_without q.0 (with_again o_ s.accesses)) ≡ 1
           one =
               let whole = ap (λ (l : List Access). length l) k.after ∙ length-append cut.front (x ∷ back_) in
               let rest = ap (λ (l : List Access). length l) left ∙ length-append cut.front back_ in
               omega (arith, whole, rest)
 
-          room_is : s.room + (length (with_again o_ s.accesses) - length (without q.0 (with_again o_ s.accesses))) - 1 ≡ s.room
+          room_is : s.room + (length (with_again o_ s.accesses) - length (accesses_without q.0 (with_again o_ s.accesses))) - 1 ≡ s.room
           room_is = omega (arith, one)
 
 -- What the table asks for, once those behind the place wait

@@ -5,10 +5,10 @@ use Rattle.device_order.proofs.Losses.{down_unseen}
 use Rattle.device_order.proofs.WindowAnswers.{down_answered}
 use Rattle.device_order.specs.LineEntries.{entries, stage_of, usage}
 use Rattle.device_order.specs.LineWords.{CutAt}
-use Rattle.device_order.specs.RunStates.{device_summary, rest, uses}
-use Rattle.device_order.specs.Usages.{is_open as stage_is_open, is_up}
+use Rattle.device_order.specs.RunStates.{device_summary, rest, uses_device}
+use Rattle.device_order.specs.Usages.{is_up, stage_is_open}
 use Rattle.device_order.specs.WindowSteps.{GetsAnswer, MayAnswerDown}
-use Rattle.device_order.specs.Windows.{device_of}
+use Rattle.device_order.specs.Windows.{device_record}
 use Rattle.history_book.proofs.Snoc.{put_other}
 use Rattle.history_book.specs.Histories.{entry}
 use Rattle.history_book.specs.Readings.{Reading, is_doomed, is_live, next_command, next_of, put, sees_down, view_of}
@@ -65,7 +65,7 @@ told_touches w n g held r c s = next_used (run_state w n g r) c (drop (next_of n
 
 -- it is open there
 pub told_open : (w : Setting) (n : Reading) (g : Grips) (held : ℕ → ℕ) (r : ℕ) (c : Command) → IsToldDown w n g held r c → stage_is_open (usage w.kinds (run_state w n g r) c.device.0).stage ≡ true
-told_open w n g held r c s = λ i. stage_is_open (stage_of (live_uncommitted n r s.live i) (is_some (s.sound i)) ((ap (uses c.device.0) (told_left w n g held r c s) ∙ or_left (c.device.0 == c.device.0) (uses c.device.0 (drop (next_of n r + 1) (commands_of w.runs r))) (eq-eqb c.device.0 c.device.0 refl)) i))
+told_open w n g held r c s = λ i. stage_is_open (stage_of (live_uncommitted n r s.live i) (is_some (s.sound i)) ((ap (uses_device c.device.0) (told_left w n g held r c s) ∙ or_left (c.device.0 == c.device.0) (uses_device c.device.0 (drop (next_of n r + 1) (commands_of w.runs r))) (eq-eqb c.device.0 c.device.0 refl)) i))
 
 -- the run sees the device down, or it is its first answer there and the device is home and counted down
 told_may : (w : Setting) (n : Reading) (g : Grips) (held : ℕ → ℕ) (r : ℕ) (c : Command) (cut : CutAt r n.line) → IsToldDown w n g held r c → MayAnswerDown w.kinds (window_of w n g held) c.device.0 cut.front (device_summary w.kinds (run_state w n g r) c.device.0).view
@@ -90,7 +90,7 @@ told_may w n g held r c cut s = by_view (view_of n r d) refl
     counted h = is_down (view_of n r d) (n.up d) h s.down
 
     unseen : sees_down n r d ≡ false → is_up (device_summary w.kinds (run_state w n g r) d).view ≡ false
-    unseen h = down_unseen (device_of w.kinds (window_of w n g held) d) (entries w.kinds (window_of w n g held).states d cut.front) (entries w.kinds (window_of w n g held).states d cut.back) (usage w.kinds (run_state w n g r) d) (s.kept.window.devices d (below_home w d s.device))
+    unseen h = down_unseen (device_record w.kinds (window_of w n g held) d) (entries w.kinds (window_of w n g held).states d cut.front) (entries w.kinds (window_of w n g held).states d cut.back) (usage w.kinds (run_state w n g r) d) (s.kept.window.devices d (below_home w d s.device))
         (device_order_at w n g held d r cut (told_touches w n g held r c s)) (told_open w n g held r c s) (counted h)
 
     clash : true ≡ false → ⊥

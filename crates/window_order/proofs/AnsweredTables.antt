@@ -37,7 +37,7 @@ use Rattle.window_order.proofs.GripWords.{SameGrip}
 use Rattle.window_order.proofs.ReadFacts.{IsRead, runs_distinct}
 use Rattle.window_order.proofs.Runs.{live_uncommitted}
 use Rattle.window_order.proofs.TableFrames.{SameUses, access_by, access_gripped, commits_by, lineage_changed, lineage_same, may_by, may_gripped, put_says, uses_by, write_by}
-use Rattle.window_order.specs.TableChanges.{acquired_if, is_done_there, noted, released_if, told_write, written_if}
+use Rattle.window_order.specs.TableChanges.{acquired_if, answer_noted, is_done_there, released_if, told_write, written_if}
 use Rattle.window_order.specs.TableKept.{LineageIsKept, access_read, accesses_along, accesses_read, commits_write}
 
 -- One access that changes
@@ -118,7 +118,7 @@ written_own None x = refl
 written_own (Some v) x = refl
 
 -- what an answer notes is one change of the run's access
-noted_is : (r : ℕ) (first : Bool) (view : View) (wrote : Option ℕ) (last : Bool) (s : LineageState) → noted r first view wrote last s ≡ lineage_with r (answered_access first view wrote last) s
+noted_is : (r : ℕ) (first : Bool) (view : View) (wrote : Option ℕ) (last : Bool) (s : LineageState) → answer_noted r first view wrote last s ≡ lineage_with r (answered_access first view wrote last) s
 noted_is r first view wrote last s =
     released_is r last (written_if wrote r (acquired_if first r view s))
     ∙ ap (lineage_with r (release_access last)) (written_is r wrote (acquired_if first r view s) ∙ ap (lineage_with r (write_access wrote)) (acquired_is r first view s))
@@ -296,7 +296,7 @@ pub record HomeFrom (g h : Grips) (d r : ℕ) : Type 0 where
 -- on its own device the access of the run changes
 pub answered_there : (w : Setting) (n : Reading) (g h : Grips) (r k : ℕ) (a : Answer) (cut : CutAt r n.line) → is_access a ≡ true → IsRead w n → k ≡ next_of n r → TouchesNow w n g (command_at w.runs r k).device.0 r cut → HomeFrom g h (command_at w.runs r k).device.0 r → (s : LineageState) → LineageIsKept w n g (command_at w.runs r k).device.0 s
     → LineageIsKept w (entry w n (Did (run_no r) k a)) h (command_at w.runs r k).device.0
-    (noted r (not (did n r (command_at w.runs r k).device.0)) (view_when (is_told a)) (told_write w n r (command_at w.runs r k) a) (is_done_there w n r k) s)
+    (answer_noted r (not (did n r (command_at w.runs r k).device.0)) (view_when (is_told a)) (told_write w n r (command_at w.runs r k) a) (is_done_there w n r k) s)
 answered_there w n g h r k a cut access read number now home s kept = subst (LineageIsKept w m h d) (sym (noted_is r first view wrote last s)) (lineage_changed w n m g h d r (answered_access first view wrote last) s (runs_distinct n read.once) same kept changed
     (λ q ne. access_gripped w g h kept.passed d q (m.run q) (home.others q ne) ∙ ap (access_by w g kept.passed d q) (put_other n.run r new q ne)))
   where

@@ -13,11 +13,11 @@ use Rattle.history_book.proofs.Standing.{stands_in}
 use Rattle.history_book.specs.declared.entries.End.{End}
 use Rattle.device_order.specs.LineEntries.{entries, stage_of, usage}
 use Rattle.device_order.specs.Records.{walk_start}
-use Rattle.device_order.specs.RunStates.{rest, uses as device_uses}
-use Rattle.device_order.specs.Usages.{is_committed as stage_is_committed}
-use Rattle.device_order.specs.Walks.{GripFits, WalkHolds, effective, is_settled, walk_end}
-use Rattle.device_order.specs.Windows.{device_of}
-use Rattle.device_order.specs.declared.records.Grip.TheVariants.{Free, Reads, Writes}
+use Rattle.device_order.specs.RunStates.{rest, uses_device}
+use Rattle.device_order.specs.Usages.{stage_is_committed}
+use Rattle.device_order.specs.Walks.{GripFits, WalkHolds, effective, is_write_settled, walk_end}
+use Rattle.device_order.specs.Windows.{device_record}
+use Rattle.device_order.specs.declared.records.HeldGrip.TheVariants.{Free, Reads, Writes}
 use Rattle.device_order.specs.declared.records.OrderEntry.TheVariants.{Used}
 use Rattle.device_order.specs.declared.records.OrderEntry.{OrderEntry}
 use Rattle.device_order.specs.declared.records.Usage.{Usage}
@@ -191,7 +191,7 @@ record ReadsAt (w : Setting) (n : Reading) (g : Grips) (held : ℕ → ℕ) (d r
   line : n.line ≡ before r n.line ++ Ran (run_no r) ∷ behind r n.line
   grip : (usage w.kinds (run_state w n g r) d).grip ≡ Reads
   undid : ((n.run r).on d).undid ≡ false
-  finds : ReadFinds (device_of w.kinds (window_of w n g held) d) (entries w.kinds (λ q. run_state w n g q) d (before r n.line)) (usage w.kinds (run_state w n g r) d) (held d)
+  finds : ReadFinds (device_record w.kinds (window_of w n g held) d) (entries w.kinds (λ q. run_state w n g q) d (before r n.line)) (usage w.kinds (run_state w n g r) d) (held d)
 
 kept_write : (s : WalkState) (u : Usage) (b : List OrderEntry) → u.grip ≡ Reads → WalkHolds s (Used u ∷ b) → u.undid ≡ false
 unfolding WalkHolds
@@ -204,7 +204,7 @@ reads_at w n g held d r k s o device h =
     let grip : (usage w.kinds (run_state w n g r) d).grip ≡ Reads = ap (held_by w r) h.out ∙ to_read (r == r) (reads (command_at w.runs r k).job) (eq-eqb r r refl) h.reading in
     let order : entries w.kinds (λ q. run_state w n g q) d n.line ≡ entries w.kinds (λ q. run_state w n g q) d (before r n.line) ++ Used (usage w.kinds (run_state w n g r) d) ∷ entries w.kinds (λ q. run_state w n g q) d (behind r n.line) =
     ap (entries w.kinds (λ q. run_state w n g q) d) line ∙ used_at w.kinds (λ q. run_state w n g q) d r (before r n.line) (behind r n.line) acts.uses in
-    let kept : DeviceInvariant (device_of w.kinds (window_of w n g held) d) = o.window.devices d (device_below w d device) in
+    let kept : DeviceInvariant (device_record w.kinds (window_of w n g held) d) = o.window.devices d (device_below w d device) in
     let start : WalkState = walk_start (stand_at w.first d).up (stand_at w.first d).value in
     record {
       uses = acts.uses;
@@ -212,7 +212,7 @@ reads_at w n g held d r k s o device h =
       grip = grip;
       undid = kept_write (walk_end start (entries w.kinds (λ q. run_state w n g q) d (before r n.line))) (usage w.kinds (run_state w n g r) d) (entries w.kinds (λ q. run_state w n g q) d (behind r n.line)) grip
           (walk_back start (entries w.kinds (λ q. run_state w n g q) d (before r n.line)) (Used (usage w.kinds (run_state w n g r) d) ∷ entries w.kinds (λ q. run_state w n g q) d (behind r n.line)) (subst (λ l. WalkHolds start l) order kept.walk));
-      finds = read_finds (device_of w.kinds (window_of w n g held) d) (entries w.kinds (λ q. run_state w n g q) d (before r n.line)) (entries w.kinds (λ q. run_state w n g q) d (behind r n.line)) (usage w.kinds (run_state w n g r) d) kept order grip;
+      finds = read_finds (device_record w.kinds (window_of w n g held) d) (entries w.kinds (λ q. run_state w n g q) d (before r n.line)) (entries w.kinds (λ q. run_state w n g q) d (behind r n.line)) (usage w.kinds (run_state w n g r) d) kept order grip;
     }
   where
     own : (r : ℕ) → ((r == r) && true) ≡ true
@@ -276,11 +276,11 @@ writer_behind w n g held d r k s out at e h =
     no_write (Some v) false true p q f = absurd (cc)
     no_write (Some v) true y p q f = absurd (cc)
 
-    settled : last_some (write_of n g d) (before r n.line) ≡ Some e → is_settled (effective None (entries w.kinds (λ q. run_state w n g q) d (before r n.line))) ≡ true → is_committed n e.run ≡ true
-    settled f x = settled_run (is_committed n e.run) (is_doomed n e.run) (uses e.run) (sym (ap is_settled (effective_entries w.kinds (λ q. run_state w n g q) d None (before r n.line) ∙ ap (option_map (λ q. usage w.kinds (run_state w n g q) d)) (writer_on_line w n g d (before r n.line) s ∙ ap (option_map (λ e. e.run)) f))) ∙ x)
+    settled : last_some (write_of n g d) (before r n.line) ≡ Some e → is_write_settled (effective None (entries w.kinds (λ q. run_state w n g q) d (before r n.line))) ≡ true → is_committed n e.run ≡ true
+    settled f x = settled_run (is_committed n e.run) (is_doomed n e.run) (uses e.run) (sym (ap is_write_settled (effective_entries w.kinds (λ q. run_state w n g q) d None (before r n.line) ∙ ap (option_map (λ q. usage w.kinds (run_state w n g q) d)) (writer_on_line w n g d (before r n.line) s ∙ ap (option_map (λ e. e.run)) f))) ∙ x)
       where
         uses : ℕ → Bool
-        uses q = device_uses d (rest (run_state w n g q))
+        uses q = uses_device d (rest (run_state w n g q))
 
     by : (x y : Option Write) → last_some (write_of n g d) (behind r n.line) ≡ x → write_of n g d (Ran (run_no r)) ≡ y → option_or (last_some (write_of n g d) (behind r n.line)) (option_or (write_of n g d (Ran (run_no r))) (last_some (write_of n g d) (before r n.line))) ≡ Some e
         → (list_any (is_ran e.run) (before r n.line) ≡ false) ⊎ (is_live n e.run ≡ false)

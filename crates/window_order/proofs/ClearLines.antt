@@ -2,8 +2,8 @@
 use Rattle.command_rules.specs.Items.{is_ran, of_run}
 use Rattle.command_rules.specs.Rosters.{commands_of, touches}
 use Rattle.device_order.specs.LineWords.{at_device, is_calm_line}
-use Rattle.device_order.specs.RunStates.{device_summary, uses}
-use Rattle.device_order.specs.Usages.{has_touched as usage_has_touched, is_command as holds_command}
+use Rattle.device_order.specs.RunStates.{device_summary, uses_device}
+use Rattle.device_order.specs.Usages.{has_used_device, holds_command}
 use Rattle.history_book.specs.Readings.{Reading, did, view_of}
 use Rattle.history_book.specs.Settings.{Setting, is_device}
 use Rattle.home_types.specs.declared.items.Item.TheVariants.{Back, Failed, Ran}
@@ -59,8 +59,8 @@ unfolding is_calm_line
 calm_place w n g held r at d read clear device used = along (drop at n.line) clear
   where
     -- the use of a run that has not touched the device
-    untouched : (q : RunNo) → has_touched n g q.0 d ≡ false → at_device w.kinds (window_of w n g held).states d usage_has_touched q.0 ≡ false
-    untouched q none = none_used (uses d (commands_of w.runs q.0)) (is_some (device_summary w.kinds (run_state w n g q.0) d).view) (holds_command (held_by w q.0 (g d))) (did n q.0 d) (grips_command g q.0 d) view (command_held w g q.0 d) none
+    untouched : (q : RunNo) → has_touched n g q.0 d ≡ false → at_device w.kinds (window_of w n g held).states d has_used_device q.0 ≡ false
+    untouched q none = none_used (uses_device d (commands_of w.runs q.0)) (is_some (device_summary w.kinds (run_state w n g q.0) d).view) (holds_command (held_by w q.0 (g d))) (did n q.0 d) (grips_command g q.0 d) view (command_held w g q.0 d) none
       where
         view : is_some (device_summary w.kinds (run_state w n g q.0) d).view ≡ did n q.0 d
         view = ap is_some ((read.summarized q.0).view d) ∙ seen_view (view_of n q.0 d)

@@ -4,7 +4,7 @@ use Rattle.device_order.proofs.InPlace.{two_places}
 use Rattle.history_book.proofs.Logs.{Logged, logged_step}
 use Rattle.history_book.proofs.Snoc.{put_keeps, put_other, put_same}
 use Rattle.history_book.specs.Histories.{entry, more_if, reading}
-use Rattle.history_book.specs.Readings.{First, Last, Mark, OfRun, Reading, did, is_access, is_first, is_last, next_of, nothing_read, pends, put, span_of}
+use Rattle.history_book.specs.Readings.{First, Last, LogMark, OfRun, Reading, did, is_access, is_first_mark, is_last_mark, next_of, nothing_read, pends, put, span_of}
 use Rattle.history_book.specs.Settings.{Setting}
 use Rattle.history_book.specs.WellFormed.{IsWellFormed, along, may_follow}
 use Rattle.history_book.specs.declared.entries.Entry.TheVariants.{Arrived, Did, Doomed, Ended, Fell, Placed, Rose, Undid}
@@ -22,36 +22,36 @@ use Rattle.std.specs.List.{list_any}
 use Rattle.std.specs.Prelude.{Bool, IsTrue, List, [], false, fold, if◌then◌else◌, is_none, is_some, length, not, take_while, true, ℕ, ◌&&◌, ◌++◌, ◌+◌, ◌<◌, ◌==◌, ◌||◌, ◌∷◌, ◌≡◌, ◌≢◌}
 
 -- nothing that comes later is in the span
-abbrev pub IsClosed : ℕ → List Mark → Type 0
-IsClosed r marks = (more : List Mark) → span_of r (marks ++ more) ≡ span_of r marks
+abbrev pub IsClosed : ℕ → List LogMark → Type 0
+IsClosed r marks = (more : List LogMark) → span_of r (marks ++ more) ≡ span_of r marks
 
 -- .. of a run that has an answer on the device, and none of whose commands there is left
 abbrev pub SpansClose : Setting → Reading → Type 0
 SpansClose w n = (r d : ℕ) → did n r d ≡ true → pends w n r d ≡ false → IsClosed r (n.log d)
 
 -- its last mark closes it
-taken_last : (r : ℕ) (xs more : List Mark) → take_while (λ x. not (is_last r x)) (xs ++ Last r ∷ more) ≡ take_while (λ x. not (is_last r x)) (xs ++ Last r ∷ [])
+taken_last : (r : ℕ) (xs more : List LogMark) → take_while (λ x. not (is_last_mark r x)) (xs ++ Last r ∷ more) ≡ take_while (λ x. not (is_last_mark r x)) (xs ++ Last r ∷ [])
 taken_last r [] more = ends more ∙ sym (ends [])
   where
-    ends : (ms : List Mark) → take_while (λ x. not (is_last r x)) (Last r ∷ ms) ≡ []
-    ends ms = take_while-cons (λ x. not (is_last r x)) (Last r) ms ∙ ap (λ b. cond (not b) (Last r ∷ take_while (λ x. not (is_last r x)) ms) []) (eq-eqb r r refl)
+    ends : (ms : List LogMark) → take_while (λ x. not (is_last_mark r x)) (Last r ∷ ms) ≡ []
+    ends ms = take_while-cons (λ x. not (is_last_mark r x)) (Last r) ms ∙ ap (λ b. cond (not b) (Last r ∷ take_while (λ x. not (is_last_mark r x)) ms) []) (eq-eqb r r refl)
 taken_last r (x ∷ xs) more =
-    take_while-cons (λ y. not (is_last r y)) x (xs ++ Last r ∷ more) ∙ ap (λ l. cond (not (is_last r x)) (x ∷ l) []) (taken_last r xs more)
-    ∙ sym (take_while-cons (λ y. not (is_last r y)) x (xs ++ Last r ∷ []))
+    take_while-cons (λ y. not (is_last_mark r y)) x (xs ++ Last r ∷ more) ∙ ap (λ l. cond (not (is_last_mark r x)) (x ∷ l) []) (taken_last r xs more)
+    ∙ sym (take_while-cons (λ y. not (is_last_mark r y)) x (xs ++ Last r ∷ []))
 
-closed_last : (r : ℕ) (xs more : List Mark) → list_any (is_first r) xs ≡ true → span_of r (xs ++ Last r ∷ more) ≡ span_of r (xs ++ Last r ∷ [])
+closed_last : (r : ℕ) (xs more : List LogMark) → list_any (is_first_mark r) xs ≡ true → span_of r (xs ++ Last r ∷ more) ≡ span_of r (xs ++ Last r ∷ [])
 closed_last r [] more first = absurd (cc)
-closed_last r (x ∷ xs) more first = at_ (λ h. closed_last r xs more h) (is_first r x) first
+closed_last r (x ∷ xs) more first = at_ (λ h. closed_last r xs more h) (is_first_mark r x) first
   where
-    at_ : (list_any (is_first r) xs ≡ true → span_of r (xs ++ Last r ∷ more) ≡ span_of r (xs ++ Last r ∷ [])) → (b : Bool) → (b || list_any (is_first r) xs) ≡ true
-        → (if b then take_while (λ y. not (is_last r y)) (xs ++ Last r ∷ more) else span_of r (xs ++ Last r ∷ more)) ≡ (if b then take_while (λ y. not (is_last r y)) (xs ++ Last r ∷ []) else span_of r (xs ++ Last r ∷ []))
+    at_ : (list_any (is_first_mark r) xs ≡ true → span_of r (xs ++ Last r ∷ more) ≡ span_of r (xs ++ Last r ∷ [])) → (b : Bool) → (b || list_any (is_first_mark r) xs) ≡ true
+        → (if b then take_while (λ y. not (is_last_mark r y)) (xs ++ Last r ∷ more) else span_of r (xs ++ Last r ∷ more)) ≡ (if b then take_while (λ y. not (is_last_mark r y)) (xs ++ Last r ∷ []) else span_of r (xs ++ Last r ∷ []))
     at_ ih true h = taken_last r xs more
     at_ ih false h = ih h
 
-closed_snoc : (r : ℕ) (marks : List Mark) (x : Mark) → IsClosed r marks → IsClosed r (marks ++ x ∷ [])
+closed_snoc : (r : ℕ) (marks : List LogMark) (x : LogMark) → IsClosed r marks → IsClosed r (marks ++ x ∷ [])
 closed_snoc r marks x closed more = ap (span_of r) (append_assoc marks (x ∷ []) more) ∙ closed (x ∷ more) ∙ sym (closed (x ∷ []))
 
-closed_more : (r : ℕ) (marks : List Mark) (b : Bool) (x : Mark) → IsClosed r marks → IsClosed r (more_if b x marks)
+closed_more : (r : ℕ) (marks : List LogMark) (b : Bool) (x : LogMark) → IsClosed r marks → IsClosed r (more_if b x marks)
 closed_more r marks true x closed = closed_snoc r marks x closed
 closed_more r marks false x closed = closed
 
@@ -63,7 +63,7 @@ same_closed w n m r o log run answers views s q d has none =
     (sym (ap (λ f. touches_from w.runs q d (length (f q).answers)) run ∙ ap (λ a. touches_from w.runs q d (length a)) (put_keeps (λ x. x.answers) n.run r o answers q)) ∙ none))
 
 -- an event comes
-turn_closed : (w : Setting) (n m : Reading) (d : ℕ) (x : Mark) → m.log ≡ put n.log d (n.log d ++ x ∷ []) → m.run ≡ n.run → SpansClose w n → SpansClose w m
+turn_closed : (w : Setting) (n m : Reading) (d : ℕ) (x : LogMark) → m.log ≡ put n.log d (n.log d ++ x ∷ []) → m.run ≡ n.run → SpansClose w n → SpansClose w m
 turn_closed w n m d x log run s q e has none = subst (λ l. IsClosed q (l e)) (sym log) (two_places (λ y. IsClosed q (n.log y) → IsClosed q (put n.log d (n.log d ++ x ∷ []) y)) e d here there before)
   where
     before : IsClosed q (n.log e)
@@ -94,7 +94,7 @@ did_closed w n r k a number more logged s q e has none = by_device (e == d) refl
     last : Bool
     last = not (touches_from w.runs r.0 d (k + 1))
 
-    mid : List Mark
+    mid : List LogMark
     mid = more_if (is_access a && is_none ((n.run r.0).on d).view) (First r.0) (n.log d)
 
     log_is : next.log d ≡ more_if last (Last r.0) mid
@@ -123,21 +123,21 @@ did_closed w n r k a number more logged s q e has none = by_device (e == d) refl
     elsewhere ne true own = let old = own_elsewhere (eqb-true q r.0 own) ne in s q e old.0 old.1
     elsewhere ne false own = let old = other_run (eqb-false q r.0 own) in s q e old.0 old.1
 
-    first_in : (b : Bool) → list_any (is_first r.0) (more_if b (Last r.0) mid) ≡ true → list_any (is_first r.0) mid ≡ true
-    first_in true h = no_last (list_any (is_first r.0) mid) (sym (list_any-append (is_first r.0) mid (Last r.0 ∷ [])) ∙ h)
+    first_in : (b : Bool) → list_any (is_first_mark r.0) (more_if b (Last r.0) mid) ≡ true → list_any (is_first_mark r.0) mid ≡ true
+    first_in true h = no_last (list_any (is_first_mark r.0) mid) (sym (list_any-append (is_first_mark r.0) mid (Last r.0 ∷ [])) ∙ h)
       where
         no_last : (b : Bool) → (b || (false || false)) ≡ true → b ≡ true
         no_last b h = grind (arith, common_steps)
     first_in false h = h
 
-    closes : (b : Bool) → last ≡ b → b ≡ true → list_any (is_first r.0) mid ≡ true → IsClosed r.0 (more_if b (Last r.0) mid)
+    closes : (b : Bool) → last ≡ b → b ≡ true → list_any (is_first_mark r.0) mid ≡ true → IsClosed r.0 (more_if b (Last r.0) mid)
     closes true is h first ms = ap (span_of r.0) (append_assoc mid (Last r.0 ∷ []) ms) ∙ closed_last r.0 mid ms first
     closes false is h first ms = absurd (cc)
 
     its_own : q ≡ r.0 → e ≡ d → IsClosed q (next.log e)
     its_own own here =
         subst (λ x. IsClosed x (next.log e)) (sym own) (subst (λ x. IsClosed r.0 (next.log x)) (sym here)
-        (subst (IsClosed r.0) (sym log_is) (closes last refl is_last_there (first_in last (ap (list_any (is_first r.0)) (sym log_is) ∙ logged.firsts r.0 d ∙ ap (λ x. did next x d) (sym own) ∙ ap (did next q) (sym here) ∙ has)))))
+        (subst (IsClosed r.0) (sym log_is) (closes last refl is_last_there (first_in last (ap (list_any (is_first_mark r.0)) (sym log_is) ∙ logged.firsts r.0 d ∙ ap (λ x. did next x d) (sym own) ∙ ap (did next q) (sym here) ∙ has)))))
       where
         is_last_there : last ≡ true
         is_last_there = ap not (sym (left d) ∙ ap (λ x. pends w next x d) (sym own) ∙ ap (pends w next q) (sym here) ∙ none)

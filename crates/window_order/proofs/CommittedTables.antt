@@ -16,7 +16,7 @@ use Rattle.home_types.specs.declared.items.Item.TheVariants.{Back, Failed, Ran}
 use Rattle.home_types.specs.declared.items.Item.{Item}
 use Rattle.lineage_table.proofs.Splits.{behind_at, without_at, without_none}
 use Rattle.lineage_table.proofs.Steps.{written_at}
-use Rattle.lineage_table.specs.Accesses.{access_of, behind, has_access, is_of, without, written_by}
+use Rattle.lineage_table.specs.Accesses.{access_of, accesses_behind, accesses_without, has_access, is_of, written_by}
 use Rattle.lineage_table.specs.Lineages.{LineageState, committed_lineage, removed, settled}
 use Rattle.lineage_table.specs.declared.accesses.Access.{Access}
 use Rattle.lock_leasing.specs.Configurations.{Commands, Grip, Grips, Probes, Purpose, Undoes, grips_undo, is_undo}
@@ -99,7 +99,7 @@ settles r v s x e w = grind (arith, common_steps, e, w)
 
 -- what a commit makes of it
 record Commits (r : ℕ) (s t : LineageState) : Type 0 where
-  accesses : t.accesses ≡ (if is_some (written_by r s.accesses) then behind r s.accesses else without r s.accesses)
+  accesses : t.accesses ≡ (if is_some (written_by r s.accesses) then accesses_behind r s.accesses else accesses_without r s.accesses)
   committed : t.committed ≡ unwrap_or (written_by r s.accesses) s.committed
   room : s.room ≤ t.room
   up : t.up ≡ s.up
@@ -120,21 +120,21 @@ commits r s = at_ (access_of r s.accesses) refl
 
     by_value : (x : Access) → access_of r s.accesses ≡ Some x → (o : Option ℕ) → x.wrote ≡ o → Commits r s (committed_lineage r s)
     by_value x e None w = subst (Commits r s) (sym (removes r s x e w)) (record {
-      accesses = (λ i. if is_some (sym (value x None e w) i) then behind r s.accesses else without r s.accesses);
+      accesses = (λ i. if is_some (sym (value x None e w) i) then accesses_behind r s.accesses else accesses_without r s.accesses);
       committed = (λ i. unwrap_or (sym (value x None e w) i) s.committed);
-      room = more s.room (length s.accesses - length (without r s.accesses));
+      room = more s.room (length s.accesses - length (accesses_without r s.accesses));
       up = refl;
     })
     by_value x e (Some v) w = subst (Commits r s) (sym (settles r v s x e w)) (record {
-      accesses = (λ i. if is_some (sym (value x (Some v) e w) i) then behind r s.accesses else without r s.accesses);
+      accesses = (λ i. if is_some (sym (value x (Some v) e w) i) then accesses_behind r s.accesses else accesses_without r s.accesses);
       committed = refl;
-      room = more s.room (length s.accesses - length (behind r s.accesses));
+      room = more s.room (length s.accesses - length (accesses_behind r s.accesses));
       up = refl;
     })
 
     at_ : (o : Option Access) → access_of r s.accesses ≡ o → Commits r s (committed_lineage r s)
     at_ None e = subst (Commits r s) (sym (unchanged r s e)) (record {
-      accesses = sym ((λ i. if is_some (option_and_then (λ (y : Access). y.wrote) (e i)) then behind r s.accesses else without r s.accesses) ∙ without_none r s.accesses (absent s.accesses e));
+      accesses = sym ((λ i. if is_some (option_and_then (λ (y : Access). y.wrote) (e i)) then accesses_behind r s.accesses else accesses_without r s.accesses) ∙ without_none r s.accesses (absent s.accesses e));
       committed = (λ i. unwrap_or (option_and_then (λ (y : Access). y.wrote) (sym e i)) s.committed);
       room = at_most_itself s.room;
       up = refl;
@@ -294,17 +294,17 @@ committed_there w n g r d read live on sound s kept = record {
     either true = refl
     either false = refl
 
-    by_write : (o : Option ℕ) → wrote ≡ o → list_any (of_run c) cut.back ≡ false → (if is_some (written_by r s.accesses) then behind r s.accesses else without r s.accesses) ≡ front_accesses p c f (is_some wrote || false) cut.front ++ back
+    by_write : (o : Option ℕ) → wrote ≡ o → list_any (of_run c) cut.back ≡ false → (if is_some (written_by r s.accesses) then accesses_behind r s.accesses else accesses_without r s.accesses) ≡ front_accesses p c f (is_some wrote || false) cut.front ++ back
     by_write (Some v) w e =
-        (λ i. if is_some ((written e ∙ w) i) then behind r s.accesses else without r s.accesses) ∙ ap (behind r) (around e) ∙ behind_at r front (f r) back none_before own_access
+        (λ i. if is_some ((written e ∙ w) i) then accesses_behind r s.accesses else accesses_without r s.accesses) ∙ ap (accesses_behind r) (around e) ∙ behind_at r front (f r) back none_before own_access
         ∙ sym ((λ i. front_accesses p c f (is_some (w i) || false) cut.front ++ back) ∙ ap (λ xs. xs ++ back) (front_covered p c f cut.front))
     by_write None w e =
-        (λ i. if is_some ((written e ∙ w) i) then behind r s.accesses else without r s.accesses) ∙ ap (without r) (around e) ∙ without_at r front (f r) back none_before none_behind own_access
+        (λ i. if is_some ((written e ∙ w) i) then accesses_behind r s.accesses else accesses_without r s.accesses) ∙ ap (accesses_without r) (around e) ∙ without_at r front (f r) back none_before none_behind own_access
         ∙ sym (λ i. front_accesses p c f (is_some (w i) || false) cut.front ++ back)
 
-    at_list : (b : Bool) → list_any (of_run c) cut.back ≡ b → (if is_some (written_by r s.accesses) then behind r s.accesses else without r s.accesses) ≡ accesses_read w m g kept.passed d m.line
+    at_list : (b : Bool) → list_any (of_run c) cut.back ≡ b → (if is_some (written_by r s.accesses) then accesses_behind r s.accesses else accesses_without r s.accesses) ≡ accesses_read w m g kept.passed d m.line
     at_list true e =
-        (λ i. if is_some (unwritten_there e i) then behind r s.accesses else without r s.accesses) ∙ ap (without r) (covered e) ∙ without_none r back none_behind
+        (λ i. if is_some (unwritten_there e i) then accesses_behind r s.accesses else accesses_without r s.accesses) ∙ ap (accesses_without r) (covered e) ∙ without_none r back none_behind
         ∙ sym (list_after true e ∙ (λ i. front_accesses p c f (either (is_some wrote) i) cut.front ++ back) ∙ ap (λ xs. xs ++ back) (front_covered p c f cut.front))
     at_list false e = by_write wrote refl e ∙ sym (list_after false e)
 

@@ -3,14 +3,14 @@ use Rattle.command_rules.specs.Items.{of_run}
 use Rattle.command_rules.specs.Rosters.{command_at, commands_of, run_no, touches, touches_from}
 use Rattle.device_order.proofs.WindowAnswers.{access_died}
 use Rattle.device_order.specs.LineWords.{CutAt}
-use Rattle.device_order.specs.Usages.{is_command as holds_command}
+use Rattle.device_order.specs.Usages.{holds_command}
 use Rattle.device_order.specs.WindowSteps.{ChangesInPlace, with_event_in}
-use Rattle.device_order.specs.declared.records.Grip.TheVariants.{Reads, Writes}
+use Rattle.device_order.specs.declared.records.HeldGrip.TheVariants.{Reads, Writes}
 use Rattle.history_book.proofs.Snoc.{put_keeps, put_other, put_same}
 use Rattle.history_book.proofs.Lines.{any_put_before}
 use Rattle.history_book.specs.Histories.{answered, entry, more_if, with_event}
 use Rattle.history_book.specs.Lines.{is_event_on, put_before}
-use Rattle.history_book.specs.Readings.{Event, First, Last, OfRun, OnDevice, Reading, did, is_access, is_doomed, is_first, is_live, is_open, next_of, pends, put, sees_up, view_of}
+use Rattle.history_book.specs.Readings.{Event, First, Last, OfRun, OnDevice, Reading, did, is_access, is_doomed, is_first_mark, is_live, is_open, next_of, pends, put, sees_up, view_of}
 use Rattle.history_book.specs.Settings.{Setting, is_device, is_weak}
 use Rattle.history_book.specs.declared.entries.Cause.{Cause}
 use Rattle.history_book.specs.declared.entries.Entry.TheVariants.{Did, Doomed, Fell}
@@ -201,8 +201,8 @@ failed_history w n m g held r k s turn e =
     no_more true = refl
     no_more false = refl
 
-    logs : list_any (is_first r) (m.log d) ≡ did m r d
-    logs = ap (list_any (is_first r)) turn.here ∙ list_any-append (is_first r) (n.log d) (Event (failure_of w n r k) ∷ []) ∙ no_more (list_any (is_first r) (n.log d)) ∙ s.read.logged.firsts r d ∙ sym (ap is_some (turn.view r d))
+    logs : list_any (is_first_mark r) (m.log d) ≡ did m r d
+    logs = ap (list_any (is_first_mark r)) turn.here ∙ list_any-append (is_first_mark r) (n.log d) (Event (failure_of w n r k) ∷ []) ∙ no_more (list_any (is_first_mark r) (n.log d)) ∙ s.read.logged.firsts r d ∙ sym (ap is_some (turn.view r d))
 
 -- the failure alone, where the run did not see the device up or is doomed ..
 falls : (w : Setting) (n : Reading) (g : Grips) (held : ℕ → ℕ) (r k : ℕ) (s : IsCalled w n g held r k) → (did n r (command_at w.runs r k).device.0 ≡ true → is_doomed n r ≡ true) → Turns w n (entry w n (Fell (command_at w.runs r k).device)) (command_at w.runs r k).device.0 (failure_of w n r k)

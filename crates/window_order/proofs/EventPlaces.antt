@@ -8,10 +8,10 @@ use Rattle.device_order.proofs.EventCuts.{EventCut}
 use Rattle.device_order.specs.LineChanges.{Lacks, line_with_event, waits_at}
 use Rattle.device_order.specs.LineEntries.{entries, stage_of, usage}
 use Rattle.device_order.specs.LineWords.{CutAt, at_device, is_calm_line}
-use Rattle.device_order.specs.RunStates.{device_summary, rest, uses}
-use Rattle.device_order.specs.Usages.{is_open as stage_is_open, is_up, spans_up}
+use Rattle.device_order.specs.RunStates.{device_summary, rest, uses_device}
+use Rattle.device_order.specs.Usages.{is_up, spans_up, stage_is_open}
 use Rattle.device_order.specs.WindowSteps.{ChangesInPlace, with_event_in}
-use Rattle.device_order.specs.Windows.{device_of}
+use Rattle.device_order.specs.Windows.{device_record}
 use Rattle.history_book.proofs.Shapes.{did_touches}
 use Rattle.history_book.proofs.Standing.{stands_in}
 use Rattle.history_book.specs.Histories.{with_event}
@@ -45,8 +45,8 @@ awaits_there w n d r = not (is_weak w.mode) && is_open w n r d && not (did n r d
 awaits_same : (w : Setting) (n : Reading) (g : Grips) (held : ℕ → ℕ) (d q : ℕ) → IsRead w n → is_weak w.mode ≡ false → stands_in (n.run q) ≡ true → awaits_there w n d q ≡ waits_at w.kinds (window_of w n g held).states d (Ran (run_no q))
 awaits_same w n g held d q read strong stands = by_live (is_live n q) refl
   where
-    left : uses d (rest (run_state w n g q)) ≡ pends w n q d
-    left = ap (uses d) (rest_drop (commands_of w.runs q) (n.run q).answers)
+    left : uses_device d (rest (run_state w n g q)) ≡ pends w n q d
+    left = ap (uses_device d) (rest_drop (commands_of w.runs q) (n.run q).answers)
 
     seen : is_some (device_summary w.kinds (run_state w n g q) d).view ≡ did n q d
     seen = ap is_some ((read.summarized q).view d) ∙ seen_view (view_of n q d)
@@ -55,8 +55,8 @@ awaits_same w n g held d q read strong stands = by_live (is_live n q) refl
     alike k l c x p u v s h e f i = grind (arith, common_steps)
 
     by_live : (b : Bool) → is_live n q ≡ b → awaits_there w n d q ≡ waits_at w.kinds (window_of w n g held).states d (Ran (run_no q))
-    by_live true live = alike (is_weak w.mode) (is_live n q) (is_committed n q) (is_doomed n q) (pends w n q d) (uses d (rest (run_state w n g q))) (did n q d) (is_some (device_summary w.kinds (run_state w n g q) d).view) strong (live ∙ sym (ap not (live_uncommitted n q live))) left seen
-    by_live false dead = alike (is_weak w.mode) (is_live n q) (is_committed n q) (is_doomed n q) (pends w n q d) (uses d (rest (run_state w n g q))) (did n q d) (is_some (device_summary w.kinds (run_state w n g q) d).view) strong (dead ∙ sym (ap not (stands_committed n q stands dead))) left seen
+    by_live true live = alike (is_weak w.mode) (is_live n q) (is_committed n q) (is_doomed n q) (pends w n q d) (uses_device d (rest (run_state w n g q))) (did n q d) (is_some (device_summary w.kinds (run_state w n g q) d).view) strong (live ∙ sym (ap not (live_uncommitted n q live))) left seen
+    by_live false dead = alike (is_weak w.mode) (is_live n q) (is_committed n q) (is_doomed n q) (pends w n q d) (uses_device d (rest (run_state w n g q))) (did n q d) (is_some (device_summary w.kinds (run_state w n g q) d).view) strong (dead ∙ sym (ap not (stands_committed n q stands dead))) left seen
 
 pub line_stands : (w : Setting) (n : Reading) → IsRead w n → StandIn n n.line
 line_stands w n read x h = sym (read.standing.line x) ∙ h
@@ -79,9 +79,9 @@ event_place w n g held d x read strong = event_on_part w n g held d x n.line rea
 pub event_calm : (w : Setting) (n : Reading) (g : Grips) (held : ℕ → ℕ) (d : ℕ) (x : Item) (c : EventCut w.kinds (window_of w n g held).states d x n.line) → IsRead w n → OrderIsKept w n g held → is_device w d ≡ true → list_any (is_marked n d) c.back ≡ false
 event_calm w n g held d x c read kept device = elim c.head [ inl none ↦ ap (list_any (is_marked n d)) none | inr e ↦ ap (list_any (is_marked n d)) e.2 ∙ behind e.0 e.1 (c.whole ∙ ap (λ l. c.front ++ l) e.2) e.3 ]
   where
-    left_used : (q : ℕ) (b : Bool) → touches w.runs q d ≡ b → uses d (rest (run_state w n g q)) ≡ true → touches w.runs q d ≡ true
+    left_used : (q : ℕ) (b : Bool) → touches w.runs q d ≡ b → uses_device d (rest (run_state w n g q)) ≡ true → touches w.runs q d ≡ true
     left_used q true e left = e
-    left_used q false e left = absurd (both_ways (uses d (rest (run_state w n g q))) (uses_rest d (commands_of w.runs q) (n.run q).answers e) left)
+    left_used q false e left = absurd (both_ways (uses_device d (rest (run_state w n g q))) (uses_rest d (commands_of w.runs q) (n.run q).answers e) left)
 
     parts : (c x u s : Bool) → (not c && not x && u && not s) ≡ true → (u ≡ true) × (s ≡ false)
     parts c x u s h = (grind (arith, common_steps), grind (arith, common_steps))
@@ -97,11 +97,11 @@ event_calm w n g held d x c read kept device = elim c.head [ inl none ↦ ap (li
 
     behind : (q : ℕ) (rest' : List Item) → n.line ≡ c.front ++ Ran (run_no q) ∷ rest' → waits_at w.kinds (window_of w n g held).states d (Ran (run_no q)) ≡ true → list_any (is_marked n d) (Ran (run_no q) ∷ rest') ≡ false
     behind q rest' at waits =
-        let own_parts = parts (is_committed n q) (is_doomed n q) (uses d (rest (run_state w n g q))) (is_some (device_summary w.kinds (run_state w n g q) d).view) waits in
+        let own_parts = parts (is_committed n q) (is_doomed n q) (uses_device d (rest (run_state w n g q))) (is_some (device_summary w.kinds (run_state w n g q) d).view) waits in
         let used : touches w.runs q d ≡ true = left_used q (touches w.runs q d) refl own_parts.0 in
         let calm : is_calm_line w.kinds (window_of w n g held).states d rest' ≡ true = sym (calm_entries w.kinds (window_of w n g held).states d rest')
-        ∙ waits_calm (device_of w.kinds (window_of w n g held) d) (entries w.kinds (window_of w n g held).states d c.front) (entries w.kinds (window_of w n g held).states d rest') (usage w.kinds (run_state w n g q) d) (kept.window.devices d (below_home w d device))
-        (ap (entries w.kinds (window_of w n g held).states d) at ∙ used_at w.kinds (window_of w n g held).states d q c.front rest' used) (awaits (is_committed n q) (is_doomed n q) (uses d (rest (run_state w n g q))) (is_some (device_summary w.kinds (run_state w n g q) d).view) waits) in
+        ∙ waits_calm (device_record w.kinds (window_of w n g held) d) (entries w.kinds (window_of w n g held).states d c.front) (entries w.kinds (window_of w n g held).states d rest') (usage w.kinds (run_state w n g q) d) (kept.window.devices d (below_home w d device))
+        (ap (entries w.kinds (window_of w n g held).states d) at ∙ used_at w.kinds (window_of w n g held).states d q c.front rest' used) (awaits (is_committed n q) (is_doomed n q) (uses_device d (rest (run_state w n g q))) (is_some (device_summary w.kinds (run_state w n g q) d).view) waits) in
         λ i. own q own_parts.1 i || none_marked w n g held d rest' read calm i
 
 -- The run whose device it is
@@ -181,8 +181,8 @@ event_window w n m g h held after d r x cut read strong event line others grips 
 pub spans_same : (w : Setting) (n : Reading) (g : Grips) (held : ℕ → ℕ) (d q : ℕ) → IsRead w n → stands_in (n.run q) ≡ true → at_device w.kinds (window_of w n g held).states d spans_up q ≡ (is_open w n q d && sees_up n q d)
 spans_same w n g held d q read stands = by_live (is_live n q) refl
   where
-    left : uses d (rest (run_state w n g q)) ≡ pends w n q d
-    left = ap (uses d) (rest_drop (commands_of w.runs q) (n.run q).answers)
+    left : uses_device d (rest (run_state w n g q)) ≡ pends w n q d
+    left = ap (uses_device d) (rest_drop (commands_of w.runs q) (n.run q).answers)
 
     up_view : (v : Option Bool) → is_up (option_map view_from v) ≡ unwrap_or v false
     up_view None = refl
@@ -204,5 +204,5 @@ spans_same w n g held d q read stands = by_live (is_live n q) refl
     alike t l c x p u false s e f i used = grind (arith, common_steps)
 
     by_live : (b : Bool) → is_live n q ≡ b → at_device w.kinds (window_of w n g held).states d spans_up q ≡ (is_open w n q d && sees_up n q d)
-    by_live true live = alike (touches w.runs q d) (is_live n q) (is_committed n q) (is_doomed n q) (pends w n q d) (uses d (rest (run_state w n g q))) (sees_up n q d) (is_up (device_summary w.kinds (run_state w n g q) d).view) (live ∙ sym (ap not (live_uncommitted n q live))) left seen used
-    by_live false dead = alike (touches w.runs q d) (is_live n q) (is_committed n q) (is_doomed n q) (pends w n q d) (uses d (rest (run_state w n g q))) (sees_up n q d) (is_up (device_summary w.kinds (run_state w n g q) d).view) (dead ∙ sym (ap not (stands_committed n q stands dead))) left seen used
+    by_live true live = alike (touches w.runs q d) (is_live n q) (is_committed n q) (is_doomed n q) (pends w n q d) (uses_device d (rest (run_state w n g q))) (sees_up n q d) (is_up (device_summary w.kinds (run_state w n g q) d).view) (live ∙ sym (ap not (live_uncommitted n q live))) left seen used
+    by_live false dead = alike (touches w.runs q d) (is_live n q) (is_committed n q) (is_doomed n q) (pends w n q d) (uses_device d (rest (run_state w n g q))) (sees_up n q d) (is_up (device_summary w.kinds (run_state w n g q) d).view) (dead ∙ sym (ap not (stands_committed n q stands dead))) left seen used

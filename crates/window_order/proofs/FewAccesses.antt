@@ -8,7 +8,7 @@ use Rattle.home_types.specs.declared.items.Item.{Item}
 use Rattle.lineage_table.proofs.Keeping.{none_behind}
 use Rattle.lineage_table.proofs.Pairs.{Pairs, pairs_from_all}
 use Rattle.lineage_table.proofs.Splits.{without_none}
-use Rattle.lineage_table.specs.Accesses.{AreOfTwoRuns, IsDisciplined, is_of, without}
+use Rattle.lineage_table.specs.Accesses.{AreOfTwoRuns, IsDisciplined, accesses_without, is_of}
 use Rattle.lineage_table.specs.Lineages.{LineageState}
 use Rattle.lineage_table.specs.declared.accesses.Access.{Access}
 use Rattle.lock_leasing.specs.Configurations.{Grips}
@@ -22,27 +22,27 @@ use Rattle.std.specs.Prelude.{Bool, List, None, Option, Some, [], false, if◌th
 use Rattle.window_order.specs.TableKept.{LineageIsKept, access_read, accesses_along, commits_write}
 
 -- without the access of one run at most one is gone
-one_gone : (r : ℕ) (xs : List Access) → Pairs AreOfTwoRuns xs → length xs ≤ length (without r xs) + 1
+one_gone : (r : ℕ) (xs : List Access) → Pairs AreOfTwoRuns xs → length xs ≤ length (accesses_without r xs) + 1
 unfolding Pairs
 one_gone r [] pairs = omega arith
 one_gone r (x ∷ xs) pairs = at (is_of r x) refl (one_gone r xs pairs.1)
   where
-    at : (b : Bool) → is_of r x ≡ b → length xs ≤ length (without r xs) + 1 → suc (length xs) ≤ length (if not b then (x ∷ without r xs) else without r xs) + 1
-    at true own rest = let same : length (without r xs) ≡ length xs = ap (λ l. length l) (without_none r xs (none_behind r x xs own pairs.0)) in omega (arith, same)
+    at : (b : Bool) → is_of r x ≡ b → length xs ≤ length (accesses_without r xs) + 1 → suc (length xs) ≤ length (if not b then (x ∷ accesses_without r xs) else accesses_without r xs) + 1
+    at true own rest = let same : length (accesses_without r xs) ≡ length xs = ap (λ l. length l) (without_none r xs (none_behind r x xs own pairs.0)) in omega (arith, same)
     at false other rest = omega (arith, rest)
 
 -- the run of the access is one of so many, counted from 1
 abbrev IsOneOf : ℕ → Access → Type 0
 IsOneOf n x = (0 < x.run.0) × (x.run.0 ≤ n)
 
-others_are : (n : ℕ) (xs : List Access) → AllByRecursion (IsOneOf (suc n)) xs → AllByRecursion (IsOneOf n) (without (suc n) xs)
+others_are : (n : ℕ) (xs : List Access) → AllByRecursion (IsOneOf (suc n)) xs → AllByRecursion (IsOneOf n) (accesses_without (suc n) xs)
 others_are n [] each = tt
 others_are n (x ∷ xs) each = at (is_of (suc n) x) refl (others_are n xs each.1)
   where
     less : (k : ℕ) → (0 < k) × (k ≤ suc n) → (k == suc n) ≡ false → (0 < k) × (k ≤ n)
     less k one other = (one.0, grind (arith, common_steps))
 
-    at : (b : Bool) → is_of (suc n) x ≡ b → AllByRecursion (IsOneOf n) (without (suc n) xs) → AllByRecursion (IsOneOf n) (if not b then (x ∷ without (suc n) xs) else without (suc n) xs)
+    at : (b : Bool) → is_of (suc n) x ≡ b → AllByRecursion (IsOneOf n) (accesses_without (suc n) xs) → AllByRecursion (IsOneOf n) (if not b then (x ∷ accesses_without (suc n) xs) else accesses_without (suc n) xs)
     at true own rest = rest
     at false other rest = (less x.run.0 each.0 other, rest)
 
@@ -50,7 +50,7 @@ few_runs : (n : ℕ) (xs : List Access) → AllPairs AreOfTwoRuns xs → AllByRe
 few_runs zero [] pairs each = omega arith
 few_runs zero (x ∷ xs) pairs each = absurd (omega (arith, each.0.0, each.0.1))
 few_runs (suc n) xs pairs each =
-    let rest : length (without (suc n) xs) ≤ n = few_runs n (without (suc n) xs) (AllPairs-filter AreOfTwoRuns (λ x. not (is_of (suc n) x)) xs pairs) (others_are n xs each) in
+    let rest : length (accesses_without (suc n) xs) ≤ n = few_runs n (accesses_without (suc n) xs) (AllPairs-filter AreOfTwoRuns (λ x. not (is_of (suc n) x)) xs pairs) (others_are n xs each) in
     omega (arith, rest, one_gone (suc n) xs (pairs_from_all AreOfTwoRuns xs pairs))
 
 -- the run is one of the window's, where it has a device

@@ -7,14 +7,14 @@ use Rattle.device_order.proofs.LineEntries.{used_at}
 use Rattle.device_order.proofs.LineWords.{calm_entries, has_entries}
 use Rattle.device_order.specs.LineEntries.{entries, usage}
 use Rattle.device_order.specs.LineWords.{CutAt, any_run, at_device, is_calm_line}
-use Rattle.device_order.specs.RunStates.{device_summary, uses}
-use Rattle.device_order.specs.Usages.{awaits_first, has_touched, is_command}
-use Rattle.device_order.specs.Windows.{device_of}
+use Rattle.device_order.specs.RunStates.{device_summary, uses_device}
+use Rattle.device_order.specs.Usages.{awaits_first, has_used_device, holds_command}
+use Rattle.device_order.specs.Windows.{device_record}
 use Rattle.device_order.specs.declared.records.OrderEntry.TheVariants.{Used}
 use Rattle.history_book.proofs.Shapes.{did_touches}
 use Rattle.history_book.proofs.Snoc.{put_keeps, put_other, put_same}
 use Rattle.history_book.specs.Histories.{answered, entry, more_if}
-use Rattle.history_book.specs.Readings.{First, Last, OfRun, OnDevice, Reading, did, is_access, is_doomed, is_first, put, view_by, view_of}
+use Rattle.history_book.specs.Readings.{First, Last, OfRun, OnDevice, Reading, did, is_access, is_doomed, is_first_mark, put, view_by, view_of}
 use Rattle.history_book.specs.Settings.{Setting, is_device}
 use Rattle.history_book.specs.declared.entries.Entry.TheVariants.{Did}
 use Rattle.home_types.specs.Commands.{register_after}
@@ -44,7 +44,7 @@ seen_view None = refl
 seen_view (Some b) = refl
 
 -- a run that has not touched a device has no answer there
-pub untouched_unseen : (w : Setting) (n : Reading) (g : Grips) (held : ℕ → ℕ) (d q : ℕ) → IsRead w n → at_device w.kinds (window_of w n g held).states d has_touched q ≡ false → did n q d ≡ false
+pub untouched_unseen : (w : Setting) (n : Reading) (g : Grips) (held : ℕ → ℕ) (d q : ℕ) → IsRead w n → at_device w.kinds (window_of w n g held).states d has_used_device q ≡ false → did n q d ≡ false
 untouched_unseen w n g held d q read none = at_ (did n q d) refl
   where
     view : is_some (device_summary w.kinds (run_state w n g q) d).view ≡ did n q d
@@ -54,20 +54,20 @@ untouched_unseen w n g held d q read none = at_ (did n q d) refl
     clash u v c x h k e f = grind (arith, common_steps)
 
     at_ : (b : Bool) → did n q d ≡ b → did n q d ≡ false
-    at_ true e = absurd (clash (uses d (commands_of w.runs q)) (is_some (device_summary w.kinds (run_state w n g q) d).view) (is_command (held_by w q (g d))) (did n q d) (did_touches w n q d read.shaped e) view e none)
+    at_ true e = absurd (clash (uses_device d (commands_of w.runs q)) (is_some (device_summary w.kinds (run_state w n g q) d).view) (holds_command (held_by w q (g d))) (did n q d) (did_touches w n q d read.shaped e) view e none)
     at_ false e = e
 
-pub none_seen : (w : Setting) (n : Reading) (g : Grips) (held : ℕ → ℕ) (d : ℕ) (is : List Item) → IsRead w n → any_run (at_device w.kinds (window_of w n g held).states d has_touched) is ≡ false → list_any (of_run (λ q. did n q d)) is ≡ false
+pub none_seen : (w : Setting) (n : Reading) (g : Grips) (held : ℕ → ℕ) (d : ℕ) (is : List Item) → IsRead w n → any_run (at_device w.kinds (window_of w n g held).states d has_used_device) is ≡ false → list_any (of_run (λ q. did n q d)) is ≡ false
 unfolding any_run
 none_seen w n g held d [] read none = refl
-none_seen w n g held d (Ran q ∷ is) read none = let parts = or_parts (at_device w.kinds (window_of w n g held).states d has_touched q.0) (any_run (at_device w.kinds (window_of w n g held).states d has_touched) is) none in λ i. untouched_unseen w n g held d q.0 read parts.0 i || none_seen w n g held d is read parts.1 i
+none_seen w n g held d (Ran q ∷ is) read none = let parts = or_parts (at_device w.kinds (window_of w n g held).states d has_used_device q.0) (any_run (at_device w.kinds (window_of w n g held).states d has_used_device) is) none in λ i. untouched_unseen w n g held d q.0 read parts.0 i || none_seen w n g held d is read parts.1 i
 none_seen w n g held d (Failed e k ∷ is) read none = none_seen w n g held d is read none
 none_seen w n g held d (Back e k ∷ is) read none = none_seen w n g held d is read none
 
 pub none_marked : (w : Setting) (n : Reading) (g : Grips) (held : ℕ → ℕ) (d : ℕ) (is : List Item) → IsRead w n → is_calm_line w.kinds (window_of w n g held).states d is ≡ true → list_any (is_marked n d) is ≡ false
 unfolding is_calm_line
 none_marked w n g held d [] read calm = refl
-none_marked w n g held d (Ran q ∷ is) read calm = let parts = split (at_device w.kinds (window_of w n g held).states d has_touched q.0) (is_calm_line w.kinds (window_of w n g held).states d is) calm in λ i. (false || (untouched_unseen w n g held d q.0 read parts.0 i && not (is_late n q.0 d))) || none_marked w n g held d is read parts.1 i
+none_marked w n g held d (Ran q ∷ is) read calm = let parts = split (at_device w.kinds (window_of w n g held).states d has_used_device q.0) (is_calm_line w.kinds (window_of w n g held).states d is) calm in λ i. (false || (untouched_unseen w n g held d q.0 read parts.0 i && not (is_late n q.0 d))) || none_marked w n g held d is read parts.1 i
   where
     split : (a b : Bool) → (not a && b) ≡ true → (a ≡ false) × (b ≡ true)
     split a b h = (grind (arith, common_steps), grind (arith, common_steps))
@@ -81,16 +81,16 @@ none_marked w n g held d (Back e k ∷ is) read calm = let parts = split (e.0 ==
     split a b h = (grind (arith, common_steps), grind (arith, common_steps))
 
 pub device_order_at : (w : Setting) (n : Reading) (g : Grips) (held : ℕ → ℕ) (d r : ℕ) (cut : CutAt r n.line) → touches w.runs r d ≡ true
-    → (device_of w.kinds (window_of w n g held) d).order ≡ entries w.kinds (window_of w n g held).states d cut.front ++ Used (usage w.kinds (run_state w n g r) d) ∷ entries w.kinds (window_of w n g held).states d cut.back
+    → (device_record w.kinds (window_of w n g held) d).order ≡ entries w.kinds (window_of w n g held).states d cut.front ++ Used (usage w.kinds (run_state w n g r) d) ∷ entries w.kinds (window_of w n g held).states d cut.back
 device_order_at w n g held d r cut used = ap (entries w.kinds (window_of w n g held).states d) cut.at ∙ used_at w.kinds (window_of w n g held).states d r cut.front cut.back used
 
 -- behind a run whose command is out on the device no run has an answer there
-pub unseen_behind : (w : Setting) (n : Reading) (g : Grips) (held : ℕ → ℕ) (d r : ℕ) (cut : CutAt r n.line) → IsRead w n → OrderIsKept w n g held → is_device w d ≡ true → touches w.runs r d ≡ true → is_command (held_by w r (g d)) ≡ true
+pub unseen_behind : (w : Setting) (n : Reading) (g : Grips) (held : ℕ → ℕ) (d r : ℕ) (cut : CutAt r n.line) → IsRead w n → OrderIsKept w n g held → is_device w d ≡ true → touches w.runs r d ≡ true → holds_command (held_by w r (g d)) ≡ true
     → list_any (of_run (λ q. did n q d)) cut.back ≡ false
 unseen_behind w n g held d r cut read kept device used out =
     none_seen w n g held d cut.back read
-    (sym (has_entries w.kinds (window_of w n g held).states d has_touched cut.back)
-    ∙ alone_behind (device_of w.kinds (window_of w n g held) d) (entries w.kinds (window_of w n g held).states d cut.front) (entries w.kinds (window_of w n g held).states d cut.back) (usage w.kinds (run_state w n g r) d) (kept.window.devices d (below_home w d device)) (device_order_at w n g held d r cut used) out)
+    (sym (has_entries w.kinds (window_of w n g held).states d has_used_device cut.back)
+    ∙ alone_behind (device_record w.kinds (window_of w n g held) d) (entries w.kinds (window_of w n g held).states d cut.front) (entries w.kinds (window_of w n g held).states d cut.back) (usage w.kinds (run_state w n g r) d) (kept.window.devices d (below_home w d device)) (device_order_at w n g held d r cut used) out)
 
 -- behind one whose first answer is still to come, and will count, nothing has happened on the device
 pub calm_behind : (w : Setting) (n : Reading) (g : Grips) (held : ℕ → ℕ) (d r : ℕ) (cut : CutAt r n.line) → IsRead w n → OrderIsKept w n g held → is_device w d ≡ true → touches w.runs r d ≡ true → awaits_first (usage w.kinds (run_state w n g r) d) ≡ true
@@ -98,7 +98,7 @@ pub calm_behind : (w : Setting) (n : Reading) (g : Grips) (held : ℕ → ℕ) (
 calm_behind w n g held d r cut read kept device used awaits =
     none_marked w n g held d cut.back read
     (sym (calm_entries w.kinds (window_of w n g held).states d cut.back)
-    ∙ waits_calm (device_of w.kinds (window_of w n g held) d) (entries w.kinds (window_of w n g held).states d cut.front) (entries w.kinds (window_of w n g held).states d cut.back) (usage w.kinds (run_state w n g r) d) (kept.window.devices d (below_home w d device)) (device_order_at w n g held d r cut used) awaits)
+    ∙ waits_calm (device_record w.kinds (window_of w n g held) d) (entries w.kinds (window_of w n g held).states d cut.front) (entries w.kinds (window_of w n g held).states d cut.back) (usage w.kinds (run_state w n g r) d) (kept.window.devices d (below_home w d device)) (device_order_at w n g held d r cut used) awaits)
 
 -- An answer
 
@@ -117,7 +117,7 @@ pub record IsNewest (n : Reading) (d r : ℕ) (back : List Item) : Type 0 where
   pub calm : did n r d ≡ false → is_doomed n r ≡ false → list_any (is_marked n d) back ≡ false
 
 -- an answer of a run keeps the order of the history, where the log of its device has the run's first answer exactly if there was one
-pub logged_did_history : (w : Setting) (n : Reading) (r k : ℕ) (a : Answer) (cut : CutAt r n.line) → is_access a ≡ true → list_any (is_first r) (n.log (command_at w.runs r k).device.0) ≡ did n r (command_at w.runs r k).device.0 → IsNewest n (command_at w.runs r k).device.0 r cut.back
+pub logged_did_history : (w : Setting) (n : Reading) (r k : ℕ) (a : Answer) (cut : CutAt r n.line) → is_access a ≡ true → list_any (is_first_mark r) (n.log (command_at w.runs r k).device.0) ≡ did n r (command_at w.runs r k).device.0 → IsNewest n (command_at w.runs r k).device.0 r cut.back
     → (e : ℕ) → InHistoryOrder n e → InHistoryOrder (entry w n (Did (run_no r) k a)) e
 logged_did_history w n r k a cut access logged newest e = two_places (λ x. InHistoryOrder n x → InHistoryOrder next x) e d at_device_of elsewhere
   where

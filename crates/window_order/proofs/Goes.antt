@@ -7,13 +7,13 @@ use Rattle.device_order.proofs.Claims.{untouched_behind}
 use Rattle.device_order.proofs.Parts.{Cut, cut}
 use Rattle.device_order.specs.LineChanges.{Lacks}
 use Rattle.device_order.specs.LineEntries.{entries, stage_of, usage}
-use Rattle.device_order.specs.LineWords.{CutAt, any_run, at_device, effective_writer}
+use Rattle.device_order.specs.LineWords.{CutAt, any_run, at_device, last_in_effect}
 use Rattle.device_order.specs.Records.{walk_start}
-use Rattle.device_order.specs.RunStates.{rest, uses}
-use Rattle.device_order.specs.Usages.{has_grip as usage_has_grip, has_pending, has_touched, is_down, is_free, is_open as stage_is_open}
+use Rattle.device_order.specs.RunStates.{rest, uses_device}
+use Rattle.device_order.specs.Usages.{has_pending, has_used_device, holds_grip, is_free, is_seen_down, stage_is_open}
 use Rattle.device_order.specs.declared.walks.WalkState.{WalkState}
 use Rattle.device_order.specs.Walks.{WalkHolds, after_usage, is_command_out, walk_end}
-use Rattle.device_order.specs.Windows.{device_of}
+use Rattle.device_order.specs.Windows.{device_record}
 use Rattle.device_order.specs.declared.records.OrderEntry.{OrderEntry}
 use Rattle.device_order.specs.declared.records.Usage.{Usage}
 use Rattle.history_book.proofs.Searches.{some_is}
@@ -110,8 +110,8 @@ found_live n p (Back d k ∷ is) none x stands live = found_live n p is none x s
 none_left_there : (w : Setting) (n : Reading) (g : Grips) (held : ℕ → ℕ) (d x : ℕ) → stands_in (n.run x) ≡ true → (is_live n x ≡ true → holds_device w n g x d ≡ false) → at_device w.kinds (window_of w n g held).states d has_pending x ≡ false
 none_left_there w n g held d x stands none = at_ (is_live n x) refl
   where
-    left : uses d (rest (run_state w n g x)) ≡ pends w n x d
-    left = ap (uses d) (rest_drop (commands_of w.runs x) (n.run x).answers)
+    left : uses_device d (rest (run_state w n g x)) ≡ pends w n x d
+    left = ap (uses_device d) (rest_drop (commands_of w.runs x) (n.run x).answers)
 
     closed : (u y z : Bool) → (u && stage_is_open (stage_of true y z)) ≡ false
     closed u y z = grind (arith, common_steps)
@@ -123,8 +123,8 @@ none_left_there w n g held d x stands none = at_ (is_live n x) refl
     live_off l x p e h k = grind (arith, common_steps)
 
     at_ : (b : Bool) → is_live n x ≡ b → at_device w.kinds (window_of w n g held).states d has_pending x ≡ false
-    at_ true live = off (uses d (commands_of w.runs x)) (is_committed n x) (is_doomed n x) (uses d (rest (run_state w n g x))) (pends w n x d) (touches w.runs x d && has_effect n g x d) left (live_off (is_live n x) (is_doomed n x) (pends w n x d) (touches w.runs x d && has_effect n g x d) live (none live))
-    at_ false dead = ap (λ c. uses d (commands_of w.runs x) && stage_is_open (stage_of c (is_doomed n x) (uses d (rest (run_state w n g x))))) (stands_committed n x stands dead) ∙ closed (uses d (commands_of w.runs x)) (is_doomed n x) (uses d (rest (run_state w n g x)))
+    at_ true live = off (uses_device d (commands_of w.runs x)) (is_committed n x) (is_doomed n x) (uses_device d (rest (run_state w n g x))) (pends w n x d) (touches w.runs x d && has_effect n g x d) left (live_off (is_live n x) (is_doomed n x) (pends w n x d) (touches w.runs x d && has_effect n g x d) live (none live))
+    at_ false dead = ap (λ c. uses_device d (commands_of w.runs x) && stage_is_open (stage_of c (is_doomed n x) (uses_device d (rest (run_state w n g x))))) (stands_committed n x stands dead) ∙ closed (uses_device d (commands_of w.runs x)) (is_doomed n x) (uses_device d (rest (run_state w n g x)))
 
 none_pending : (w : Setting) (n : Reading) (g : Grips) (held : ℕ → ℕ) (d : ℕ) (part : List Item) → StandIn n part → ((x : ℕ) → list_any (is_ran x) part ≡ true → is_live n x ≡ true → holds_device w n g x d ≡ false) → any_run (at_device w.kinds (window_of w n g held).states d has_pending) part ≡ false
 unfolding any_run
@@ -138,13 +138,13 @@ none_before w n g held r d cut read none = none_pending w n g held d cut.front (
 
 -- No grip of the device is out
 
-pub none_hold : (w : Setting) (n : Reading) (g : Grips) (held : ℕ → ℕ) (d : ℕ) (line : List Item) → g d ≡ None → any_run (at_device w.kinds (window_of w n g held).states d usage_has_grip) line ≡ false
+pub none_hold : (w : Setting) (n : Reading) (g : Grips) (held : ℕ → ℕ) (d : ℕ) (line : List Item) → g d ≡ None → any_run (at_device w.kinds (window_of w n g held).states d holds_grip) line ≡ false
 unfolding any_run
 none_hold w n g held d [] home = refl
 none_hold w n g held d (Ran q ∷ is) home = λ i. free i || none_hold w n g held d is home i
   where
-    free : at_device w.kinds (window_of w n g held).states d usage_has_grip q.0 ≡ false
-    free = ap (λ (o : Option Grip). uses d (commands_of w.runs q.0) && not (is_free (held_by w q.0 o))) home ∙ and_right (uses d (commands_of w.runs q.0)) false refl
+    free : at_device w.kinds (window_of w n g held).states d holds_grip q.0 ≡ false
+    free = ap (λ (o : Option Grip). uses_device d (commands_of w.runs q.0) && not (is_free (held_by w q.0 o))) home ∙ and_right (uses_device d (commands_of w.runs q.0)) false refl
 none_hold w n g held d (Failed e k ∷ is) home = none_hold w n g held d is home
 none_hold w n g held d (Back e k ∷ is) home = none_hold w n g held d is home
 
@@ -154,10 +154,10 @@ none_hold w n g held d (Back e k ∷ is) home = none_hold w n g held d is home
 pub open_behind : (w : Setting) (n : Reading) (g : Grips) (held : ℕ → ℕ) (d r : ℕ) (cut : CutAt r n.line) → IsRead w n → OrderIsKept w n g held → is_device w d ≡ true → touches w.runs r d ≡ true → stage_is_open (usage w.kinds (run_state w n g r) d).stage ≡ true
     → list_any (of_run (λ q. did n q d)) cut.back ≡ false
 open_behind w n g held d r at read kept device used pending =
-    none_seen w n g held d at.back read (sym (has_entries w.kinds (window_of w n g held).states d has_touched at.back) ∙ untouched_behind (after_usage (walk_end z a) u) b (opened (walk_end z a) u pending) parts.rest)
+    none_seen w n g held d at.back read (sym (has_entries w.kinds (window_of w n g held).states d has_used_device at.back) ∙ untouched_behind (after_usage (walk_end z a) u) b (opened (walk_end z a) u pending) parts.rest)
   where
     z : WalkState
-    z = walk_start (device_of w.kinds (window_of w n g held) d).first_up (device_of w.kinds (window_of w n g held) d).first
+    z = walk_start (device_record w.kinds (window_of w n g held) d).first_up (device_record w.kinds (window_of w n g held) d).first
 
     u : Usage
     u = usage w.kinds (run_state w n g r) d
@@ -217,7 +217,7 @@ writer_stands n g d (Back x k ∷ is) best e at = writer_stands n g d is best e 
 
 -- where nothing is written from the run on, and no live run before it has the effective write, the effective write before it is a committed run's
 pub clean_before : (w : Setting) (n : Reading) (g : Grips) (held : ℕ → ℕ) (r d : ℕ) (cut : CutAt r n.line) → IsRead w n → list_any (of_run (λ q. did n q d)) cut.back ≡ false → ((n.run r).on d).wrote ≡ None → find (λ x. has_effect n g x d) (live_before n r) ≡ None
-    → option_map_or (λ q. ((window_of w n g held).states q).committed) (effective_writer w.kinds (window_of w n g held).states d None cut.front) true ≡ true
+    → option_map_or (λ q. ((window_of w n g held).states q).committed) (last_in_effect w.kinds (window_of w n g held).states d None cut.front) true ≡ true
 clean_before w n g held r d cut read unseen own none =
     ap (λ o. option_map_or (λ q. is_committed n q) o true) (writer_on_line w n g d cut.front read) ∙ at_ (last_some (write_of n g d) cut.front) refl
   where
@@ -243,7 +243,7 @@ clean_before w n g held r d cut read unseen own none =
 
 -- How it sees the device
 
-pub view_up : (v : Option Bool) → unwrap_or (option_map not v) false ≡ false → is_down (option_map view_from v) ≡ false
+pub view_up : (v : Option Bool) → unwrap_or (option_map not v) false ≡ false → is_seen_down (option_map view_from v) ≡ false
 view_up None h = refl
 view_up (Some true) h = refl
 view_up (Some false) h = absurd (cc)

@@ -6,7 +6,7 @@ use Rattle.device_order.specs.LineWords.{CutAt}
 use Rattle.history_book.proofs.Lines.{any_insert, any_other, any_without}
 use Rattle.history_book.proofs.Logs.{is_event_of}
 use Rattle.history_book.specs.Lines.{is_event_on, without}
-use Rattle.history_book.specs.Readings.{Event, First, Last, Mark, Reading, did, is_doomed, is_event, is_first, is_last, sees_up, span_of, view_of}
+use Rattle.history_book.specs.Readings.{Event, First, Last, LogMark, Reading, did, is_doomed, is_event, is_first_mark, is_last_mark, sees_up, span_of, view_of}
 use Rattle.home_types.specs.declared.items.Item.TheVariants.{Back, Failed, Ran}
 use Rattle.home_types.specs.declared.items.Item.{Item}
 use Rattle.home_types.specs.declared.numbers.DeviceNo.{DeviceNo}
@@ -38,19 +38,19 @@ other_items f k r (Failed e j ∷ xs) lacks runs failures backs = λ i. cons_opt
 other_items f k r (Back e j ∷ xs) lacks runs failures backs = λ i. cons_option (backs e j i) (other_items f k r xs lacks runs failures backs i)
 
 -- two tests of marks that agree on each but the first mark of a run that the log lacks
-pub other_marks : {B : Type 0} (f k : Mark → Option B) (r : ℕ) (xs : List Mark) → list_any (is_first r) xs ≡ false → ((q : ℕ) → q ≢ r → f (First q) ≡ k (First q)) → ((i : Item) → f (Event i) ≡ k (Event i)) → ((q : ℕ) → f (Last q) ≡ k (Last q)) → filter_map f xs ≡ filter_map k xs
+pub other_marks : {B : Type 0} (f k : LogMark → Option B) (r : ℕ) (xs : List LogMark) → list_any (is_first_mark r) xs ≡ false → ((q : ℕ) → q ≢ r → f (First q) ≡ k (First q)) → ((i : Item) → f (Event i) ≡ k (Event i)) → ((q : ℕ) → f (Last q) ≡ k (Last q)) → filter_map f xs ≡ filter_map k xs
 other_marks f k r [] none firsts events lasts = refl
-other_marks f k r (First q ∷ xs) none firsts events lasts = λ i. cons_option (firsts q differ i) (other_marks f k r xs (or_parts (q == r) (list_any (is_first r) xs) none).1 firsts events lasts i)
+other_marks f k r (First q ∷ xs) none firsts events lasts = λ i. cons_option (firsts q differ i) (other_marks f k r xs (or_parts (q == r) (list_any (is_first_mark r) xs) none).1 firsts events lasts i)
   where
     clash : (q r : ℕ) (y : Bool) → ((q == r) || y) ≡ false → q ≡ r → ⊥
     clash q r y h same = grind (arith, common_steps)
 
     differ : q ≢ r
-    differ same = clash q r (list_any (is_first r) xs) none same
+    differ same = clash q r (list_any (is_first_mark r) xs) none same
 other_marks f k r (Event e ∷ xs) none firsts events lasts = λ i. cons_option (events e i) (other_marks f k r xs none firsts events lasts i)
 other_marks f k r (Last q ∷ xs) none firsts events lasts = λ i. cons_option (lasts q i) (other_marks f k r xs none firsts events lasts i)
 
-pub same_marks : {B : Type 0} (f k : Mark → Option B) (xs : List Mark) → ((q : ℕ) → f (First q) ≡ k (First q)) → ((i : Item) → f (Event i) ≡ k (Event i)) → ((q : ℕ) → f (Last q) ≡ k (Last q)) → filter_map f xs ≡ filter_map k xs
+pub same_marks : {B : Type 0} (f k : LogMark → Option B) (xs : List LogMark) → ((q : ℕ) → f (First q) ≡ k (First q)) → ((i : Item) → f (Event i) ≡ k (Event i)) → ((q : ℕ) → f (Last q) ≡ k (Last q)) → filter_map f xs ≡ filter_map k xs
 same_marks f k [] firsts events lasts = refl
 same_marks f k (First q ∷ xs) firsts events lasts = λ i. cons_option (firsts q i) (same_marks f k xs firsts events lasts i)
 same_marks f k (Event e ∷ xs) firsts events lasts = λ i. cons_option (events e i) (same_marks f k xs firsts events lasts i)
@@ -81,12 +81,12 @@ newest {B = B} f k front back r new before behind runs failures backs was is non
 
 -- Spans
 
-pub span_none : (r : ℕ) (xs : List Mark) → list_any (is_first r) xs ≡ false → span_of r xs ≡ []
+pub span_none : (r : ℕ) (xs : List LogMark) → list_any (is_first_mark r) xs ≡ false → span_of r xs ≡ []
 span_none r [] none = refl
-span_none r (x ∷ xs) none = (λ i. if (or_parts (is_first r x) (list_any (is_first r) xs) none).0 i then take_while (λ y. not (is_last r y)) xs else span_of r xs) ∙ span_none r xs (or_parts (is_first r x) (list_any (is_first r) xs) none).1
+span_none r (x ∷ xs) none = (λ i. if (or_parts (is_first_mark r x) (list_any (is_first_mark r) xs) none).0 i then take_while (λ y. not (is_last_mark r y)) xs else span_of r xs) ∙ span_none r xs (or_parts (is_first_mark r x) (list_any (is_first_mark r) xs) none).1
 
 -- a mark that is no event leaves a span without events
-pub taken_quiet : (p : Mark → Bool) (xs : List Mark) (x : Mark) → is_event x ≡ false → list_any is_event (take_while p xs) ≡ false → list_any is_event (take_while p (xs ++ x ∷ [])) ≡ false
+pub taken_quiet : (p : LogMark → Bool) (xs : List LogMark) (x : LogMark) → is_event x ≡ false → list_any is_event (take_while p xs) ≡ false → list_any is_event (take_while p (xs ++ x ∷ [])) ≡ false
 taken_quiet p [] x plain quiet = ap (list_any is_event) (take_while-cons p x []) ∙ at_ (p x)
   where
     at_ : (b : Bool) → list_any is_event (cond b (x ∷ take_while p []) []) ≡ false
@@ -98,16 +98,16 @@ taken_quiet p (y ∷ xs) x plain quiet = ap (list_any is_event) (take_while-cons
     at_ step true h = or_from (is_event y) (list_any is_event (take_while p (xs ++ x ∷ []))) (or_parts (is_event y) (list_any is_event (take_while p xs)) h).0 (step (or_parts (is_event y) (list_any is_event (take_while p xs)) h).1)
     at_ step false h = refl
 
-pub span_quiet : (r : ℕ) (xs : List Mark) (x : Mark) → is_event x ≡ false → list_any is_event (span_of r xs) ≡ false → list_any is_event (span_of r (xs ++ x ∷ [])) ≡ false
-span_quiet r [] x plain quiet = at_ (is_first r x)
+pub span_quiet : (r : ℕ) (xs : List LogMark) (x : LogMark) → is_event x ≡ false → list_any is_event (span_of r xs) ≡ false → list_any is_event (span_of r (xs ++ x ∷ [])) ≡ false
+span_quiet r [] x plain quiet = at_ (is_first_mark r x)
   where
-    at_ : (b : Bool) → list_any is_event (if b then take_while (λ y. not (is_last r y)) [] else []) ≡ false
+    at_ : (b : Bool) → list_any is_event (if b then take_while (λ y. not (is_last_mark r y)) [] else []) ≡ false
     at_ true = refl
     at_ false = refl
-span_quiet r (y ∷ xs) x plain quiet = at_ (λ h. span_quiet r xs x plain h) (is_first r y) quiet
+span_quiet r (y ∷ xs) x plain quiet = at_ (λ h. span_quiet r xs x plain h) (is_first_mark r y) quiet
   where
-    at_ : (list_any is_event (span_of r xs) ≡ false → list_any is_event (span_of r (xs ++ x ∷ [])) ≡ false) → (b : Bool) → list_any is_event (if b then take_while (λ z. not (is_last r z)) xs else span_of r xs) ≡ false → list_any is_event (if b then take_while (λ z. not (is_last r z)) (xs ++ x ∷ []) else span_of r (xs ++ x ∷ [])) ≡ false
-    at_ step true h = taken_quiet (λ z. not (is_last r z)) xs x plain h
+    at_ : (list_any is_event (span_of r xs) ≡ false → list_any is_event (span_of r (xs ++ x ∷ [])) ≡ false) → (b : Bool) → list_any is_event (if b then take_while (λ z. not (is_last_mark r z)) xs else span_of r xs) ≡ false → list_any is_event (if b then take_while (λ z. not (is_last_mark r z)) (xs ++ x ∷ []) else span_of r (xs ++ x ∷ [])) ≡ false
+    at_ step true h = taken_quiet (λ z. not (is_last_mark r z)) xs x plain h
     at_ step false h = step h
 
 -- One entry more
@@ -165,11 +165,11 @@ same_history n m d s log h = record {
   spans = λ q facts. ap (λ l. list_any is_event (span_of q l)) log ∙ h.spans q (same_spans n m d s q facts);
 }
 
-pub marks_unkept : {B : Type 0} (f : Mark → Option B) (xs : List Mark) (x : Mark) → f x ≡ None → filter_map f (xs ++ x ∷ []) ≡ filter_map f xs
+pub marks_unkept : {B : Type 0} (f : LogMark → Option B) (xs : List LogMark) (x : LogMark) → f x ≡ None → filter_map f (xs ++ x ∷ []) ≡ filter_map f xs
 marks_unkept f [] x none = ap (λ o. cons_option o []) none
 marks_unkept f (y ∷ xs) x none = ap (cons_option (f y)) (marks_unkept f xs x none)
 
-pub marks_kept : {B : Type 0} (f : Mark → Option B) (xs : List Mark) (x : Mark) (new : B) → f x ≡ Some new → filter_map f (xs ++ x ∷ []) ≡ filter_map f xs ++ new ∷ []
+pub marks_kept : {B : Type 0} (f : LogMark → Option B) (xs : List LogMark) (x : LogMark) (new : B) → f x ≡ Some new → filter_map f (xs ++ x ∷ []) ≡ filter_map f xs ++ new ∷ []
 marks_kept f xs x new some = filter_map-append f xs (x ∷ []) ∙ ap (λ o. filter_map f xs ++ cons_option o []) some
 
 -- the answer to a run's last command on the device adds nothing
@@ -207,7 +207,7 @@ pub record HasFirst (n m : Reading) (d r : ℕ) : Type 0 where
   pub doomed : (q : ℕ) → is_doomed m q ≡ false → is_doomed n q ≡ false
   pub was : did n r d ≡ false
   pub is : did m r d ≡ true
-  pub unlogged : list_any (is_first r) (n.log d) ≡ false
+  pub unlogged : list_any (is_first_mark r) (n.log d) ≡ false
   pub behind : list_any (of_run (λ q. did n q d)) cut.back ≡ false
   pub calm : is_late m r d ≡ false → list_any (is_marked n d) cut.back ≡ false
 
@@ -286,7 +286,7 @@ first_history n m d r s h = record {
             ∙ ap (λ xs. xs ++ Ran (run_no r) ∷ []) (other_marks _ _ r (n.log d) s.unlogged (λ q ne i. if list_any (is_ran q) (s.line i) && not (s.late q ne i) then Some (Ran (run_no q)) else None) (λ e. refl) (λ q. refl))
 
     spans : (q : ℕ) → IsTrue (is_in_line m q && not (is_doomed m q) && sees_up m q d) → (b : Bool) → (q == r) ≡ b → list_any is_event (span_of q (n.log d ++ First r ∷ [])) ≡ false
-    spans q facts true e = span_quiet q (n.log d) (First r) refl (ap (list_any is_event) (span_none q (n.log d) (ap (λ x. list_any (is_first x) (n.log d)) (eqb-true q r e) ∙ s.unlogged)))
+    spans q facts true e = span_quiet q (n.log d) (First r) refl (ap (list_any is_event) (span_none q (n.log d) (ap (λ x. list_any (is_first_mark x) (n.log d)) (eqb-true q r e) ∙ s.unlogged)))
     spans q facts false e = span_quiet q (n.log d) (First r) refl (h.spans q before)
       where
         parts : (is_in_line m q ≡ true) × (not (is_doomed m q) ≡ true) × (sees_up m q d ≡ true)
@@ -304,7 +304,7 @@ pub record IsInserted (n m : Reading) (d r : ℕ) (front back : List Item) : Typ
   pub late : (q : ℕ) → is_late m q d ≡ is_late n q d
   pub doomed : (q : ℕ) → is_doomed m q ≡ false → is_doomed n q ≡ false
   pub none : did n r d ≡ false
-  pub unlogged : list_any (is_first r) (n.log d) ≡ false
+  pub unlogged : list_any (is_first_mark r) (n.log d) ≡ false
 
 pub skipped : {B : Type 0} (f : Item → Option B) (front back : List Item) (x : Item) → f x ≡ None → filter_map f (front ++ x ∷ back) ≡ filter_map f (front ++ back)
 skipped f [] back x none = ap (λ o. cons_option o (filter_map f back)) none
@@ -393,12 +393,12 @@ passing k None = None
 passing k (Some y) = if k y then Some y else None
 
 -- .. and so it is with marks, in a log in which the run is no event
-left_marks : {B : Type 0} (f l : Mark → Option B) (k : B → Bool) (r : ℕ) (xs : List Mark) → list_any (is_event_of r) xs ≡ false → ((q : ℕ) → l (First q) ≡ passing k (f (First q))) → ((i : Item) → is_ran r i ≡ false → l (Event i) ≡ passing k (f (Event i)))
+left_marks : {B : Type 0} (f l : LogMark → Option B) (k : B → Bool) (r : ℕ) (xs : List LogMark) → list_any (is_event_of r) xs ≡ false → ((q : ℕ) → l (First q) ≡ passing k (f (First q))) → ((i : Item) → is_ran r i ≡ false → l (Event i) ≡ passing k (f (Event i)))
     → ((q : ℕ) → l (Last q) ≡ passing k (f (Last q))) → filter_map l xs ≡ filter k (filter_map f xs)
 left_marks f l k r [] none firsts events lasts = refl
 left_marks {B = B} f l k r (x ∷ xs) none firsts events lasts = (λ i. cons_option (alike x (or_parts (is_event_of r x) (list_any (is_event_of r) xs) none).0 i) (left_marks f l k r xs (or_parts (is_event_of r x) (list_any (is_event_of r) xs) none).1 firsts events lasts i)) ∙ at_ (f x)
   where
-    alike : (y : Mark) → is_event_of r y ≡ false → l y ≡ passing k (f y)
+    alike : (y : LogMark) → is_event_of r y ≡ false → l y ≡ passing k (f y)
     alike (First q) h = firsts q
     alike (Event i) h = events i h
     alike (Last q) h = lasts q

@@ -1,6 +1,6 @@
 -- Where the items of a set are brought before the others, those that are sealed stay in front.
 use Rattle.command_rules.specs.ClosedSets.{HoldsFirst, chosen, others, rearranged}
-use Rattle.serial_line.specs.Marks.{Mark, front_of, is_open}
+use Rattle.serial_line.specs.Marks.{Mark, front_of, is_open_run}
 use Rattle.std.proofs.Common.{arith}
 use Rattle.std.specs.Prelude.{Bool, List, [], false, if◌then◌else◌, suc, true, zero, ℕ, ◌+◌, ◌∷◌, ◌≤◌}
 
@@ -11,7 +11,7 @@ front_rearranged set ms zero first upto = omega arith
 front_rearranged [] ms (suc k) first upto = absurd (let none = first 0 (omega arith) in cc)
 front_rearranged (b ∷ bs) [] (suc k) first upto = absurd (omega (arith, upto))
 front_rearranged (false ∷ bs) (m ∷ ms) (suc k) first upto = absurd (let none = first 0 (omega arith) in cc)
-front_rearranged (true ∷ bs) (m ∷ ms) (suc k) first upto = by_open (is_open m) upto (front_rearranged bs ms k (λ at low. first (suc at) (omega (arith, low))))
+front_rearranged (true ∷ bs) (m ∷ ms) (suc k) first upto = by_open (is_open_run m) upto (front_rearranged bs ms k (λ at low. first (suc at) (omega (arith, low))))
   where
     by_open : (b : Bool) → suc k ≤ (if b then 0 else front_of ms + 1) → (k ≤ front_of ms → k ≤ front_of (rearranged bs ms)) → suc k ≤ (if b then 0 else front_of (rearranged bs ms) + 1)
     by_open true none more = absurd (omega (arith, none))

@@ -4,8 +4,8 @@ use Rattle.command_rules.specs.Rosters.{commands_of, run_no, touches}
 use Rattle.device_order.specs.LineChanges.{Lacks}
 use Rattle.device_order.specs.LineEntries.{stage_of, usage}
 use Rattle.device_order.specs.LineWords.{CutAt, RunsAreDistinct}
-use Rattle.device_order.specs.RunStates.{uses as uses_device}
-use Rattle.device_order.specs.Usages.{is_open as stage_is_open, is_up}
+use Rattle.device_order.specs.RunStates.{uses_device}
+use Rattle.device_order.specs.Usages.{is_up, stage_is_open}
 use Rattle.history_book.specs.Readings.{Reading, did, is_doomed, is_live, is_open, next_of, pends, sees_up, view_of}
 use Rattle.history_book.specs.Settings.{Setting, is_device, is_weak}
 use Rattle.home_types.specs.declared.commands.View.TheVariants.{Down}
@@ -30,7 +30,7 @@ use Rattle.window_order.proofs.EventPlaces.{awaits_there}
 use Rattle.window_order.proofs.Goes.{open_behind}
 use Rattle.window_order.proofs.ReadFacts.{IsRead, rest_drop, runs_distinct}
 use Rattle.window_order.proofs.Runs.{live_uncommitted}
-use Rattle.window_order.specs.LostRuns.{first_waiting, is_lost, lost_on, waits}
+use Rattle.window_order.specs.LostRuns.{first_waiting_run, is_access_waiting, is_lost_access, lost_on}
 use Rattle.window_order.specs.OrderKept.{OrderIsKept}
 use Rattle.window_order.specs.ReadWindows.{run_state}
 use Rattle.window_order.specs.TableKept.{LineageIsKept, access_read, accesses_along, commits_write}
@@ -40,7 +40,7 @@ abbrev spans_there : Setting → Reading → ℕ → ℕ → Bool
 spans_there w n d r = is_open w n r d && sees_up n r d
 
 -- of a run that uses the device its access says so too
-lost_same : (w : Setting) (n : Reading) (g : Grips) (passed : ℕ → Bool) (d r : ℕ) → ((q : ℕ) → passed q ≡ true → may_be_passed n g q d ≡ true) → grips_command g r d ≡ false → uses w n d r ≡ true → is_lost (access_read w n g passed d r) ≡ spans_there w n d r
+lost_same : (w : Setting) (n : Reading) (g : Grips) (passed : ℕ → Bool) (d r : ℕ) → ((q : ℕ) → passed q ≡ true → may_be_passed n g q d ≡ true) → grips_command g r d ≡ false → uses w n d r ≡ true → is_lost_access (access_read w n g passed d r) ≡ spans_there w n d r
 lost_same w n g passed d r may free used = by_passed (passed r) refl
   where
     lives : (l t x : Bool) → (l && t && x) ≡ true → l ≡ true
@@ -135,19 +135,19 @@ open_uses w n d r read opened = (lives (is_live n r) (is_doomed n r) (pends w n 
 pub lost_read : (w : Setting) (n : Reading) (g : Grips) (held : ℕ → ℕ) (d : ℕ) (s : LineageState) → IsRead w n → is_weak w.mode ≡ false → is_device w d ≡ true → ((q : ℕ) → grips_command g q d ≡ false) → OrderIsKept w n g held → LineageIsKept w n g d s → lost_by w n d ≡ lost_on s
 lost_read w n g held d s read strong device free kept own =
     ap (λ b. if b then None else find (spans_there w n d) (live_runs n n.line)) strong
-    ∙ first_along w n d (spans_there w n d) (access_read w n g own.passed d) is_lost n.line (λ r. refl) (λ r used. lost_same w n g own.passed d r own.may_pass (free r) used) (λ r h. open_uses w n d r read (opens_there r h))
+    ∙ first_along w n d (spans_there w n d) (access_read w n g own.passed d) is_lost_access n.line (λ r. refl) (λ r used. lost_same w n g own.passed d r own.may_pass (free r) used) (λ r h. open_uses w n d r read (opens_there r h))
     (λ front back r at h. none_wrote w n g held d r front back read kept device at (opens_there r h))
-    ∙ ap (λ xs. option_map (λ (x : Access). x.run.0) (find is_lost xs)) (sym own.accesses)
+    ∙ ap (λ xs. option_map (λ (x : Access). x.run.0) (find is_lost_access xs)) (sym own.accesses)
   where
     opens_there : (r : ℕ) → spans_there w n d r ≡ true → is_open w n r d ≡ true
     opens_there r h = (and_parts (is_open w n r d) (sees_up n r d) h).0
 
 -- .. and the run before which its event stands: the first with a scheduled access that is not doomed
-pub waiting_read : (w : Setting) (n : Reading) (g : Grips) (held : ℕ → ℕ) (d : ℕ) (s : LineageState) → IsRead w n → is_weak w.mode ≡ false → is_device w d ≡ true → OrderIsKept w n g held → LineageIsKept w n g d s → find (awaits_there w n d) (live_runs n n.line) ≡ first_waiting (is_doomed n) s
+pub waiting_read : (w : Setting) (n : Reading) (g : Grips) (held : ℕ → ℕ) (d : ℕ) (s : LineageState) → IsRead w n → is_weak w.mode ≡ false → is_device w d ≡ true → OrderIsKept w n g held → LineageIsKept w n g d s → find (awaits_there w n d) (live_runs n n.line) ≡ first_waiting_run (is_doomed n) s
 waiting_read w n g held d s read strong device kept own =
-    first_along w n d (awaits_there w n d) (access_read w n g own.passed d) (waits (is_doomed n)) n.line (λ r. refl) (λ r used. same r used (own.passed r) refl) (λ r h. open_uses w n d r read (opens_there r h))
+    first_along w n d (awaits_there w n d) (access_read w n g own.passed d) (is_access_waiting (is_doomed n)) n.line (λ r. refl) (λ r used. same r used (own.passed r) refl) (λ r h. open_uses w n d r read (opens_there r h))
     (λ front back r at h. none_wrote w n g held d r front back read kept device at (opens_there r h))
-    ∙ ap (λ xs. option_map (λ (x : Access). x.run.0) (find (waits (is_doomed n)) xs)) (sym own.accesses)
+    ∙ ap (λ xs. option_map (λ (x : Access). x.run.0) (find (is_access_waiting (is_doomed n)) xs)) (sym own.accesses)
   where
     second : (a b c : Bool) → (a && b && c) ≡ true → b ≡ true
     second a b c h = grind (arith, common_steps)

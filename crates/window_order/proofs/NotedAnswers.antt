@@ -2,8 +2,8 @@
 use Rattle.home_types.specs.declared.commands.View.{View}
 use Rattle.window_order.specs.KeptOrders.{MayNote, is_first, noted_first}
 use Rattle.lineage_table.proofs.Pairs.{Pairs, pairs_from_all}
-use Rattle.lineage_table.specs.Accesses.{AreInTurn, IsDisciplined, access_of, before, is_of, is_released, is_scheduled, some_scheduled, status_of, with_change}
-use Rattle.lineage_table.specs.Answers.{answered, answered_access, answered_if}
+use Rattle.lineage_table.specs.Accesses.{AreInTurn, IsDisciplined, access_of, accesses_before, is_of, is_released, is_scheduled, some_scheduled, status_of, with_change}
+use Rattle.lineage_table.specs.Answers.{answered_access, answered_if, lineage_answered}
 use Rattle.lineage_table.specs.Lineages.{LineageState, accesses_at, acquired, lineage_at, no_lineage, with_lineage}
 use Rattle.lineage_table.specs.declared.accesses.Access.{Access}
 use Rattle.lineage_table.specs.declared.accesses.Status.TheVariants.{Acquired, Released, Scheduled}
@@ -18,7 +18,7 @@ use Rattle.std.specs.Prelude.{Bool, List, None, Option, Some, [], false, find, i
 use Rattle.window_order.proofs.AnsweredTables.{acquire_access, release_access, with_none, with_twice, write_access}
 use Rattle.window_order.proofs.PassedAccesses.{pass_none, passed_first, waits}
 use Rattle.window_order.proofs.TableSteps.{with_both}
-use Rattle.window_order.specs.TableChanges.{IsFirst, IsWaiting, acquired_if, noted, passed, released_if, written_if}
+use Rattle.window_order.specs.TableChanges.{IsFirst, IsWaiting, acquired_if, answer_noted, passed, released_if, written_if}
 
 -- a change that leaves the lineage leaves the table
 pub with_same : (table : List LineageState) (d : ℕ) → with_lineage table d (λ s. s) ≡ table
@@ -57,7 +57,7 @@ module _ (r : ℕ) (first : Bool) (view : View) (wrote : Option ℕ) (last : Boo
   all_steps : Access → Access
   all_steps x = release_access last (write_access wrote (acquire_access first view x))
 
-  noted_steps : (s : LineageState) → noted r first view wrote last s ≡ with_accesses s (with_change r all_steps s.accesses)
+  noted_steps : (s : LineageState) → answer_noted r first view wrote last s ≡ with_accesses s (with_change r all_steps s.accesses)
   unfolding all_steps with_accesses
   noted_steps s =
       ap (λ t. released_if last r (written_if wrote r t)) (at_first first)
@@ -103,14 +103,14 @@ module _ (r : ℕ) (first : Bool) (view : View) (wrote : Option ℕ) (last : Boo
       at false None false e = seen Acquired Acquired x.wrote e ∙ ap (λ t. record x { status = t }) (sym e)
       at false (Some v) false e = seen Acquired Acquired (Some v) e ∙ ap (λ t. record x { status = t; wrote = Some v }) (sym e)
 
-  answered_noted : (s : LineageState) → status_of r s.accesses ≡ Some (if first then Scheduled else Acquired) → answered r view wrote last s ≡ noted r first view wrote last s
+  answered_noted : (s : LineageState) → status_of r s.accesses ≡ Some (if first then Scheduled else Acquired) → lineage_answered r view wrote last s ≡ answer_noted r first view wrote last s
   unfolding with_accesses
   answered_noted s e = ap (with_accesses s) (change_as r (answered_access view wrote last) all_steps s.accesses (λ x found. one_step x (same_Some x.status _ (sym (ap (option_map (λ (y : Access). y.status)) found) ∙ e)))) ∙ sym (noted_steps s)
 
 -- The run that notes an answer
 
 -- none is scheduled before a run that has acquired the device
-none_before : (r : ℕ) (xs : List Access) → Pairs AreInTurn xs → status_of r xs ≡ Some Acquired → some_scheduled (before r xs) ≡ false
+none_before : (r : ℕ) (xs : List Access) → Pairs AreInTurn xs → status_of r xs ≡ Some Acquired → some_scheduled (accesses_before r xs) ≡ false
 unfolding Pairs
 none_before r [] turns h = absurd (cc)
 none_before r (x ∷ xs) turns h = at (is_of r x) h (λ e. (in_turn xs turns.0 e, none_before r xs turns.1 e))
@@ -128,32 +128,32 @@ none_before r (x ∷ xs) turns h = at (is_of r x) h (λ e. (in_turn xs turns.0 e
         split true f e = own x.status refl (same_Some y.status Acquired e)
         split false f e = f e
 
-    at : (b : Bool) → option_map (λ (z : Access). z.status) (if b then Some x else access_of r xs) ≡ Some Acquired → (status_of r xs ≡ Some Acquired → (is_scheduled x.status ≡ false) × (some_scheduled (before r xs) ≡ false)) → some_scheduled (if b then [] else (x ∷ before r xs)) ≡ false
+    at : (b : Bool) → option_map (λ (z : Access). z.status) (if b then Some x else access_of r xs) ≡ Some Acquired → (status_of r xs ≡ Some Acquired → (is_scheduled x.status ≡ false) × (some_scheduled (accesses_before r xs) ≡ false)) → some_scheduled (if b then [] else (x ∷ accesses_before r xs)) ≡ false
     at true e f = refl
-    at false e f = let p = f e in or_from (is_scheduled x.status) (some_scheduled (before r xs)) p.0 p.1
+    at false e f = let p = f e in or_from (is_scheduled x.status) (some_scheduled (accesses_before r xs)) p.0 p.1
 
 -- so it has its first answer there, where one is
-waits_first : (r : ℕ) (s : LineageState) → IsDisciplined s.accesses → MayNote r s → some_scheduled (before r s.accesses) ≡ true → is_first r s ≡ true
+waits_first : (r : ℕ) (s : LineageState) → IsDisciplined s.accesses → MayNote r s → some_scheduled (accesses_before r s.accesses) ≡ true → is_first r s ≡ true
 waits_first r s disciplined may waits = at (is_first r s) refl
   where
     at : (b : Bool) → is_first r s ≡ b → is_first r s ≡ true
     at true e = e
-    at false e = absurd (both_ways (some_scheduled (before r s.accesses)) (none_before r s.accesses (pairs_from_all AreInTurn s.accesses disciplined.in_turn) (may.status ∙ ap (λ b. Some (if b then Scheduled else Acquired)) e)) waits)
+    at false e = absurd (both_ways (some_scheduled (accesses_before r s.accesses)) (none_before r s.accesses (pairs_from_all AreInTurn s.accesses disciplined.in_turn) (may.status ∙ ap (λ b. Some (if b then Scheduled else Acquired)) e)) waits)
 
 none_found : (xs : List Access) → some_scheduled xs ≡ false → find waits xs ≡ None
 none_found [] h = refl
 none_found (x ∷ xs) h = grind (arith, common_steps, none_found xs)
 
 -- the answer is noted at once, where none waits before the run ..
-noted_at_once : (r : ℕ) (view : View) (wrote : Option ℕ) (last : Bool) (s : LineageState) → MayNote r s → some_scheduled (before r s.accesses) ≡ false → answered r view wrote last s ≡ noted_first r (is_first r s) view wrote last s
+noted_at_once : (r : ℕ) (view : View) (wrote : Option ℕ) (last : Bool) (s : LineageState) → MayNote r s → some_scheduled (accesses_before r s.accesses) ≡ false → lineage_answered r view wrote last s ≡ noted_first r (is_first r s) view wrote last s
 noted_at_once r view wrote last s may none = answered_noted r (is_first r s) view wrote last s may.status ∙ at (is_first r s) refl
   where
-    at : (b : Bool) → is_first r s ≡ b → noted r b view wrote last s ≡ noted_first r b view wrote last s
-    at true e = ap (noted r true view wrote last) (sym (pass_none r s (may.first e) (none_found (before r s.accesses) none)).same)
+    at : (b : Bool) → is_first r s ≡ b → answer_noted r b view wrote last s ≡ noted_first r b view wrote last s
+    at true e = ap (answer_noted r true view wrote last) (sym (pass_none r s (may.first e) (none_found (accesses_before r s.accesses) none)).same)
     at false e = refl
 
 -- .. else when those before it are passed
-noted_behind : (r : ℕ) (view : View) (wrote : Option ℕ) (last : Bool) (s : LineageState) → MayNote r s → is_first r s ≡ true → answered r view wrote last (passed r s) ≡ noted_first r (is_first r s) view wrote last s
+noted_behind : (r : ℕ) (view : View) (wrote : Option ℕ) (last : Bool) (s : LineageState) → MayNote r s → is_first r s ≡ true → lineage_answered r view wrote last (passed r s) ≡ noted_first r (is_first r s) view wrote last s
 noted_behind r view wrote last s may first = answered_noted r true view wrote last (passed r s) (passed_first r s (may.first first)).scheduled ∙ ap (λ b. noted_first r b view wrote last s) (sym first)
 
 not_false : (b : Bool) → false ≡ not b → b ≡ true
@@ -166,12 +166,12 @@ not_true false e = refl
 
 module _ (r d : ℕ) (view : View) (wrote : Option ℕ) (last : Bool) (t : List LineageState) (below : d < length t) (may : MayNote r (lineage_at t d)) where
   -- the first call noted it
-  pub noted_by_one : (x : List LineageState) → true ≡ not (some_scheduled (before r (accesses_at t d))) → x ≡ with_lineage t d (answered_if true r view wrote last) → x ≡ with_lineage t d (noted_first r (is_first r (lineage_at t d)) view wrote last)
-  noted_by_one x turn is = is ∙ ap (slice_set t d) (noted_at_once r view wrote last (lineage_at t d) may (not_true (some_scheduled (before r (accesses_at t d))) turn))
+  pub noted_by_one : (x : List LineageState) → true ≡ not (some_scheduled (accesses_before r (accesses_at t d))) → x ≡ with_lineage t d (answered_if true r view wrote last) → x ≡ with_lineage t d (noted_first r (is_first r (lineage_at t d)) view wrote last)
+  noted_by_one x turn is = is ∙ ap (slice_set t d) (noted_at_once r view wrote last (lineage_at t d) may (not_true (some_scheduled (accesses_before r (accesses_at t d))) turn))
 
-  module _ (disciplined : IsDisciplined (accesses_at t d)) (u : List LineageState) (turn : false ≡ not (some_scheduled (before r (accesses_at t d)))) (left : u ≡ with_lineage t d (answered_if false r view wrote last)) where
+  module _ (disciplined : IsDisciplined (accesses_at t d)) (u : List LineageState) (turn : false ≡ not (some_scheduled (accesses_before r (accesses_at t d)))) (left : u ≡ with_lineage t d (answered_if false r view wrote last)) where
     has_first : is_first r (lineage_at t d) ≡ true
-    has_first = waits_first r (lineage_at t d) disciplined may (not_false (some_scheduled (before r (accesses_at t d))) turn)
+    has_first = waits_first r (lineage_at t d) disciplined may (not_false (some_scheduled (accesses_before r (accesses_at t d))) turn)
 
     same : u ≡ t
     same = left ∙ with_same t d
@@ -181,11 +181,11 @@ module _ (r d : ℕ) (view : View) (wrote : Option ℕ) (last : Bool) (t : List 
     waits_behind = subst (λ (y : List LineageState). IsWaiting r (lineage_at y d)) (sym same) (may.first has_first)
 
     -- when those before it are passed the second one notes it
-    pub noted_by_two : (v x : List LineageState) (b : Bool) → v ≡ with_lineage u d (passed r) → IsFirst r (lineage_at v d) → b ≡ not (some_scheduled (before r (accesses_at v d))) → x ≡ with_lineage v d (answered_if b r view wrote last)
+    pub noted_by_two : (v x : List LineageState) (b : Bool) → v ≡ with_lineage u d (passed r) → IsFirst r (lineage_at v d) → b ≡ not (some_scheduled (accesses_before r (accesses_at v d))) → x ≡ with_lineage v d (answered_if b r view wrote last)
         → x ≡ with_lineage t d (noted_first r (is_first r (lineage_at t d)) view wrote last)
     noted_by_two v x b passes first told is =
         is
         ∙ ap (λ c. with_lineage v d (answered_if c r view wrote last)) (told ∙ ap not first.none_before)
-        ∙ ap (λ (y : List LineageState). with_lineage y d (answered r view wrote last)) (passes ∙ ap (λ (y : List LineageState). with_lineage y d (passed r)) same)
-        ∙ with_both t d (passed r) (answered r view wrote last) below
+        ∙ ap (λ (y : List LineageState). with_lineage y d (lineage_answered r view wrote last)) (passes ∙ ap (λ (y : List LineageState). with_lineage y d (passed r)) same)
+        ∙ with_both t d (passed r) (lineage_answered r view wrote last) below
         ∙ ap (slice_set t d) (noted_behind r view wrote last (lineage_at t d) may has_first)

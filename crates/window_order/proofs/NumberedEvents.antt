@@ -11,7 +11,7 @@ use Rattle.history_book.specs.declared.entries.Entry.TheVariants.{Arrived, Did, 
 use Rattle.history_book.specs.declared.entries.Entry.{Entry}
 use Rattle.home_types.specs.declared.items.Item.TheVariants.{Back, Failed, Ran}
 use Rattle.home_types.specs.declared.items.Item.{Item}
-use Rattle.serial_line.specs.Marks.{is_failure, is_restart}
+use Rattle.serial_line.specs.Marks.{is_failure, is_restart_of}
 use Rattle.std.proofs.Common.{arith, cond, refl, subst, sym, ◌∙◌}
 use Rattle.std.proofs.lemmas.Bool.{eqb-true, or_parts}
 use Rattle.std.proofs.lemmas.Grind.{common_steps}
@@ -21,7 +21,7 @@ use Rattle.std.specs.Prelude.{Bool, List, [], false, filter, fold, if◌then◌e
 -- no event of the device stands in the line with a greater number
 pub record EventsAreNumbered (n : Reading) : Type 0 where
   pub failures : (d k : ℕ) → n.fell d < k → list_any (is_failure d k) n.line ≡ false
-  pub restarts : (d k : ℕ) → n.rose d < k → list_any (is_restart d k) n.line ≡ false
+  pub restarts : (d k : ℕ) → n.rose d < k → list_any (is_restart_of d k) n.line ≡ false
 
 any_filtered : (p q : Item → Bool) (is : List Item) → list_any p is ≡ false → list_any p (filter q is) ≡ false
 any_filtered p q [] none = refl
@@ -49,23 +49,23 @@ numbered_step : (w : Setting) (n : Reading) (e : Entry) → EventsAreNumbered n 
 numbered_step w n (Arrived r m) s = record { failures = s.failures; restarts = s.restarts }
 numbered_step w n (Placed r at m) s = record {
   failures = λ d k more. any_insert (is_failure d k) (split_of w n r.0 at m).front (split_of w n r.0 at m).back (Ran r) ∙ split_any w n r.0 at m (is_failure d k) ∙ s.failures d k more;
-  restarts = λ d k more. any_insert (is_restart d k) (split_of w n r.0 at m).front (split_of w n r.0 at m).back (Ran r) ∙ split_any w n r.0 at m (is_restart d k) ∙ s.restarts d k more;
+  restarts = λ d k more. any_insert (is_restart_of d k) (split_of w n r.0 at m).front (split_of w n r.0 at m).back (Ran r) ∙ split_any w n r.0 at m (is_restart_of d k) ∙ s.restarts d k more;
 }
 numbered_step w n (Did r c a) s = record { failures = s.failures; restarts = s.restarts }
 numbered_step w n (Undid r d drove) s = record { failures = s.failures; restarts = s.restarts }
 numbered_step w n (Fell d) s = record {
   failures = λ e k more. let over = above n.fell d.0 e k more in any_put_before (is_failure e k) _ (Failed d (n.fell d.0 + 1)) n.line ∙ (λ i. over.1 i || s.failures e k over.0 i);
-  restarts = λ e k more. any_put_before (is_restart e k) _ (Failed d (n.fell d.0 + 1)) n.line ∙ s.restarts e k more;
+  restarts = λ e k more. any_put_before (is_restart_of e k) _ (Failed d (n.fell d.0 + 1)) n.line ∙ s.restarts e k more;
 }
 numbered_step w n (Rose d) s = record {
   failures = λ e k more. any_put_before (is_failure e k) _ (Back d (n.rose d.0 + 1)) n.line ∙ s.failures e k more;
-  restarts = λ e k more. let over = above n.rose d.0 e k more in any_put_before (is_restart e k) _ (Back d (n.rose d.0 + 1)) n.line ∙ (λ i. over.1 i || s.restarts e k over.0 i);
+  restarts = λ e k more. let over = above n.rose d.0 e k more in any_put_before (is_restart_of e k) _ (Back d (n.rose d.0 + 1)) n.line ∙ (λ i. over.1 i || s.restarts e k over.0 i);
 }
 numbered_step w n (Doomed r cause) s = record { failures = s.failures; restarts = s.restarts }
 numbered_step w n (Ended r Committed) s = record { failures = s.failures; restarts = s.restarts }
 numbered_step w n (Ended r (Aborted cause)) s = record {
   failures = λ d k more. any_filtered (is_failure d k) (λ i. not (is_ran r.0 i)) n.line (s.failures d k more);
-  restarts = λ d k more. any_filtered (is_restart d k) (λ i. not (is_ran r.0 i)) n.line (s.restarts d k more);
+  restarts = λ d k more. any_filtered (is_restart_of d k) (λ i. not (is_ran r.0 i)) n.line (s.restarts d k more);
 }
 
 numbered_from : (w : Setting) (n : Reading) (h : List Entry) → EventsAreNumbered n → EventsAreNumbered (fold (entry w) n h)

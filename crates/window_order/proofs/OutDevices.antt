@@ -6,10 +6,10 @@ use Rattle.device_order.specs.Invariant.{DeviceFits}
 use Rattle.device_order.specs.LineEntries.{entries, usage}
 use Rattle.device_order.specs.LineWords.{CutAt}
 use Rattle.device_order.specs.Records.{walk_start}
-use Rattle.device_order.specs.Usages.{has_grip as usage_has_grip, is_command as holds_command, is_down, is_free}
+use Rattle.device_order.specs.Usages.{holds_command, holds_grip, is_free, is_seen_down}
 use Rattle.device_order.specs.Walks.{GripFits, WalkHolds, after_usage, is_home, walk_end}
-use Rattle.device_order.specs.declared.records.Grip.TheVariants.{Free, Reads, Undoes as HeldToUndo, Writes}
-use Rattle.device_order.specs.declared.records.Grip.{Grip as HeldGrip}
+use Rattle.device_order.specs.declared.records.HeldGrip.TheVariants.{Free, Reads, Undoes as HeldToUndo, Writes}
+use Rattle.device_order.specs.declared.records.HeldGrip.{HeldGrip}
 use Rattle.device_order.specs.declared.records.OrderEntry.TheVariants.{Used}
 use Rattle.device_order.specs.declared.records.OrderEntry.{OrderEntry}
 use Rattle.device_order.specs.declared.records.Probe.TheVariants.{Asks, Restores}
@@ -43,7 +43,7 @@ asks_up e up held p h x = grind (arith, common_steps)
 restores_down : (e : WalkState) (up : Bool) (held : ℕ) (p : Probe) (v : ℕ) → p ≡ Restores v → DeviceFits e up held p → up ≡ false
 restores_down e up held p v h x = grind (arith, common_steps)
 
-held_out : (s : WalkState) (u : Usage) → usage_has_grip u ≡ true → is_home (after_usage s u).out ≡ false
+held_out : (s : WalkState) (u : Usage) → holds_grip u ≡ true → is_home (after_usage s u).out ≡ false
 held_out s u h = grind (arith, common_steps)
 
 -- what a run of the line does on the device fits what stands before it
@@ -88,19 +88,19 @@ called_up w n g held d r k read at kept = held_up w n g held d r (cut_live w n r
 pub called_unseen : (w : Setting) (n : Reading) (g : Grips) (held : ℕ → ℕ) (d r k : ℕ) → IsRead w n → g d ≡ Some (record { maker = r; purpose = Commands k }) → OrderIsKept w n g held → sees_down n r d ≡ false
 called_unseen w n g held d r k read at kept =
     unseen (view_of n r d)
-    (sym (ap is_down ((read.summarized r).view d))
+    (sym (ap is_seen_down ((read.summarized r).view d))
     ∙ by_grip (held_by w r (g d)) (use_there w n g held d r (cut_live w n r read (out_is w n g d r k kept.grips at).live) kept (kept.grips.homed d (ap is_some at)) (touches_is w n r d (acts_on w n g held r d kept (own_command g d r (Commands k) at)))).fits.grip (command_held w g r d ∙ own_command g d r (Commands k) at))
   where
     u : Usage
     u = usage w.kinds (run_state w n g r) d
 
-    by_grip : (x : HeldGrip) → GripFits x u → holds_command x ≡ true → is_down u.view ≡ false
+    by_grip : (x : HeldGrip) → GripFits x u → holds_command x ≡ true → is_seen_down u.view ≡ false
     by_grip Free fits h = absurd (cc)
     by_grip Reads fits h = fits.2
     by_grip Writes fits h = fits.2
     by_grip (HeldToUndo v) fits h = absurd (cc)
 
-    unseen : (v : Option Bool) → is_down (option_map view_from v) ≡ false → unwrap_or (option_map not v) false ≡ false
+    unseen : (v : Option Bool) → is_seen_down (option_map view_from v) ≡ false → unwrap_or (option_map not v) false ≡ false
     unseen None h = refl
     unseen (Some true) h = refl
     unseen (Some false) h = absurd (cc)

@@ -4,7 +4,7 @@ use Rattle.home_types.specs.declared.commands.View.TheVariants.{Down}
 use Rattle.lineage_table.proofs.Pairs.{Pairs, pairs_from_all, pairs_front}
 use Rattle.lineage_table.proofs.Splits.{before_at}
 use Rattle.lineage_table.proofs.Steps.{acquired_at, pass_at, status_at}
-use Rattle.lineage_table.specs.Accesses.{AreOfTwoRuns, IsDisciplined, before, has_access, is_acquired, is_of, is_scheduled, some_acquired, some_scheduled, status_of}
+use Rattle.lineage_table.specs.Accesses.{AreOfTwoRuns, IsDisciplined, accesses_before, has_access, is_acquired, is_of, is_scheduled, some_acquired, some_scheduled, status_of}
 use Rattle.lineage_table.specs.Lineages.{LineageState, acquired, released}
 use Rattle.lineage_table.specs.declared.accesses.Access.{Access}
 use Rattle.lineage_table.specs.declared.accesses.Status.TheVariants.{Acquired, Released, Scheduled}
@@ -23,11 +23,11 @@ waits x = is_scheduled x.status
 
 -- the first scheduled access before that of the run
 abbrev pub next_waiting : ℕ → List Access → Option Access
-next_waiting r xs = find waits (before r xs)
+next_waiting r xs = find waits (accesses_before r xs)
 
 -- how many of those there are
 abbrev pub waits_before : ℕ → List Access → ℕ
-waits_before r xs = count_by waits (before r xs)
+waits_before r xs = count_by waits (accesses_before r xs)
 
 self : (x : Access) → is_of x.run.0 x ≡ true
 self x = grind (arith, common_steps)
@@ -49,13 +49,13 @@ cut_before r x (y ∷ ys) h = at_ (λ e. cut_before r x ys e) (is_of r y) (waits
     the : (u v : Access) → Some u ≡ Some v → u ≡ v
     the u v e = ap (λ o. unwrap_or o u) e
 
-    at_ : (next_waiting r ys ≡ Some x → CutBefore r x ys) → (a b : Bool) → is_of r y ≡ a → waits y ≡ b → find waits (if a then [] else (y ∷ before r ys)) ≡ Some x → CutBefore r x (y ∷ ys)
+    at_ : (next_waiting r ys ≡ Some x → CutBefore r x ys) → (a b : Bool) → is_of r y ≡ a → waits y ≡ b → find waits (if a then [] else (y ∷ accesses_before r ys)) ≡ Some x → CutBefore r x (y ∷ ys)
     at_ ih true b e f h = absurd (cc)
     at_ ih false true e f h =
-        let same : y ≡ x = the y x (ap (λ c. cond c (Some y) (find waits (before r ys))) (sym f) ∙ h) in
+        let same : y ≡ x = the y x (ap (λ c. cond c (Some y) (find waits (accesses_before r ys))) (sym f) ∙ h) in
         record { front = []; back = ys; list = ap (λ z. z ∷ ys) same; none_waits = refl; none_own = refl; other = ap (is_of r) (sym same) ∙ e; scheduled = ap waits (sym same) ∙ f }
     at_ ih false false e f h =
-        let c : CutBefore r x ys = ih (ap (λ c. cond c (Some y) (find waits (before r ys))) (sym f) ∙ h) in
+        let c : CutBefore r x ys = ih (ap (λ c. cond c (Some y) (find waits (accesses_before r ys))) (sym f) ∙ h) in
         record { front = y ∷ c.front; back = c.back; list = ap (λ l. y ∷ l) c.list; none_waits = or_from (waits y) (some_scheduled c.front) f c.none_waits; none_own = or_from (is_of r y) (has_access r c.front) e c.none_own; other = c.other; scheduled = c.scheduled }
 
 -- no access in front is of the same run
@@ -76,7 +76,7 @@ passed_at r [] z b none other = ap (λ c. if c then (z ∷ b) else (pass_access 
 passed_at r (y ∷ a) z b none other = let p = or_parts (is_of r y) (has_access r a) none in
     ap (λ c. if c then (y ∷ (a ++ z ∷ b)) else (pass_access y ∷ with_passed r (a ++ z ∷ b))) p.0 ∙ ap (λ l. pass_access y ∷ l) (passed_at r a z b p.1 other)
 
-before_past : (r : ℕ) (a : List Access) (z : Access) (b : List Access) → has_access r a ≡ false → is_of r z ≡ false → before r (a ++ z ∷ b) ≡ a ++ z ∷ before r b
+before_past : (r : ℕ) (a : List Access) (z : Access) (b : List Access) → has_access r a ≡ false → is_of r z ≡ false → accesses_before r (a ++ z ∷ b) ≡ a ++ z ∷ accesses_before r b
 before_past r [] z b none other = grind (arith, common_steps)
 before_past r (y ∷ a) z b none other = grind (arith, common_steps, before_past r a z b)
 
@@ -109,7 +109,7 @@ pass_first r x s disciplined waiting found = record {
   first = record {
     scheduled = ap (status_of x.run.0) c.list ∙ status_at x.run.0 c.front x c.back own (self x) ∙ ap (λ t. Some t) (is_waiting x.status c.scheduled);
     none_acquired = waiting.none_acquired;
-    none_before = ap some_scheduled (ap (before x.run.0) c.list ∙ before_at x.run.0 c.front x c.back own (self x)) ∙ c.none_waits;
+    none_before = ap some_scheduled (ap (accesses_before x.run.0) c.list ∙ before_at x.run.0 c.front x c.back own (self x)) ∙ c.none_waits;
   };
   waiting = record {
     scheduled = ap (status_of r) after ∙ status_past r c.front (passed_access x) c.back c.none_own c.other ∙ sym (status_past r c.front x c.back c.none_own c.other) ∙ ap (status_of r) (sym c.list) ∙ waiting.scheduled;
@@ -141,11 +141,11 @@ pass_first r x s disciplined waiting found = record {
         ap (with_passed r) after ∙ passed_at r c.front (passed_access x) c.back c.none_own c.other ∙ ap (λ y. map pass_access c.front ++ y ∷ with_passed r c.back) (again x c.scheduled)
         ∙ sym (ap (with_passed r) c.list ∙ passed_at r c.front x c.back c.none_own c.other)
 
-    was : waits_before r s.accesses ≡ 1 + count_by waits (c.front ++ before r c.back)
-    was = ap (waits_before r) c.list ∙ ap (count_by waits) (before_past r c.front x c.back c.none_own c.other) ∙ count_insert waits c.front (before r c.back) x ∙ ap (λ b. cond b 1 0 + count_by waits (c.front ++ before r c.back)) c.scheduled
+    was : waits_before r s.accesses ≡ 1 + count_by waits (c.front ++ accesses_before r c.back)
+    was = ap (waits_before r) c.list ∙ ap (count_by waits) (before_past r c.front x c.back c.none_own c.other) ∙ count_insert waits c.front (accesses_before r c.back) x ∙ ap (λ b. cond b 1 0 + count_by waits (c.front ++ accesses_before r c.back)) c.scheduled
 
-    is : waits_before r (released x.run.0 (acquired x.run.0 Down s)).accesses ≡ 0 + count_by waits (c.front ++ before r c.back)
-    is = ap (waits_before r) after ∙ ap (count_by waits) (before_past r c.front (passed_access x) c.back c.none_own c.other) ∙ count_insert waits c.front (before r c.back) (passed_access x)
+    is : waits_before r (released x.run.0 (acquired x.run.0 Down s)).accesses ≡ 0 + count_by waits (c.front ++ accesses_before r c.back)
+    is = ap (waits_before r) after ∙ ap (count_by waits) (before_past r c.front (passed_access x) c.back c.none_own c.other) ∙ count_insert waits c.front (accesses_before r c.back) (passed_access x)
 
     less : waits_before r (released x.run.0 (acquired x.run.0 Down s)).accesses < waits_before r s.accesses
     less = omega (arith, was, is)
@@ -153,19 +153,19 @@ pass_first r x s disciplined waiting found = record {
 -- where none is left to pass
 
 none_later : (r : ℕ) (y : Access) (ys : List Access) → is_of r y ≡ false → next_waiting r (y ∷ ys) ≡ None → (waits y ≡ false) × (next_waiting r ys ≡ None)
-none_later r y ys other h = at_ (waits y) refl (ap (λ c. find waits (if c then [] else (y ∷ before r ys))) (sym other) ∙ h)
+none_later r y ys other h = at_ (waits y) refl (ap (λ c. find waits (if c then [] else (y ∷ accesses_before r ys))) (sym other) ∙ h)
   where
     at_ : (b : Bool) → waits y ≡ b → cond b (Some y) (next_waiting r ys) ≡ None → (waits y ≡ false) × (next_waiting r ys ≡ None)
     at_ true e h = absurd (cc)
     at_ false e h = (e, h)
 
-none_waits : (r : ℕ) (xs : List Access) → next_waiting r xs ≡ None → some_scheduled (before r xs) ≡ false
+none_waits : (r : ℕ) (xs : List Access) → next_waiting r xs ≡ None → some_scheduled (accesses_before r xs) ≡ false
 none_waits r [] h = refl
 none_waits r (y ∷ ys) h = at_ (λ e. none_waits r ys e) (is_of r y) refl
   where
-    at_ : (next_waiting r ys ≡ None → some_scheduled (before r ys) ≡ false) → (b : Bool) → is_of r y ≡ b → some_scheduled (if b then [] else (y ∷ before r ys)) ≡ false
+    at_ : (next_waiting r ys ≡ None → some_scheduled (accesses_before r ys) ≡ false) → (b : Bool) → is_of r y ≡ b → some_scheduled (if b then [] else (y ∷ accesses_before r ys)) ≡ false
     at_ ih true e = refl
-    at_ ih false e = let p = none_later r y ys e h in or_from (waits y) (some_scheduled (before r ys)) p.0 (ih p.1)
+    at_ ih false e = let p = none_later r y ys e h in or_from (waits y) (some_scheduled (accesses_before r ys)) p.0 (ih p.1)
 
 none_passes : (r : ℕ) (xs : List Access) → next_waiting r xs ≡ None → with_passed r xs ≡ xs
 none_passes r [] h = refl
@@ -206,14 +206,14 @@ unacquired_passed r (y ∷ ys) h = at_ (unacquired_passed r ys (or_parts (is_acq
     at_ ih false true = ih
     at_ ih false false = or_from (is_acquired y.status) (some_acquired (with_passed r ys)) (or_parts (is_acquired y.status) (some_acquired ys) h).0 ih
 
-none_before_passed : (r : ℕ) (xs : List Access) → some_scheduled (before r (with_passed r xs)) ≡ false
+none_before_passed : (r : ℕ) (xs : List Access) → some_scheduled (accesses_before r (with_passed r xs)) ≡ false
 none_before_passed r [] = refl
 none_before_passed r (y ∷ ys) = at_ (none_before_passed r ys) (is_of r y) (waits y) refl refl
   where
-    at_ : some_scheduled (before r (with_passed r ys)) ≡ false → (b c : Bool) → is_of r y ≡ b → waits y ≡ c → some_scheduled (before r (if b then (y ∷ ys) else ((if c then passed_access y else y) ∷ with_passed r ys))) ≡ false
-    at_ ih true c e f = ap (λ d. some_scheduled (if d then [] else (y ∷ before r ys))) e
-    at_ ih false true e f = ap (λ d. some_scheduled (if d then [] else (passed_access y ∷ before r (with_passed r ys)))) e ∙ ih
-    at_ ih false false e f = ap (λ d. some_scheduled (if d then [] else (y ∷ before r (with_passed r ys)))) e ∙ or_from (waits y) (some_scheduled (before r (with_passed r ys))) f ih
+    at_ : some_scheduled (accesses_before r (with_passed r ys)) ≡ false → (b c : Bool) → is_of r y ≡ b → waits y ≡ c → some_scheduled (accesses_before r (if b then (y ∷ ys) else ((if c then passed_access y else y) ∷ with_passed r ys))) ≡ false
+    at_ ih true c e f = ap (λ d. some_scheduled (if d then [] else (y ∷ accesses_before r ys))) e
+    at_ ih false true e f = ap (λ d. some_scheduled (if d then [] else (passed_access y ∷ accesses_before r (with_passed r ys)))) e ∙ ih
+    at_ ih false false e f = ap (λ d. some_scheduled (if d then [] else (y ∷ accesses_before r (with_passed r ys)))) e ∙ or_from (waits y) (some_scheduled (accesses_before r (with_passed r ys))) f ih
 
 -- .. the run's access is the first of those that are left scheduled
 pub passed_first : (r : ℕ) (s : LineageState) → IsWaiting r s → IsFirst r (passed r s)

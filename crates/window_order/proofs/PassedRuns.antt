@@ -12,11 +12,11 @@ use Rattle.std.proofs.Common.{ap, refl, subst, sym, ◌∙◌}
 use Rattle.std.specs.Prelude.{Bool, List, None, Option, Some, false, if◌then◌else◌, length, option_map, slice_set, true, unwrap_or, ℕ, ◌<◌, ◌≡◌}
 use Rattle.window_order.proofs.PassedAccesses.{PassesFirst, pass_first, pass_none, waits_before}
 use Rattle.window_order.proofs.TableSteps.{with_both}
-use Rattle.window_order.specs.TableChanges.{IsFirst, IsWaiting, doomed_lineage, doomed_unless, has_acquired, is_device, passed, released_if}
+use Rattle.window_order.specs.TableChanges.{IsFirst, IsWaiting, doomed_lineage, doomed_unless, has_acquired, is_named_device, passed, released_if}
 
 -- a doom is nothing on a device to which the run has no access
 pub dooms_nothing : (out : Option DeviceNo) (r d : ℕ) (s : LineageState) → has_access r s.accesses ≡ false → doomed_unless out r d s ≡ s
-dooms_nothing out r d s none = at (is_device out d)
+dooms_nothing out r d s none = at (is_named_device out d)
   where
     not_acquired : has_acquired r s ≡ false
     not_acquired = ap (λ o. unwrap_or (option_map is_acquired (option_map (λ (x : Access). x.status) o)) false) (no_access r s.accesses none)

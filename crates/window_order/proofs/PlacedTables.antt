@@ -18,8 +18,8 @@ use Rattle.home_types.specs.HomeStates.{stand_at}
 use Rattle.home_types.specs.declared.commands.View.TheVariants.{Down}
 use Rattle.home_types.specs.declared.items.Item.TheVariants.{Ran}
 use Rattle.home_types.specs.declared.items.Item.{Item}
-use Rattle.lineage_table.specs.Accesses.{has_access, is_acquired, put_before, some_acquired}
-use Rattle.lineage_table.specs.Lineages.{IsOpened, LineageState, lineage_at, runs_on, scheduled}
+use Rattle.lineage_table.specs.Accesses.{has_access, is_acquired, put_access_before, some_acquired}
+use Rattle.lineage_table.specs.Lineages.{LineageState, TableIsOpened, lineage_at, runs_on, scheduled}
 use Rattle.lineage_table.specs.declared.accesses.Access.{Access}
 use Rattle.lineage_table.specs.declared.accesses.Status.TheVariants.{Acquired, Released, Scheduled}
 use Rattle.lock_leasing.specs.Configurations.{Grips, grips_command, grips_undo}
@@ -53,7 +53,7 @@ none_placed w d r (run ∷ runs) = (λ i. one (list_any (is_on d) run.commands) 
     one false = refl
 
 -- a table that was opened for the window is kept
-pub opened_table : (w : Setting) (g : Grips) (table : List LineageState) → IsOpened w.runs w.first table → TableIsKept w (nothing_read w) g table
+pub opened_table : (w : Setting) (g : Grips) (table : List LineageState) → TableIsOpened w.runs w.first table → TableIsKept w (nothing_read w) g table
 opened_table w g table opened = record {
   devices = opened.devices;
   each = λ d below. let new = opened.each d below in record {
@@ -388,8 +388,8 @@ placed_kept w n g r at m planned read may clear d below s kept = at_ (touches w.
     })
 
     -- the run has an access between them
-    with_one : touches w.runs r d ≡ true → put_before (first_with_access s.accesses back) (waiting_access r planned d) (with_again (first_with_access s.accesses back) s.accesses) ≡ accesses_read w next g left d next.line
-    with_one on = subst (λ xs. put_before (first_with_access xs back) (waiting_access r planned d) (with_again (first_with_access xs back) xs) ≡ accesses_read w next g left d next.line) (sym was) (
+    with_one : touches w.runs r d ≡ true → put_access_before (first_with_access s.accesses back) (waiting_access r planned d) (with_again (first_with_access s.accesses back) s.accesses) ≡ accesses_read w next g left d next.line
+    with_one on = subst (λ xs. put_access_before (first_with_access xs back) (waiting_access r planned d) (with_again (first_with_access xs back) xs) ≡ accesses_read w next g left d next.line) (sym was) (
         put_between p c before_ again_ (waiting_access r planned d) (front_accesses p c before_ false front) back apart.0 (λ x. refl) (λ x there used. back_again on x there) (λ x there. front_lacks p c before_ false x front (λ y. refl) (apart.1 x there))
         ∙ sym (
         along_there q e later r front back (used ∙ on) uncommitted (behind_same ∙ written)

@@ -7,7 +7,7 @@ use Rattle.device_order.specs.LineEntries.{usage}
 use Rattle.device_order.specs.LineWords.{CutAt, any_run, at_device, standing_value_on}
 use Rattle.device_order.specs.Usages.{spans_up}
 use Rattle.device_order.specs.WindowSteps.{KeepsRuns}
-use Rattle.device_order.specs.declared.records.Grip.TheVariants.{Free}
+use Rattle.device_order.specs.declared.records.HeldGrip.TheVariants.{Free}
 use Rattle.device_order.specs.declared.records.Probe.TheVariants.{Asks, Restores}
 use Rattle.history_book.proofs.Snoc.{put_keeps, put_other, put_same}
 use Rattle.history_book.specs.Histories.{entry}
@@ -40,7 +40,7 @@ use Rattle.window_order.proofs.StandingValues.{live_stands, standing_on_line}
 use Rattle.window_order.proofs.Steps.{home_fits}
 use Rattle.window_order.proofs.TurnedOrders.{Turns, none_lost, one_lost, out_spans_none, restored_spans_none, turned_history, undone_spans_none}
 use Rattle.window_order.specs.OrderKept.{OrderIsKept}
-use Rattle.window_order.specs.ReadWindows.{held_by, probe_for, probe_of, run_state, window_of}
+use Rattle.window_order.specs.ReadWindows.{held_by, probe_for_purpose, probe_of, run_state, window_of}
 
 -- A device out for a probe is no run's
 
@@ -113,7 +113,7 @@ probe_goes_kept w n g held d read strong device in' kept = record {
         standing_of : ℕ
         standing_of = unwrap_or (option_map (λ e. e.value) (effective_write n g d)) (stand_at w.first d).value
 
-    by_up : (b : Bool) → probe_for (Probes (if b then None else Some (standing_value w n g d))) ≡ (if b then Asks else Restores (standing_value_on w.kinds (window_of w n g held).states d (stand_at w.first d).value n.line))
+    by_up : (b : Bool) → probe_for_purpose (Probes (if b then None else Some (standing_value w n g d))) ≡ (if b then Asks else Restores (standing_value_on w.kinds (window_of w n g held).states d (stand_at w.first d).value n.line))
     by_up true = refl
     by_up false = ap (λ x. Restores x) value
 

@@ -2,9 +2,9 @@
 use Rattle.command_rules.specs.Rosters.{commands_of, is_on, run_no, touches}
 use Rattle.device_order.proofs.WindowClaims.{read_covered, untouched_after}
 use Rattle.device_order.specs.LineEntries.{usage}
-use Rattle.device_order.specs.RunStates.{remaining, uses}
+use Rattle.device_order.specs.RunStates.{remaining, uses_device}
 use Rattle.device_order.specs.Summaries.{AreHomed}
-use Rattle.device_order.specs.Usages.{has_touched as usage_has_touched}
+use Rattle.device_order.specs.Usages.{has_used_device}
 use Rattle.device_order.specs.Windows.{HasLiveWriteAt, IsCovered, IsPendingAt}
 use Rattle.history_book.proofs.Shapes.{did_touches}
 use Rattle.history_book.specs.Readings.{Reading, did, has_written, is_committed, is_doomed, is_live, next_of, pends}
@@ -39,7 +39,7 @@ parts x y z h = record { first = grind (arith, common_steps); second = grind (ar
 -- Devices of the home
 
 -- a command of a routine on the home's devices is on one of them
-homed_use : (k d : ℕ) (cs : List Command) → AreHomed k cs → uses d cs ≡ true → d < k
+homed_use : (k d : ℕ) (cs : List Command) → AreHomed k cs → uses_device d cs ≡ true → d < k
 unfolding AreHomed
 homed_use k d [] a h = absurd (cc)
 homed_use k d (c ∷ cs) a h = at_ (λ e. homed_use k d cs a.1 e) (is_on d c) refl h
@@ -62,8 +62,8 @@ remaining_from [] (a ∷ xs) = refl
 remaining_from (c ∷ cs) [] = refl
 remaining_from (c ∷ cs) (a ∷ xs) = remaining_from cs xs
 
-pub pending_rest : (w : Setting) (n : Reading) (g : Grips) (r d : ℕ) → uses d (remaining (commands_of w.runs r) (n.run r).answers) ≡ pends w n r d
-pending_rest w n g r d = ap (uses d) (remaining_from (commands_of w.runs r) (n.run r).answers)
+pub pending_rest : (w : Setting) (n : Reading) (g : Grips) (r d : ℕ) → uses_device d (remaining (commands_of w.runs r) (n.run r).answers) ≡ pends w n r d
+pending_rest w n g r d = ap (uses_device d) (remaining_from (commands_of w.runs r) (n.run r).answers)
 
 -- a run with a command pending on a device uses it
 any_dropped : (d k : ℕ) (cs : List Command) → list_any (is_on d) (drop k cs) ≡ true → list_any (is_on d) cs ≡ true
@@ -74,7 +74,7 @@ any_dropped d (suc k) (c ∷ cs) h = ap (λ b. is_on d c || b) (any_dropped d k 
 -- Touches
 
 -- a run touched a device where its use there says so
-pub touched_held : (w : Setting) (n : Reading) (g : Grips) (r d : ℕ) → IsRead w n → usage_has_touched (usage w.kinds (run_state w n g r) d) ≡ has_touched n g r d
+pub touched_held : (w : Setting) (n : Reading) (g : Grips) (r d : ℕ) → IsRead w n → has_used_device (usage w.kinds (run_state w n g r) d) ≡ has_touched n g r d
 touched_held w n g r d s = ap₂ (λ x y. x || y) (ap is_some ((s.summarized r).view d) ∙ seen ((n.run r).on d).view) (command_held w g r d)
   where
     seen : (v : Option Bool) → is_some (option_map view_from v) ≡ is_some v

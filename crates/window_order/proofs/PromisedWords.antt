@@ -1,11 +1,11 @@
 -- Words of the reading and of the grips that are out, as the window that they make has them.
 use Rattle.command_rules.specs.Rosters.{touches}
-use Rattle.device_order.specs.LineEntries.{entries, entry_if, usage, with_entry}
-use Rattle.device_order.specs.RunStates.{RunStates, uses}
-use Rattle.device_order.specs.Usages.{has_effect as usage_has_effect, is_command as holds_command, is_undo as holds_undo}
+use Rattle.device_order.specs.LineEntries.{entries, entry_if, usage, with_order_entry}
+use Rattle.device_order.specs.RunStates.{RunStates, uses_device}
+use Rattle.device_order.specs.Usages.{holds_command, holds_undo, is_in_effect}
 use Rattle.device_order.specs.Walks.{has}
 use Rattle.device_order.specs.declared.records.Event.TheVariants.{Failure, Restart}
-use Rattle.device_order.specs.declared.records.Grip.TheVariants.{Free, Reads, Writes}
+use Rattle.device_order.specs.declared.records.HeldGrip.TheVariants.{Free, Reads, Writes}
 use Rattle.device_order.specs.declared.records.OrderEntry.TheVariants.{Occurred, Used}
 use Rattle.device_order.specs.declared.records.Usage.{Usage}
 use Rattle.history_book.proofs.Shapes.{did_touches}
@@ -70,7 +70,7 @@ pub written_touches : (w : Setting) (n : Reading) (r d : ℕ) → IsRead w n →
 written_touches w n r d s h = did_touches w n r d s.shaped ((s.shaped r).wrote d h)
 
 -- the use of a run has its write in effect where it wrote and is not undone
-pub effect_held : (w : Setting) (n : Reading) (g : Grips) (r d : ℕ) → IsRead w n → usage_has_effect (usage w.kinds (run_state w n g r) d) ≡ (is_some ((n.run r).on d).wrote && not (is_undone n g r d))
+pub effect_held : (w : Setting) (n : Reading) (g : Grips) (r d : ℕ) → IsRead w n → is_in_effect (usage w.kinds (run_state w n g r) d) ≡ (is_some ((n.run r).on d).wrote && not (is_undone n g r d))
 effect_held w n g r d s = ap₂ (λ o x. is_some o && not (((n.run r).on d).undid || x)) ((s.summarized r).wrote d) (undo_held w g r d)
 
 -- Lines
@@ -81,18 +81,18 @@ effect_held w n g r d s = ap₂ (λ o x. is_some o && not (((n.run r).on d).undi
 pub none_has : (kinds : List Kind) (states : RunStates) (d : ℕ) (p : Usage → Bool) (line : List Item) → ((r : ℕ) → p (usage kinds (states r) d) ≡ false) → has p (entries kinds states d line) ≡ false
 unfolding entries has
 none_has kinds states d p [] h = refl
-none_has kinds states d p (Ran r ∷ is) h = at_ (none_has kinds states d p is h) (uses d (states r.0).commands)
+none_has kinds states d p (Ran r ∷ is) h = at_ (none_has kinds states d p is h) (uses_device d (states r.0).commands)
   where
-    at_ : has p (entries kinds states d is) ≡ false → (b : Bool) → has p (with_entry (entry_if b (Used (usage kinds (states r.0) d))) (entries kinds states d is)) ≡ false
+    at_ : has p (entries kinds states d is) ≡ false → (b : Bool) → has p (with_order_entry (entry_if b (Used (usage kinds (states r.0) d))) (entries kinds states d is)) ≡ false
     at_ ih true = ap (λ x. x || has p (entries kinds states d is)) (h r.0) ∙ ih
     at_ ih false = ih
 none_has kinds states d p (Failed e k ∷ is) h = at_ (none_has kinds states d p is h) (e.0 == d)
   where
-    at_ : has p (entries kinds states d is) ≡ false → (b : Bool) → has p (with_entry (entry_if b (Occurred Failure)) (entries kinds states d is)) ≡ false
+    at_ : has p (entries kinds states d is) ≡ false → (b : Bool) → has p (with_order_entry (entry_if b (Occurred Failure)) (entries kinds states d is)) ≡ false
     at_ ih true = ih
     at_ ih false = ih
 none_has kinds states d p (Back e k ∷ is) h = at_ (none_has kinds states d p is h) (e.0 == d)
   where
-    at_ : has p (entries kinds states d is) ≡ false → (b : Bool) → has p (with_entry (entry_if b (Occurred Restart)) (entries kinds states d is)) ≡ false
+    at_ : has p (entries kinds states d is) ≡ false → (b : Bool) → has p (with_order_entry (entry_if b (Occurred Restart)) (entries kinds states d is)) ≡ false
     at_ ih true = ih
     at_ ih false = ih

@@ -1,7 +1,7 @@
 -- A line whose items stand in another order, each device's own ones in theirs, keeps the order of a window, its table and what its reading says.
 use Rattle.command_rules.specs.Items.{is_ran, of_run}
 use Rattle.command_rules.specs.Rosters.{run_no, touches}
-use Rattle.device_order.specs.LineEntries.{entries, entry_if, entry_of, usage, with_entry}
+use Rattle.device_order.specs.LineEntries.{entries, entry_if, entry_of, usage, with_order_entry}
 use Rattle.device_order.specs.LineOrders.{EventsAreHomed}
 use Rattle.device_order.specs.Invariant.{DeviceInvariant}
 use Rattle.device_order.specs.declared.records.Event.TheVariants.{Failure, Restart}
@@ -114,11 +114,11 @@ entries_part w n g held d (i ∷ is) = by_item i (entries_part w n g held d is)
     E : List Item → List OrderEntry
     E line = entries w.kinds (window_of w n g held).states d line
 
-    at_ : (i : Item) (x : OrderEntry) (b c : Bool) → b ≡ c → entry_of w.kinds (window_of w n g held).states d i ≡ entry_if b x → E (part w d is) ≡ E is → E (cond b (i ∷ part w d is) (part w d is)) ≡ with_entry (entry_of w.kinds (window_of w n g held).states d i) (E is)
-    at_ i x b true e same rest = (λ k. E (cond (e k) (i ∷ part w d is) (part w d is))) ∙ ap (with_entry (entry_of w.kinds (window_of w n g held).states d i)) rest
-    at_ i x b false e same rest = (λ k. E (cond (e k) (i ∷ part w d is) (part w d is))) ∙ rest ∙ sym (ap (λ o. with_entry o (E is)) (same ∙ ap (λ c. entry_if c x) e))
+    at_ : (i : Item) (x : OrderEntry) (b c : Bool) → b ≡ c → entry_of w.kinds (window_of w n g held).states d i ≡ entry_if b x → E (part w d is) ≡ E is → E (cond b (i ∷ part w d is) (part w d is)) ≡ with_order_entry (entry_of w.kinds (window_of w n g held).states d i) (E is)
+    at_ i x b true e same rest = (λ k. E (cond (e k) (i ∷ part w d is) (part w d is))) ∙ ap (with_order_entry (entry_of w.kinds (window_of w n g held).states d i)) rest
+    at_ i x b false e same rest = (λ k. E (cond (e k) (i ∷ part w d is) (part w d is))) ∙ rest ∙ sym (ap (λ o. with_order_entry o (E is)) (same ∙ ap (λ c. entry_if c x) e))
 
-    by_item : (i : Item) → E (part w d is) ≡ E is → E (cond (is_item_on w.runs d i) (i ∷ part w d is) (part w d is)) ≡ with_entry (entry_of w.kinds (window_of w n g held).states d i) (E is)
+    by_item : (i : Item) → E (part w d is) ≡ E is → E (cond (is_item_on w.runs d i) (i ∷ part w d is) (part w d is)) ≡ with_order_entry (entry_of w.kinds (window_of w n g held).states d i) (E is)
     by_item (Ran r) rest = at_ (Ran r) (Used (usage w.kinds (run_state w n g r.0) d)) (touches w.runs r.0 d) (touches w.runs r.0 d) refl refl rest
     by_item (Failed e k) rest = at_ (Failed e k) (Occurred Failure) (e.0 == d) (e.0 == d) refl refl rest
     by_item (Back e k) rest = at_ (Back e k) (Occurred Restart) (e.0 == d) (e.0 == d) refl refl rest

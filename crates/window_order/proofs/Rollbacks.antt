@@ -4,9 +4,9 @@ use Rattle.device_order.proofs.WindowAnswers.{read_answered}
 use Rattle.device_order.proofs.WindowGrips.{undo_answered, undo_dropped, undo_out}
 use Rattle.device_order.proofs.WindowRuns.{run_doomed, run_leaves_line}
 use Rattle.device_order.specs.LineChanges.{Lacks}
-use Rattle.device_order.specs.LineWords.{CutAt, effective_writer, standing_value_on}
+use Rattle.device_order.specs.LineWords.{CutAt, last_in_effect, standing_value_on}
 use Rattle.device_order.specs.WindowSteps.{GetsAnswer, KeepsElsewhere, MayUndo}
-use Rattle.device_order.specs.declared.records.Grip.TheVariants.{Reads, Undoes as HeldToUndo, Writes}
+use Rattle.device_order.specs.declared.records.HeldGrip.TheVariants.{Reads, Undoes as HeldToUndo, Writes}
 use Rattle.history_book.proofs.Searches.{each_found, own_devices}
 use Rattle.history_book.proofs.Snoc.{put_keeps, put_other, put_same}
 use Rattle.history_book.specs.Histories.{entry}
@@ -383,7 +383,7 @@ none_of_both p q (x ∷ xs) none = at_ (none_of_both p q xs) (q x) (p x) refl no
     at_ ih false b e h = ih h
 
 -- a run that has no undo left has the effective write on none of its devices
-no_effect : (w : Setting) (n : Reading) (g : Grips) (held : ℕ → ℕ) (r d : ℕ) → IsRead w n → OrderIsKept w n g held → next_undo_of w n g r ≡ None → touches w.runs r d ≡ true → effective_writer w.kinds (window_of w n g held).states d None n.line ≢ Some r
+no_effect : (w : Setting) (n : Reading) (g : Grips) (held : ℕ → ℕ) (r d : ℕ) → IsRead w n → OrderIsKept w n g held → next_undo_of w n g r ≡ None → touches w.runs r d ≡ true → last_in_effect w.kinds (window_of w n g held).states d None n.line ≢ Some r
 no_effect w n g held r d read kept none used writer = clash (touches w.runs r d) (has_effect n g r d) used effect (none_in (λ e. touches w.runs r e && has_effect n g r e) 0 (length w.first) d (none_of_both (has_effect n g r) (touches w.runs r) (device_numbers w) none) (omega arith) (below (uses_homed (length w.first) d (commands_of w.runs r) (kept.window.runs r).homed used)))
   where
     below : d < length w.first → d < 0 + length w.first

@@ -35,11 +35,11 @@ pub record IsScheduledTo (k : ℕ) (commands : List Command) (given : List (Opti
   pub left : (d : ℕ) → d < 256 → get_or uses d None ≡ (if is_among d k commands then None else get_or given d None)
   pub each : (d : ℕ) → lineage_at new d ≡ (if is_among d k commands then scheduled_so r back (get_or given d None) (lineage_at old d) else lineage_at old d)
 
-differ : (a b : ℕ) → (a == b) ≡ false → b ≢ a
+pub differ : (a b : ℕ) → (a == b) ≡ false → b ≢ a
 differ a b h e = grind (arith, common_steps)
 
 -- one command more
-among_more : (d k : ℕ) (commands : List Command) (e : Command) → k < length commands → is_among d (k + 1) commands ≡ (is_among d k commands || ((get_or commands k e).device.0 == d))
+pub among_more : (d k : ℕ) (commands : List Command) (e : Command) → k < length commands → is_among d (k + 1) commands ≡ (is_among d k commands || ((get_or commands k e).device.0 == d))
 among_more d k commands e within =
     ap (list_any (is_on d)) (take_more commands k e within)
     ∙ list_any-append (is_on d) (take k commands) (get_or commands k e ∷ [])

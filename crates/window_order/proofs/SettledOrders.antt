@@ -1,17 +1,17 @@
 -- The committed runs and the events of the line are a serial execution.
 use Rattle.command_rules.specs.Rosters.{touches}
 use Rattle.device_order.proofs.WindowClaims.{order_serial}
-use Rattle.device_order.specs.LineEntries.{entries, entry_if, stage_of, usage, with_entry}
+use Rattle.device_order.specs.LineEntries.{entries, entry_if, stage_of, usage, with_order_entry}
 use Rattle.device_order.specs.LineOrders.{serial_order, served}
 use Rattle.device_order.specs.Records.{walk_start}
-use Rattle.device_order.specs.Usages.{is_committed as stage_is_committed}
+use Rattle.device_order.specs.Usages.{stage_is_committed}
 use Rattle.device_order.specs.Walks.{after_usage, if_written, walk_end}
 use Rattle.device_order.specs.declared.walks.WalkState.{WalkState}
 use Rattle.device_order.specs.Windows.{OrderIsSerial}
 use Rattle.device_order.specs.declared.records.Event.TheVariants.{Failure, Restart}
 use Rattle.device_order.specs.declared.records.OrderEntry.TheVariants.{Occurred, Used}
 use Rattle.device_order.specs.declared.records.Usage.{Usage}
-use Rattle.device_order.specs.RunStates.{rest, uses}
+use Rattle.device_order.specs.RunStates.{rest, uses_device}
 use Rattle.history_book.specs.Histories.{answers_in, executed}
 use Rattle.history_book.specs.Readings.{Reading, has_written, is_committed, is_doomed}
 use Rattle.history_book.specs.Settings.{Setting}
@@ -88,19 +88,19 @@ value_along w n g d first z b (Ran r ∷ is) s h = at_ (λ t c k. value_along w 
     no_write (Some k) x e = absurd (cc)
 
     at_ : ((t : WalkState) (c : Option ℕ) → t.value ≡ unwrap_or c first → (walk_end t (entries w.kinds (λ q. run_state w n g q) d is)).value ≡ unwrap_or (fold (λ best x. option_or (committed_write n d x) best) c is) first) → (x : Bool) → touches w.runs r.0 d ≡ x
-        → (walk_end z (with_entry (entry_if x (Used u)) (entries w.kinds (λ q. run_state w n g q) d is))).value ≡ unwrap_or (fold (λ best i. option_or (committed_write n d i) best) (option_or (committed_write n d (Ran r)) b) is) first
-    at_ ih true e = ih (after_usage z u) (option_or (committed_write n d (Ran r)) b) (use_value u z b first ((n.run r.0).on d).wrote (is_committed n r.0) (is_doomed n r.0) (uses d (rest (run_state w n g r.0))) ((s.summarized r.0).wrote d) refl h)
+        → (walk_end z (with_order_entry (entry_if x (Used u)) (entries w.kinds (λ q. run_state w n g q) d is))).value ≡ unwrap_or (fold (λ best i. option_or (committed_write n d i) best) (option_or (committed_write n d (Ran r)) b) is) first
+    at_ ih true e = ih (after_usage z u) (option_or (committed_write n d (Ran r)) b) (use_value u z b first ((n.run r.0).on d).wrote (is_committed n r.0) (is_doomed n r.0) (uses_device d (rest (run_state w n g r.0))) ((s.summarized r.0).wrote d) refl h)
     at_ ih false e = ih z (option_or (committed_write n d (Ran r)) b) (h ∙ ap (λ x. unwrap_or x first) (sym (no_write ((n.run r.0).on d).wrote (is_committed n r.0) (unused (has_written n r.0 d) refl e))))
 value_along w n g d first z b (Failed e k ∷ is) s h = at_ (λ t c x. value_along w n g d first t c is s x) (e.0 == d)
   where
     at_ : ((t : WalkState) (c : Option ℕ) → t.value ≡ unwrap_or c first → (walk_end t (entries w.kinds (λ q. run_state w n g q) d is)).value ≡ unwrap_or (fold (λ best x. option_or (committed_write n d x) best) c is) first) → (x : Bool)
-        → (walk_end z (with_entry (entry_if x (Occurred Failure)) (entries w.kinds (λ q. run_state w n g q) d is))).value ≡ unwrap_or (fold (λ best i. option_or (committed_write n d i) best) b is) first
+        → (walk_end z (with_order_entry (entry_if x (Occurred Failure)) (entries w.kinds (λ q. run_state w n g q) d is))).value ≡ unwrap_or (fold (λ best i. option_or (committed_write n d i) best) b is) first
     at_ ih true = ih (record z { up = false }) b h
     at_ ih false = ih z b h
 value_along w n g d first z b (Back e k ∷ is) s h = at_ (λ t c x. value_along w n g d first t c is s x) (e.0 == d)
   where
     at_ : ((t : WalkState) (c : Option ℕ) → t.value ≡ unwrap_or c first → (walk_end t (entries w.kinds (λ q. run_state w n g q) d is)).value ≡ unwrap_or (fold (λ best x. option_or (committed_write n d x) best) c is) first) → (x : Bool)
-        → (walk_end z (with_entry (entry_if x (Occurred Restart)) (entries w.kinds (λ q. run_state w n g q) d is))).value ≡ unwrap_or (fold (λ best i. option_or (committed_write n d i) best) b is) first
+        → (walk_end z (with_order_entry (entry_if x (Occurred Restart)) (entries w.kinds (λ q. run_state w n g q) d is))).value ≡ unwrap_or (fold (λ best i. option_or (committed_write n d i) best) b is) first
     at_ ih true = ih (record z { up = true }) b h
     at_ ih false = ih z b h
 

@@ -4,8 +4,8 @@ use Rattle.command_rules.specs.Rosters.{command_at, commands_of, run_no, touches
 use Rattle.device_order.proofs.InPlace.{next_used, two_places}
 use Rattle.device_order.specs.LineEntries.{stage_of, usage}
 use Rattle.device_order.specs.LineWords.{CutAt}
-use Rattle.device_order.specs.RunStates.{rest, uses as uses_device}
-use Rattle.device_order.specs.Usages.{is_open as stage_is_open}
+use Rattle.device_order.specs.RunStates.{rest, uses_device}
+use Rattle.device_order.specs.Usages.{stage_is_open}
 use Rattle.history_book.proofs.Snoc.{put_other, put_same}
 use Rattle.history_book.specs.Histories.{entry}
 use Rattle.history_book.specs.Plans.{planned_end, planned_start}
@@ -18,7 +18,7 @@ use Rattle.home_types.specs.declared.commands.Command.{Command}
 use Rattle.home_types.specs.declared.commands.View.TheVariants.{Down}
 use Rattle.lineage_table.proofs.Splits.{without_at}
 use Rattle.lineage_table.proofs.Steps.{status_at}
-use Rattle.lineage_table.specs.Accesses.{is_of, status_of, without}
+use Rattle.lineage_table.specs.Accesses.{accesses_without, is_of, status_of}
 use Rattle.lineage_table.specs.Lineages.{LineageState, released, removed}
 use Rattle.lineage_table.specs.declared.accesses.Access.{Access}
 use Rattle.lineage_table.specs.declared.accesses.Status.TheVariants.{Acquired, Released, Scheduled}
@@ -183,7 +183,7 @@ module _ (w : Setting) (n : Reading) (g : Grips) (held : ℕ → ℕ) (r : ℕ) 
     may_pass = λ q passed. put_says (may_by g d) n.run r new (λ i. is_some old.doomed && not (is_some (on_d i).view || grips_command g r d)) q ∙ kept.may_pass q passed;
     committed = kept.committed ∙ sym (ap (λ o. unwrap_or o (stand_at w.first d).value) (same_committed n m d None n.line (put_says (λ q. write_by d) n.run r new (λ i. if is_committed_run old then (on_d i).wrote else None))));
     accesses = before ∙ sym after;
-    room = subst (λ x. x ≤ (removed r l).room) (sym (same_unplaced n m d 1 w.runs (put_says (λ q o. is_none o.placed) n.run r new refl))) (at_least (unplaced_on w n d) l.room (length l.accesses - length (without r l.accesses)) kept.room);
+    room = subst (λ x. x ≤ (removed r l).room) (sym (same_unplaced n m d 1 w.runs (put_says (λ q o. is_none o.placed) n.run r new refl))) (at_least (unplaced_on w n d) l.room (length l.accesses - length (accesses_without r l.accesses)) kept.room);
     up = kept.up;
   }
     where
@@ -227,9 +227,9 @@ module _ (w : Setting) (n : Reading) (g : Grips) (held : ℕ → ℕ) (r : ℕ) 
           equal : (x : ℕ) → (x == x) ≡ true
           equal x = grind (arith, common_steps)
 
-      before : without r l.accesses ≡ front ++ behind
+      before : accesses_without r l.accesses ≡ front ++ behind
       before =
-          ap (without r) (kept.accesses ∙ ap (accesses_read w n g kept.passed d) cut.at ∙ along_there p v f r cut.front cut.back (uses_now w n d r s.read s.live pending) uncovering none_covers)
+          ap (accesses_without r) (kept.accesses ∙ ap (accesses_read w n g kept.passed d) cut.at ∙ along_there p v f r cut.front cut.back (uses_now w n d r s.read s.live pending) uncovering none_covers)
           ∙ without_at r front (f r) behind (front_lacks p v f false r cut.front (λ x. refl) cut.before) (along_lacks p v f r cut.back (λ x. refl) cut.behind) own_access
 
       all_gone : (x t q u : Bool) → q ≡ false → u ≡ false → (x && t && not (t && not q && not u)) ≡ false

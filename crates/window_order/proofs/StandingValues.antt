@@ -3,14 +3,14 @@ use Rattle.command_rules.specs.Items.{is_ran}
 use Rattle.command_rules.specs.Rosters.{commands_of, is_on, touches}
 use Rattle.device_order.proofs.Claims.{effect}
 use Rattle.device_order.proofs.LineWords.{stand_line}
-use Rattle.device_order.specs.LineWords.{at_device, effective_writer, standing_value_on}
+use Rattle.device_order.specs.LineWords.{at_device, last_in_effect, standing_value_on}
 use Rattle.device_order.specs.Records.{walk_start}
 use Rattle.device_order.proofs.Standing.{stands}
-use Rattle.device_order.specs.Claims.{StandsAt, standing_value as device_standing_value}
-use Rattle.device_order.specs.LineEntries.{entries, entry_if, usage, with_entry}
-use Rattle.device_order.specs.Usages.{has_effect as usage_has_effect, has_grip, is_free}
-use Rattle.device_order.specs.Walks.{effective, written_by}
-use Rattle.device_order.specs.Windows.{device_of}
+use Rattle.device_order.specs.Claims.{StandsAt, value_in_effect}
+use Rattle.device_order.specs.LineEntries.{entries, entry_if, usage, with_order_entry}
+use Rattle.device_order.specs.Usages.{holds_grip, is_free, is_in_effect}
+use Rattle.device_order.specs.Walks.{effective, written_or_first}
+use Rattle.device_order.specs.Windows.{device_record}
 use Rattle.device_order.specs.declared.records.Event.TheVariants.{Failure, Restart}
 use Rattle.device_order.specs.declared.records.OrderEntry.TheVariants.{Occurred, Used}
 use Rattle.device_order.specs.declared.records.Usage.{Usage}
@@ -40,16 +40,16 @@ abbrev pub value_of : Option Write → ℕ → ℕ
 value_of b first = unwrap_or (option_map (λ e. e.value) b) first
 
 -- one run further along the line
-use_value : (u : Usage) (o : Option Usage) (b : Option Write) (r first : ℕ) (v : Option ℕ) (x : Bool) → u.wrote ≡ v → usage_has_effect u ≡ (is_some v && not x) → written_by o first ≡ value_of b first
-    → written_by (if usage_has_effect u then Some u else o) first ≡ value_of (option_or (if x then None else option_map (λ k. record { run = r; value = k }) v) b) first
-use_value u o b r first None true e f h = ap (λ y. written_by (if y then Some u else o) first) f ∙ h
-use_value u o b r first None false e f h = ap (λ y. written_by (if y then Some u else o) first) f ∙ h
-use_value u o b r first (Some k) true e f h = ap (λ y. written_by (if y then Some u else o) first) f ∙ h
-use_value u o b r first (Some k) false e f h = ap (λ y. written_by (if y then Some u else o) first) f ∙ ap (λ y. unwrap_or y first) e
+use_value : (u : Usage) (o : Option Usage) (b : Option Write) (r first : ℕ) (v : Option ℕ) (x : Bool) → u.wrote ≡ v → is_in_effect u ≡ (is_some v && not x) → written_or_first o first ≡ value_of b first
+    → written_or_first (if is_in_effect u then Some u else o) first ≡ value_of (option_or (if x then None else option_map (λ k. record { run = r; value = k }) v) b) first
+use_value u o b r first None true e f h = ap (λ y. written_or_first (if y then Some u else o) first) f ∙ h
+use_value u o b r first None false e f h = ap (λ y. written_or_first (if y then Some u else o) first) f ∙ h
+use_value u o b r first (Some k) true e f h = ap (λ y. written_or_first (if y then Some u else o) first) f ∙ h
+use_value u o b r first (Some k) false e f h = ap (λ y. written_or_first (if y then Some u else o) first) f ∙ ap (λ y. unwrap_or y first) e
 
 -- the effective write along a line has the value that is in effect along the entries that the line makes
-value_along : (w : Setting) (n : Reading) (g : Grips) (d first : ℕ) (o : Option Usage) (b : Option Write) (line : List Item) → IsRead w n → written_by o first ≡ value_of b first
-    → written_by (effective o (entries w.kinds (λ r. run_state w n g r) d line)) first ≡ value_of (fold (λ best x. option_or (write_of n g d x) best) b line) first
+value_along : (w : Setting) (n : Reading) (g : Grips) (d first : ℕ) (o : Option Usage) (b : Option Write) (line : List Item) → IsRead w n → written_or_first o first ≡ value_of b first
+    → written_or_first (effective o (entries w.kinds (λ r. run_state w n g r) d line)) first ≡ value_of (fold (λ best x. option_or (write_of n g d x) best) b line) first
 unfolding entries effective
 value_along w n g d first o b [] s h = h
 value_along w n g d first o b (Ran r ∷ is) s h = at_ (λ o c k. value_along w n g d first o c is s k) (touches w.runs r.0 d) refl
@@ -69,22 +69,22 @@ value_along w n g d first o b (Ran r ∷ is) s h = at_ (λ o c k. value_along w 
     unused true e f = absurd (both_ways (touches w.runs r.0 d) f (written_touches w n r.0 d s e))
     unused false e f = refl
 
-    at_ : ((p : Option Usage) (c : Option Write) → written_by p first ≡ value_of c first → written_by (effective p (entries w.kinds (λ q. run_state w n g q) d is)) first ≡ value_of (fold (λ best i. option_or (write_of n g d i) best) c is) first) → (x : Bool) → touches w.runs r.0 d ≡ x → written_by (effective o (with_entry (entry_if x (Used u)) (entries w.kinds (λ q. run_state w n g q) d is))) first ≡ value_of (fold (λ best i. option_or (write_of n g d i) best) later is) first
-    at_ ih true e = ih (if usage_has_effect u then Some u else o) later (use_value u o b r.0 first ((n.run r.0).on d).wrote (is_undone n g r.0 d) ((s.summarized r.0).wrote d) (effect_held w n g r.0 d s) h)
+    at_ : ((p : Option Usage) (c : Option Write) → written_or_first p first ≡ value_of c first → written_or_first (effective p (entries w.kinds (λ q. run_state w n g q) d is)) first ≡ value_of (fold (λ best i. option_or (write_of n g d i) best) c is) first) → (x : Bool) → touches w.runs r.0 d ≡ x → written_or_first (effective o (with_order_entry (entry_if x (Used u)) (entries w.kinds (λ q. run_state w n g q) d is))) first ≡ value_of (fold (λ best i. option_or (write_of n g d i) best) later is) first
+    at_ ih true e = ih (if is_in_effect u then Some u else o) later (use_value u o b r.0 first ((n.run r.0).on d).wrote (is_undone n g r.0 d) ((s.summarized r.0).wrote d) (effect_held w n g r.0 d s) h)
     at_ ih false e = ih o later (h ∙ ap (λ z. value_of z first) (sym (no_write ((n.run r.0).on d).wrote (is_undone n g r.0 d) (unused (has_written n r.0 d) refl e))))
 value_along w n g d first o b (Failed e k ∷ is) s h = at_ (λ o c k. value_along w n g d first o c is s k) (e.0 == d)
   where
-    at_ : ((p : Option Usage) (c : Option Write) → written_by p first ≡ value_of c first → written_by (effective p (entries w.kinds (λ q. run_state w n g q) d is)) first ≡ value_of (fold (λ best i. option_or (write_of n g d i) best) c is) first) → (x : Bool) → written_by (effective o (with_entry (entry_if x (Occurred Failure)) (entries w.kinds (λ q. run_state w n g q) d is))) first ≡ value_of (fold (λ best i. option_or (write_of n g d i) best) b is) first
+    at_ : ((p : Option Usage) (c : Option Write) → written_or_first p first ≡ value_of c first → written_or_first (effective p (entries w.kinds (λ q. run_state w n g q) d is)) first ≡ value_of (fold (λ best i. option_or (write_of n g d i) best) c is) first) → (x : Bool) → written_or_first (effective o (with_order_entry (entry_if x (Occurred Failure)) (entries w.kinds (λ q. run_state w n g q) d is))) first ≡ value_of (fold (λ best i. option_or (write_of n g d i) best) b is) first
     at_ ih true = ih o b h
     at_ ih false = ih o b h
 value_along w n g d first o b (Back e k ∷ is) s h = at_ (λ o c k. value_along w n g d first o c is s k) (e.0 == d)
   where
-    at_ : ((p : Option Usage) (c : Option Write) → written_by p first ≡ value_of c first → written_by (effective p (entries w.kinds (λ q. run_state w n g q) d is)) first ≡ value_of (fold (λ best i. option_or (write_of n g d i) best) c is) first) → (x : Bool) → written_by (effective o (with_entry (entry_if x (Occurred Restart)) (entries w.kinds (λ q. run_state w n g q) d is))) first ≡ value_of (fold (λ best i. option_or (write_of n g d i) best) b is) first
+    at_ : ((p : Option Usage) (c : Option Write) → written_or_first p first ≡ value_of c first → written_or_first (effective p (entries w.kinds (λ q. run_state w n g q) d is)) first ≡ value_of (fold (λ best i. option_or (write_of n g d i) best) c is) first) → (x : Bool) → written_or_first (effective o (with_order_entry (entry_if x (Occurred Restart)) (entries w.kinds (λ q. run_state w n g q) d is))) first ≡ value_of (fold (λ best i. option_or (write_of n g d i) best) b is) first
     at_ ih true = ih o b h
     at_ ih false = ih o b h
 
 -- the standing value of a device is that of its order
-pub standing_same : (w : Setting) (n : Reading) (g : Grips) (held : ℕ → ℕ) (d : ℕ) → IsRead w n → is_weak w.mode ≡ false → device_standing_value (device_of w.kinds (window_of w n g held) d) ≡ standing_value w n g d
+pub standing_same : (w : Setting) (n : Reading) (g : Grips) (held : ℕ → ℕ) (d : ℕ) → IsRead w n → is_weak w.mode ≡ false → value_in_effect (device_record w.kinds (window_of w n g held) d) ≡ standing_value w n g d
 standing_same w n g held d s weak =
     value_along w n g d (stand_at w.first d).value None None n.line s refl
     ∙ sym (ap (λ b. if b then n.last d else value_of (effective_write n g d) (stand_at w.first d).value) weak)
@@ -92,8 +92,8 @@ standing_same w n g held d s weak =
 -- a device that is home and up stands at its standing value
 pub stands_home : (w : Setting) (n : Reading) (g : Grips) (held : ℕ → ℕ) (d : ℕ) → IsRead w n → OrderIsKept w n g held → is_weak w.mode ≡ false → is_device w d ≡ true → g d ≡ None → n.up d ≡ true → held d ≡ standing_value w n g d
 stands_home w n g held d s o weak device home up =
-    let at_value : StandsAt (device_of w.kinds (window_of w n g held) d) (device_standing_value (device_of w.kinds (window_of w n g held) d)) = stands (device_of w.kinds (window_of w n g held) d) (o.window.devices d (device_below w d device)) in
-    at_value.home (record { free = none_has w.kinds (λ r. run_state w n g r) d has_grip n.line (λ r. ap (λ x. not (is_free (held_by w r x))) home); unprobed = ap (λ x. probe_of x) home }) up ∙ standing_same w n g held d s weak
+    let at_value : StandsAt (device_record w.kinds (window_of w n g held) d) (value_in_effect (device_record w.kinds (window_of w n g held) d)) = stands (device_record w.kinds (window_of w n g held) d) (o.window.devices d (device_below w d device)) in
+    at_value.home (record { free = none_has w.kinds (λ r. run_state w n g r) d holds_grip n.line (λ r. ap (λ x. not (is_free (held_by w r x))) home); unprobed = ap (λ x. probe_of x) home }) up ∙ standing_same w n g held d s weak
 
 -- a run that is live stands in the line
 pub live_stands : (w : Setting) (n : Reading) (r : ℕ) → IsRead w n → is_live n r ≡ true → list_any (is_ran r) n.line ≡ true
@@ -144,10 +144,10 @@ standing_on_line w n g d first line s =
     ∙ value_along w n g d first None None line s refl
 
 writer_along : (w : Setting) (n : Reading) (g : Grips) (d : ℕ) (o : Option ℕ) (b : Option Write) (line : List Item) → IsRead w n → o ≡ option_map (λ e. e.run) b
-    → effective_writer w.kinds (λ r. run_state w n g r) d o line ≡ option_map (λ e. e.run) (fold (λ best x. option_or (write_of n g d x) best) b line)
-unfolding effective_writer
+    → last_in_effect w.kinds (λ r. run_state w n g r) d o line ≡ option_map (λ e. e.run) (fold (λ best x. option_or (write_of n g d x) best) b line)
+unfolding last_in_effect
 writer_along w n g d o b [] s h = h
-writer_along w n g d o b (Ran r ∷ is) s h = writer_along w n g d (if at_device w.kinds (λ q. run_state w n g q) d usage_has_effect r.0 then Some r.0 else o) (option_or (write_of n g d (Ran r)) b) is s
+writer_along w n g d o b (Ran r ∷ is) s h = writer_along w n g d (if at_device w.kinds (λ q. run_state w n g q) d is_in_effect r.0 then Some r.0 else o) (option_or (write_of n g d (Ran r)) b) is s
     (ap (λ x. if (touches w.runs r.0 d && x) then Some r.0 else o) (effect_held w n g r.0 d s) ∙ by ((n.run r.0).on d).wrote (is_undone n g r.0 d) (touches w.runs r.0 d) (λ e. written_touches w n r.0 d s e))
   where
     by : (v : Option ℕ) (x y : Bool) → (is_some v ≡ true → y ≡ true) → (if (y && (is_some v && not x)) then Some r.0 else o) ≡ option_map (λ e. e.run) (option_or (if x then None else option_map (λ k. record { run = r.0; value = k }) v) b)
@@ -166,5 +166,5 @@ writer_along w n g d o b (Failed e k ∷ is) s h = writer_along w n g d o b is s
 writer_along w n g d o b (Back e k ∷ is) s h = writer_along w n g d o b is s h
 
 -- .. and its effective writer has made that write
-pub writer_on_line : (w : Setting) (n : Reading) (g : Grips) (d : ℕ) (line : List Item) → IsRead w n → effective_writer w.kinds (λ r. run_state w n g r) d None line ≡ option_map (λ e. e.run) (last_some (write_of n g d) line)
+pub writer_on_line : (w : Setting) (n : Reading) (g : Grips) (d : ℕ) (line : List Item) → IsRead w n → last_in_effect w.kinds (λ r. run_state w n g r) d None line ≡ option_map (λ e. e.run) (last_some (write_of n g d) line)
 writer_on_line w n g d line s = writer_along w n g d None None line s refl

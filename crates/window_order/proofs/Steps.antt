@@ -8,12 +8,12 @@ use Rattle.device_order.proofs.WindowRuns.{run_commits, run_placed, window_begin
 use Rattle.device_order.specs.LineChanges.{Lacks}
 use Rattle.device_order.specs.LineEntries.{command_grip, stage_of, usage}
 use Rattle.device_order.specs.LineWords.{CutAt, is_calm_line}
-use Rattle.device_order.specs.RunStates.{device_summary, rest, uses}
+use Rattle.device_order.specs.RunStates.{device_summary, rest, uses_device}
 use Rattle.device_order.specs.Summaries.{AreHomed}
-use Rattle.device_order.specs.Usages.{awaits_first, is_command, is_down, is_open}
+use Rattle.device_order.specs.Usages.{awaits_first, holds_command, is_seen_down, stage_is_open}
 use Rattle.device_order.specs.WindowSteps.{ChangesInPlace, GetsAnswer}
 use Rattle.device_order.specs.Windows.{WindowInvariant}
-use Rattle.device_order.specs.declared.records.Grip.TheVariants.{Reads, Writes}
+use Rattle.device_order.specs.declared.records.HeldGrip.TheVariants.{Reads, Writes}
 use Rattle.history_book.proofs.Asking.{asks_guard, asks_next}
 use Rattle.history_book.proofs.Searches.{some_is}
 use Rattle.history_book.proofs.Shapes.{IsShaped}
@@ -350,24 +350,24 @@ out_newest w n g held d r k cut read kept at out = record { unseen = λ none. un
     used : touches w.runs r d ≡ true
     used = subst (λ x. touches w.runs r x ≡ true) (sym out.device) (next_used (run_state w n g r) c (drop (next_of n r + 1) (commands_of w.runs r)) left)
 
-    reading_grip : (b : Bool) → is_command (if b then Reads else Writes) ≡ true
+    reading_grip : (b : Bool) → holds_command (if b then Reads else Writes) ≡ true
     reading_grip true = refl
     reading_grip false = refl
 
-    command : is_command (held_by w r (g d)) ≡ true
-    command = ap is_command (ap (held_by w r) at ∙ held_own w r (Commands k)) ∙ reading_grip (reads c.job)
+    command : holds_command (held_by w r (g d)) ≡ true
+    command = ap holds_command (ap (held_by w r) at ∙ held_own w r (Commands k)) ∙ reading_grip (reads c.job)
 
-    pending : uses d (rest (run_state w n g r)) ≡ true
-    pending = ap (uses d) left ∙ self d c.device.0 (uses d (drop (next_of n r + 1) (commands_of w.runs r))) out.device
+    pending : uses_device d (rest (run_state w n g r)) ≡ true
+    pending = ap (uses_device d) left ∙ self d c.device.0 (uses_device d (drop (next_of n r + 1) (commands_of w.runs r))) out.device
       where
         self : (x y : ℕ) (b : Bool) → x ≡ y → ((y == x) || b) ≡ true
         self x y b h = grind (arith, common_steps)
 
-    open_first : (x y z v : Bool) → x ≡ false → y ≡ false → z ≡ true → v ≡ false → (is_open (stage_of x y z) && not v) ≡ true
+    open_first : (x y z v : Bool) → x ≡ false → y ≡ false → z ≡ true → v ≡ false → (stage_is_open (stage_of x y z) && not v) ≡ true
     open_first x y z v h k e f = grind (arith, common_steps)
 
     awaits : did n r d ≡ false → is_doomed n r ≡ false → awaits_first (usage w.kinds (run_state w n g r) d) ≡ true
-    awaits none sound = open_first (is_committed n r) (is_doomed n r) (uses d (rest (run_state w n g r))) (is_some (device_summary w.kinds (run_state w n g r) d).view) (live_uncommitted n r out.live) sound pending (ap is_some ((read.summarized r).view d) ∙ seen_view (view_of n r d) ∙ none)
+    awaits none sound = open_first (is_committed n r) (is_doomed n r) (uses_device d (rest (run_state w n g r))) (is_some (device_summary w.kinds (run_state w n g r) d).view) (live_uncommitted n r out.live) sound pending (ap is_some ((read.summarized r).view d) ∙ seen_view (view_of n r d) ∙ none)
 
 wrote_at : (w : Setting) (n : Reading) (g : Grips) (held : ℕ → ℕ) (r k : ℕ) → IsRead w n → g (command_at w.runs r k).device.0 ≡ Some (record { maker = r; purpose = Commands k }) → reads (command_at w.runs r k).job ≡ false → IsOut w n (command_at w.runs r k).device.0 r k → OrderIsKept w n g held
     → OrderIsKept w (entry w n (Did (run_no r) k Fine)) (put g (command_at w.runs r k).device.0 None) (put held (command_at w.runs r k).device.0 (driven (kind_at w.kinds (command_at w.runs r k).device.0) (command_at w.runs r k).job (n.run r).register))
@@ -468,7 +468,7 @@ goes_kept w n g held r c read run live sound free next guard behind dirty in' se
     out = ap (held_by w r) (put_same g d (Some new)) ∙ held_own w r (Commands k) ∙ ap (λ (x : Command). command_grip x.job) is.1;
     home = record { free = none_hold w n g held d n.line home; unprobed = ap probe_of home };
     up = up;
-    view = ap is_down ((read.summarized r).view d) ∙ view_up (view_of n r d) sees;
+    view = ap is_seen_down ((read.summarized r).view d) ∙ view_up (view_of n r d) sees;
     none_before = none_before w n g held r d cut read behind;
     clean = λ reading none. clean_before w n g held r d cut read (open_behind w n g held d r cut read kept device used pending) (sym ((read.summarized r).wrote d) ∙ none) (sym (clear reading (sym ((read.summarized r).wrote d) ∙ none)) ∙ dirty);
     still = λ e. record { up = refl; held = refl; probe = put_keeps probe_of g d (Some new) (sym (ap probe_of home)) e };
@@ -516,8 +516,8 @@ goes_kept w n g held r c read run live sound free next guard behind dirty in' se
     may : may_command w r d k (n.run r) ≡ true
     may = λ i. live i && ((ap (λ o. unwrap_or (option_map (λ x. is_on d x && holds x.when (n.run r).register) o) false) next ∙ (λ j. same d j && guard j)) i) && same k i
 
-    pending : is_open (usage w.kinds (run_state w n g r) d).stage ≡ true
-    pending = λ i. is_open (stage_of (live_uncommitted n r live i) (is_some (sound i)) ((ap (uses d) left ∙ self d (uses d later)) i))
+    pending : stage_is_open (usage w.kinds (run_state w n g r) d).stage ≡ true
+    pending = λ i. stage_is_open (stage_of (live_uncommitted n r live i) (is_some (sound i)) ((ap (uses_device d) left ∙ self d (uses_device d later)) i))
 
     clear : reads c.job ≡ true → ((n.run r).on d).wrote ≡ None → dirty_wait w n g r c ≡ find (λ x. has_effect n g x d) (live_before n r)
     clear reading none = λ i. if reading i && not (sees i) && not (is_some (none i)) then find (λ x. has_effect n g x d) (live_before n r) else None

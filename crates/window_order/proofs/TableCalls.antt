@@ -5,10 +5,10 @@ use Rattle.device_order.proofs.Parts.{cut as use_cut}
 use Rattle.device_order.specs.LineEntries.{entries, usage}
 use Rattle.device_order.specs.LineWords.{CutAt}
 use Rattle.device_order.specs.Records.{walk_start}
-use Rattle.device_order.specs.Usages.{is_command as holds_command}
+use Rattle.device_order.specs.Usages.{holds_command}
 use Rattle.device_order.specs.Walks.{GripFits as HoldsFit, WalkHolds}
-use Rattle.device_order.specs.declared.records.Grip.TheVariants.{Free, Reads, Undoes as ToUndo, Writes}
-use Rattle.device_order.specs.declared.records.Grip.{Grip as HeldGrip}
+use Rattle.device_order.specs.declared.records.HeldGrip.TheVariants.{Free, Reads, Undoes as ToUndo, Writes}
+use Rattle.device_order.specs.declared.records.HeldGrip.{HeldGrip}
 use Rattle.device_order.specs.declared.records.Usage.{Usage}
 use Rattle.history_book.specs.Readings.{Reading, asks_on, did, is_doomed, is_live, is_open, next_of, pends}
 use Rattle.history_book.specs.Settings.{Setting, is_device}

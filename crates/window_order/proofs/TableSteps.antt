@@ -33,7 +33,7 @@ use Rattle.window_order.proofs.Runs.{cut_live}
 use Rattle.window_order.proofs.Steps.{IsOut, out_is}
 use Rattle.window_order.proofs.TableCalls.{touches_now}
 use Rattle.window_order.specs.OrderKept.{OrderIsKept}
-use Rattle.window_order.specs.TableChanges.{ChangesEach, answered_change, answered_lineage, doomed_change, doomed_lineage, passed_if, placed_change, undone_change, doomed_unless, is_device}
+use Rattle.window_order.specs.TableChanges.{ChangesEach, answered_change, answered_lineage, doomed_change, doomed_lineage, passed_if, placed_change, undone_change, doomed_unless, is_named_device}
 use Rattle.window_order.specs.TableKept.{LineageIsKept, TableIsKept}
 
 -- a table whose lineages change so is kept where each change keeps its lineage
@@ -122,10 +122,10 @@ pub doomed_table : (w : Setting) (n : Reading) (g : Grips) (r : ℕ) (cause : Ca
 doomed_table w n g r cause old new read fit sound changes kept = changed_table w n (entry w n (Doomed (run_no r) cause)) g g (doomed_change g r) old new (doomed_kept w n g r cause read sound (λ d out. gripped_pends w n g r d fit out)) changes kept
 
 -- .. whose command out, if it has one, is on this device
-pub doomed_each : (g : Grips) (r : ℕ) (out : Option DeviceNo) (old new : List LineageState) → ((d : ℕ) → grips_command g r d ≡ is_device out d) → ChangesEach (doomed_unless out r) old new → ChangesEach (doomed_change g r) old new
+pub doomed_each : (g : Grips) (r : ℕ) (out : Option DeviceNo) (old new : List LineageState) → ((d : ℕ) → grips_command g r d ≡ is_named_device out d) → ChangesEach (doomed_unless out r) old new → ChangesEach (doomed_change g r) old new
 doomed_each g r out old new same changes = record { devices = changes.devices; each = λ d below. changes.each d below ∙ (λ i. if sym (same d) i then lineage_at old d else doomed_lineage r (lineage_at old d)) }
 
-pub doomed_unless_table : (w : Setting) (n : Reading) (g : Grips) (r : ℕ) (cause : Cause) (out : Option DeviceNo) (old new : List LineageState) → IsRead w n → GripsFit w n g → is_doomed n r ≡ false → ((d : ℕ) → grips_command g r d ≡ is_device out d) → ChangesEach (doomed_unless out r) old new → TableIsKept w n g old
+pub doomed_unless_table : (w : Setting) (n : Reading) (g : Grips) (r : ℕ) (cause : Cause) (out : Option DeviceNo) (old new : List LineageState) → IsRead w n → GripsFit w n g → is_doomed n r ≡ false → ((d : ℕ) → grips_command g r d ≡ is_named_device out d) → ChangesEach (doomed_unless out r) old new → TableIsKept w n g old
     → TableIsKept w (entry w n (Doomed (run_no r) cause)) g new
 doomed_unless_table w n g r cause out old new read fit sound same changes kept = doomed_table w n g r cause old new read fit sound (doomed_each g r out old new same changes) kept
 

@@ -2,7 +2,7 @@
 use Rattle.command_rules.specs.Items.{is_ran}
 use Rattle.command_rules.specs.Rosters.{command_at, commands_of, run_no}
 use Rattle.device_order.specs.LineWords.{CutAt}
-use Rattle.device_order.specs.RunStates.{uses as uses_device}
+use Rattle.device_order.specs.RunStates.{uses_device}
 use Rattle.history_book.specs.Histories.{entry}
 use Rattle.history_book.specs.Lines.{before}
 use Rattle.history_book.specs.Readings.{Reading, did, is_doomed, is_live, is_open, next_of, pends, sees_down, view_of}

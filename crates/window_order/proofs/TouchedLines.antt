@@ -22,7 +22,7 @@ use Rattle.lock_leasing.specs.Places.{GripsFit}
 use Rattle.lock_leasing.specs.Standings.{has_ended, item_has_touched}
 use Rattle.lock_leasing.specs.Words.{has_touched}
 use Rattle.serial_line.proofs.Ties.{line_empty, line_inserted, line_removed, line_retold, line_settling, line_touching, run_comes}
-use Rattle.serial_line.specs.Marks.{Mark, settling, stands, touching, with_item, without}
+use Rattle.serial_line.specs.Marks.{Mark, marks_without, settling, stands, touching, with_item}
 use Rattle.serial_line.specs.Ties.{IsLineOf}
 use Rattle.std.proofs.Common.{ap, ap₂, arith, cond, refl, subst, sym, ◌∙◌}
 use Rattle.std.proofs.lemmas.Bool.{and_right, eq-eqb, eqb-false, eqb-true}
@@ -236,7 +236,7 @@ pub marks_undone : (w : Setting) (n : Reading) (g : Grips) (r d : ℕ) (drove : 
 marks_undone w n g r d drove marks kept = marks_same n (entry w n (Undid (run_no r) (device_no d) drove)) g g marks refl (λ q e. ap (λ b. b || grips_command g q e) (put_keeps (λ o. is_some (o.on e).view) n.run r _ (put_keeps (λ x. is_some x.view) (n.run r).on d _ refl e) q)) (put_keeps (λ o. is_some o.ended) n.run r _ refl) kept
 
 -- a run is aborted: its mark leaves
-pub marks_aborted : (w : Setting) (n : Reading) (g : Grips) (r : ℕ) (cause : Cause) (marks : List Mark) → MarksAreKept n g marks → MarksAreKept (entry w n (Ended (run_no r) (Aborted cause))) g (without r marks)
+pub marks_aborted : (w : Setting) (n : Reading) (g : Grips) (r : ℕ) (cause : Cause) (marks : List Mark) → MarksAreKept n g marks → MarksAreKept (entry w n (Ended (run_no r) (Aborted cause))) g (marks_without r marks)
 marks_aborted w n g r cause marks kept = line_retold (line_removed r kept) (λ i d there. each i d) (λ q there. sym (ends q (gone n.line q there)))
   where
     next : Reading

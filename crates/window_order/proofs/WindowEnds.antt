@@ -5,7 +5,7 @@ use Rattle.history_book.proofs.Shapes.{put_all}
 use Rattle.history_book.proofs.Standing.{is_abort, stands_in}
 use Rattle.history_book.specs.Histories.{answers_in, entry, executed, more_if, reading}
 use Rattle.history_book.specs.Lines.{is_event_on}
-use Rattle.history_book.specs.Readings.{Event, First, Last, Mark, OfRun, PlacedAt, Reading, did, events_of, is_access, nothing_read, is_committed, is_committing, is_live}
+use Rattle.history_book.specs.Readings.{Event, First, Last, LogMark, OfRun, PlacedAt, Reading, did, events_of, is_access, nothing_read, is_committed, is_committing, is_live}
 use Rattle.history_book.specs.Settings.{Setting, is_weak}
 use Rattle.history_book.specs.declared.entries.Entry.TheVariants.{Arrived, Did, Doomed, Ended, Fell, Placed, Rose, Undid}
 use Rattle.history_book.specs.declared.entries.Entry.{Entry}
@@ -64,7 +64,7 @@ order_runs w n s over r = s.once r ∙ ap (λ b. cond b 1 0) (stands_committed (
 -- Events
 
 -- the mark of an event is one of the device
-abbrev pub is_mark_on : ℕ → Mark → Bool
+abbrev pub is_mark_on : ℕ → LogMark → Bool
 is_mark_on d (First r) = true
 is_mark_on d (Event i) = is_event_on d i
 is_mark_on d (Last r) = true
@@ -73,7 +73,7 @@ is_mark_on d (Last r) = true
 abbrev pub LogsOwnEvents : Reading → Type 0
 LogsOwnEvents n = (d : ℕ) → list_all (is_mark_on d) (n.log d) ≡ true
 
-events_more : (d : ℕ) (b : Bool) (m : Mark) (marks : List Mark) → is_mark_on d m ≡ true → list_all (is_mark_on d) marks ≡ true → list_all (is_mark_on d) (more_if b m marks) ≡ true
+events_more : (d : ℕ) (b : Bool) (m : LogMark) (marks : List LogMark) → is_mark_on d m ≡ true → list_all (is_mark_on d) marks ≡ true → list_all (is_mark_on d) (more_if b m marks) ≡ true
 events_more d true m marks own h = list_all-append (is_mark_on d) marks (m ∷ []) ∙ grind (arith, common_steps)
 events_more d false m marks own h = h
 
@@ -97,7 +97,7 @@ own_from w n (e ∷ h) s = own_from w (entry w n e) h (own_step w n e s)
 pub logs_own_events : (w : Setting) (h : List Entry) → LogsOwnEvents (reading w h)
 logs_own_events w h = own_from w (nothing_read w) h (λ d. refl)
 
-abbrev mark_in : Reading → ℕ → Mark → Option Item
+abbrev mark_in : Reading → ℕ → LogMark → Option Item
 mark_in n d (First r) = if is_in_line n r && not (is_late n r d) then Some (Ran (record { 0 = r })) else None
 mark_in n d (Event i) = Some i
 mark_in n d (Last r) = None
@@ -113,7 +113,7 @@ filter_twice p q (x ∷ xs) = at_ (filter_twice p q xs) (p x) (q x) refl
     at_ ih false false e = ih
 
 -- the events among the marks that the line has are those of the log
-marked_events : (n : Reading) (d : ℕ) (marks : List Mark) → list_all (is_mark_on d) marks ≡ true → filter (is_event_on d) (filter_map (mark_in n d) marks) ≡ events_of marks
+marked_events : (n : Reading) (d : ℕ) (marks : List LogMark) → list_all (is_mark_on d) marks ≡ true → filter (is_event_on d) (filter_map (mark_in n d) marks) ≡ events_of marks
 marked_events n d [] h = refl
 marked_events n d (First r ∷ ms) h = at_ (is_in_line n r && not (is_late n r d)) (marked_events n d ms h)
   where

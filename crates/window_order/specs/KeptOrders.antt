@@ -16,7 +16,7 @@ use Rattle.lineage_table.specs.declared.accesses.Status.TheVariants.{Acquired, S
 use Rattle.lock_leasing.specs.Configurations.{Commands, Probes, Purpose, Undoes}
 use Rattle.serial_line.specs.Marks.{Marked, front_of, items_of, stands}
 use Rattle.std.specs.Prelude.{Bool, List, None, Option, Some, false, get_or, if◌then◌else◌, length, option_map, true, unwrap_or, ℕ, ◌≡◌}
-use Rattle.window_order.specs.TableChanges.{IsWaiting, first_with_access, noted, passed_if, rescheduled}
+use Rattle.window_order.specs.TableChanges.{IsWaiting, answer_noted, first_with_access, passed_if, rescheduled}
 
 -- sealed are the items before the first run that has not ended
 abbrev pub IsSealed : Marked → Type 0
@@ -59,7 +59,7 @@ scheduled_with runs r uses back d s = if touches runs r d then scheduled_so r ba
 
 -- the run's answer on the device is noted; where it has not touched it before, the scheduled accesses before its own are passed first, and its own is acquired
 abbrev pub noted_first : RunId → Bool → View → Option ℕ → Bool → LineageState → LineageState
-noted_first r first view wrote last s = noted r first view wrote last (passed_if first r s)
+noted_first r first view wrote last s = answer_noted r first view wrote last (passed_if first r s)
 
 -- the run has skipped its last command on the device: its access is gone where the run has not touched the device, and else released
 abbrev pub left_by : RunId → Bool → LineageState → LineageState

@@ -2,9 +2,9 @@
 use Rattle.command_rules.specs.Rosters.{command_at, commands_of}
 use Rattle.device_order.specs.LineEntries.{command_grip}
 use Rattle.device_order.specs.RunStates.{RunState}
-use Rattle.device_order.specs.Windows.{WindowRecord}
-use Rattle.device_order.specs.declared.records.Grip.TheVariants.{Free, Undoes as HeldToUndo}
-use Rattle.device_order.specs.declared.records.Grip.{Grip as HeldGrip}
+use Rattle.device_order.specs.Windows.{WindowModel}
+use Rattle.device_order.specs.declared.records.HeldGrip.TheVariants.{Free, Undoes as HeldToUndo}
+use Rattle.device_order.specs.declared.records.HeldGrip.{HeldGrip}
 use Rattle.device_order.specs.declared.records.Probe.TheVariants.{Asks, Restores, Unprobed}
 use Rattle.device_order.specs.declared.records.Probe.{Probe}
 use Rattle.history_book.specs.Readings.{Reading, is_committed, is_doomed}
@@ -25,16 +25,16 @@ held_by w r None = Free
 held_by w r (Some grip) = if grip.maker == r then held_for w r grip.purpose else Free
 
 -- the probe that is out for this purpose
-abbrev pub probe_for : Purpose → Probe
-probe_for (Commands k) = Unprobed
-probe_for (Undoes v) = Unprobed
-probe_for (Probes None) = Asks
-probe_for (Probes (Some v)) = Restores v
+abbrev pub probe_for_purpose : Purpose → Probe
+probe_for_purpose (Commands k) = Unprobed
+probe_for_purpose (Undoes v) = Unprobed
+probe_for_purpose (Probes None) = Asks
+probe_for_purpose (Probes (Some v)) = Restores v
 
 -- the probe of a device that is out with this grip, or home
 abbrev pub probe_of : Option Grip → Probe
 probe_of None = Unprobed
-probe_of (Some grip) = probe_for grip.purpose
+probe_of (Some grip) = probe_for_purpose grip.purpose
 
 -- what is known of the run
 abbrev pub run_state : Setting → Reading → Grips → RunId → RunState
@@ -48,7 +48,7 @@ run_state w n g r = record {
 }
 
 -- the window, where each device stands, or stood as it went out, at this value
-abbrev pub window_of : Setting → Reading → Grips → (DeviceId → ℕ) → WindowRecord
+abbrev pub window_of : Setting → Reading → Grips → (DeviceId → ℕ) → WindowModel
 window_of w n g held = record {
   runs = w.runs;
   first = w.first;

@@ -14,8 +14,8 @@ use Rattle.home_types.specs.declared.items.Item.TheVariants.{Back, Failed, Ran}
 use Rattle.home_types.specs.declared.items.Item.{Item}
 use Rattle.home_types.specs.declared.numbers.RunNo.{RunNo}
 use Rattle.home_types.specs.declared.numbers.DeviceNo.{DeviceNo}
-use Rattle.lineage_table.specs.Accesses.{before, has_access, is_acquired, is_of, is_released, is_scheduled, some_acquired, some_scheduled, status_of}
-use Rattle.lineage_table.specs.Lineages.{LineageState, acquired, counted_up, lineage_at, released, removed, scheduled, undone, written}
+use Rattle.lineage_table.specs.Accesses.{accesses_before, has_access, is_acquired, is_of, is_released, is_scheduled, some_acquired, some_scheduled, status_of}
+use Rattle.lineage_table.specs.Lineages.{LineageState, acquired, counted_up, lineage_at, released, removed, scheduled, undone, with_value_written}
 use Rattle.lineage_table.specs.declared.accesses.Access.{Access}
 use Rattle.lineage_table.specs.declared.accesses.Status.TheVariants.{Released, Scheduled}
 use Rattle.lock_leasing.specs.Configurations.{Grips, grips_command}
@@ -87,7 +87,7 @@ placed_change w n r at planned = scheduled_on w.runs r planned (drop at n.line)
 pub record IsFirst (r : RunId) (s : LineageState) : Type 0 where
   pub scheduled : status_of r s.accesses ≡ Some Scheduled
   pub none_acquired : some_acquired s.accesses ≡ false
-  pub none_before : some_scheduled (before r s.accesses) ≡ false
+  pub none_before : some_scheduled (accesses_before r s.accesses) ≡ false
 
 -- the access is passed where it is scheduled: acquired by a run that sees the device down, and released
 abbrev pub pass_access : Access → Access
@@ -115,14 +115,14 @@ acquired_if first r view s = if first then acquired r view s else s
 
 abbrev pub written_if : Option ℕ → RunId → LineageState → LineageState
 written_if None r s = s
-written_if (Some v) r s = written r v s
+written_if (Some v) r s = with_value_written r v s
 
 abbrev pub released_if : Bool → RunId → LineageState → LineageState
 released_if last r s = if last then released r s else s
 
 -- the run notes an answer on the device: whether it is its first one there, how it sees the device, what it wrote, and whether it is done there
-abbrev pub noted : RunId → Bool → View → Option ℕ → Bool → LineageState → LineageState
-noted r first view wrote last s = released_if last r (written_if wrote r (acquired_if first r view s))
+abbrev pub answer_noted : RunId → Bool → View → Option ℕ → Bool → LineageState → LineageState
+answer_noted r first view wrote last s = released_if last r (written_if wrote r (acquired_if first r view s))
 
 -- the value that the answer says was written
 abbrev pub told_write : Setting → Reading → RunId → Command → Answer → Option ℕ
@@ -135,7 +135,7 @@ is_done_there w n r k = is_doomed n r || not (touches_from w.runs r (command_at 
 -- the device of the command number k is acquired at the first answer there, where the scheduled accesses before it are passed, has the value that was written, and is released when the run is done there
 abbrev pub answered_lineage : Setting → Reading → RunId → CommandIndex → Answer → LineageState → LineageState
 answered_lineage w n r k a s =
-    noted r (not (did n r (command_at w.runs r k).device.0)) (view_when (is_told a)) (told_write w n r (command_at w.runs r k) a) (is_done_there w n r k) (passed_if (not (did n r (command_at w.runs r k).device.0)) r s)
+    answer_noted r (not (did n r (command_at w.runs r k).device.0)) (view_when (is_told a)) (told_write w n r (command_at w.runs r k) a) (is_done_there w n r k) (passed_if (not (did n r (command_at w.runs r k).device.0)) r s)
 
 abbrev pub answered_change : Setting → Reading → RunId → CommandIndex → Answer → DeviceId → LineageState → LineageState
 answered_change w n r k a d s = if d == (command_at w.runs r k).device.0 then answered_lineage w n r k a s else s
@@ -160,11 +160,11 @@ abbrev pub doomed_lineage : RunId → LineageState → LineageState
 doomed_lineage r s = released_if (has_acquired r s) r s
 
 -- .. but not with this one, where one is named
-abbrev pub is_device : Option DeviceNo → DeviceId → Bool
-is_device out d = unwrap_or (option_map (λ e. e.0 == d) out) false
+abbrev pub is_named_device : Option DeviceNo → DeviceId → Bool
+is_named_device out d = unwrap_or (option_map (λ e. e.0 == d) out) false
 
 abbrev pub doomed_unless : Option DeviceNo → RunId → DeviceId → LineageState → LineageState
-doomed_unless out r d s = if is_device out d then s else doomed_lineage r s
+doomed_unless out r d s = if is_named_device out d then s else doomed_lineage r s
 
 -- .. which is the one that is out for its command
 abbrev pub doomed_change : Grips → RunId → DeviceId → LineageState → LineageState

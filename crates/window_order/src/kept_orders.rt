@@ -9,12 +9,12 @@ ghost use Rattle.home_types.specs.Limits.{most_devices};
 ghost use Rattle.home_types.specs.declared.items.Item.TheVariants.{Ran};
 ghost use Rattle.home_types.specs.declared.modes.Scheduler.TheVariants.{Timeline};
 ghost use Rattle.window_order.specs.KeptOrders.{IsSealed, IsUnreleased, MayArrange, MayNote, arranged, is_first, left_by, noted_first, purpose_of, scheduled_with};
-ghost use Rattle.lineage_table.specs.Lineages.{IsOpened, accesses_at, committed_lineage, lineage_at, removed, undone, with_lineage};
+ghost use Rattle.lineage_table.specs.Lineages.{TableIsOpened, accesses_at, committed_lineage, lineage_at, removed, undone, with_lineage};
 ghost use Rattle.lock_leasing.specs.Configurations.{is_command, is_undo};
 ghost use Rattle.lock_leasing.specs.Tables.{view_when};
 ghost use Rattle.serial_line.specs.KeptRuns.{AreKeptOf};
 ghost use Rattle.serial_line.specs.Labels.{is_sealed};
-ghost use Rattle.serial_line.specs.Marks.{front_of, items_of, settling, stands, touching, with_item, without};
+ghost use Rattle.serial_line.specs.Marks.{front_of, items_of, marks_without, settling, stands, touching, with_item};
 ghost use Rattle.window_order.specs.TableChanges.{ChangesEach, IsNewOn, doomed_unless, first_with_access};
 
 use crate::planned_uses::PlannedUse;
@@ -65,7 +65,7 @@ impl KeptOrder {
         ensures room { IfOk result (λ order. order.line.spare ≡ items) }
         ensures none_sealed { IfOk result (λ order. order.line.sealed ≡ 0) }
         ensures runs { IfOk result (λ order. AreKeptOf (runs_of roster.now) order.line.runs) }
-        ensures table { IfOk result (λ order. IsOpened (runs_of roster.now) world.now.devices.items order.table) }
+        ensures table { IfOk result (λ order. TableIsOpened (runs_of roster.now) world.now.devices.items order.table) }
     {
         let mut line = Line::open(alloc, roster)?;
         line.reserve(items)?;
@@ -204,7 +204,7 @@ impl KeptOrder {
         requires sealed { IsSealed self.old.line }
         requires live { is_sealed (Ran r) self.old.line ≡ false }
         requires finished { next_undo self.old.table r.0 ≡ Undo.Finished }
-        ensures marks { self.new.line.marks ≡ without r.0 self.old.line.marks }
+        ensures marks { self.new.line.marks ≡ marks_without r.0 self.old.line.marks }
         ensures spare { self.new.line.spare ≡ self.old.line.spare + 1 }
         ensures sealed { IsSealed self.new.line }
         ensures runs { self.new.line.runs ≡ self.old.line.runs }

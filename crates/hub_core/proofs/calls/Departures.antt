@@ -26,7 +26,7 @@ use Rattle.hub_core.specs.KeptByModel.{IsKeptByModel}
 use Rattle.hub_core.specs.HubCalls.{IsNextGrip}
 use Rattle.hub_core.specs.HubSteps.{carrying, task_of}
 use Rattle.hub_core.specs.HubsKept.{FitsAtHome, FitsOut, HubIsKept, all_probes_taken, is_away}
-use Rattle.hub_core.specs.OpenHubs.{OpenHub, configuration_of, device_at, grip_in, held_in, no_device, state_of}
+use Rattle.hub_core.specs.OpenHubs.{OpenHub, configuration_of, grip_in, held_in, hub_state_of, no_device, progress_at}
 use Rattle.window_order.specs.KeptOrders.{purpose_of}
 use Rattle.hub_core.specs.declared.known.DeviceProgress.{DeviceProgress}
 use Rattle.window_order.specs.declared.purposes.Purpose.{Purpose as KeptPurpose}
@@ -51,7 +51,7 @@ gone_past (x ∷ xs) (suc i) none = omega (arith, gone_past xs i none)
 pub home_place : {D : Type 0} (s : OpenHub D) (d : ℕ) → d < length s.places → is_out (configuration_of s).grips d ≡ false → IsHome s.places d
 home_place {D = D} s d within home = by_place (slice_get s.places d) refl home
   where
-    by_place : (o : Option (Place D)) → slice_get s.places d ≡ o → is_some (grip_in o (device_at s.devices d).purpose) ≡ false → IsHome s.places d
+    by_place : (o : Option (Place D)) → slice_get s.places d ≡ o → is_some (grip_in o (progress_at s.devices d).purpose) ≡ false → IsHome s.places d
     by_place None at is = absurd (omega (arith, within, gone_past s.places d at))
     by_place (Some (Home device)) at is = (device, at)
     by_place (Some (Out slip task)) at is = absurd (cc)
@@ -65,9 +65,9 @@ has_room stands turns probes faults s d device k at =
     let few = few_entries stands turns probes faults s k in
     let falls : told_falls (entries_of s.history) d ≤ length s.history = falls_most s.history d in
     let calls : told_calls s.setting.runs (entries_of s.history) d ≤ length s.history = told_most s.setting s.history d in
-    let had_turns : (device_at s.devices d).at_opening.turns ≤ s.opened * 131072 + 1 = (k.low d).few_turns in
-    let had_probes : (device_at s.devices d).at_opening.probes ≤ s.opened * 131072 + 1 = (k.low d).few_probes in
-    let had_faults : (device_at s.devices d).at_opening.faults ≤ s.opened * 131072 + 1 = (k.low d).few_faults in
+    let had_turns : (progress_at s.devices d).at_opening.turns ≤ s.opened * 131072 + 1 = (k.low d).few_turns in
+    let had_probes : (progress_at s.devices d).at_opening.probes ≤ s.opened * 131072 + 1 = (k.low d).few_probes in
+    let had_faults : (progress_at s.devices d).at_opening.faults ≤ s.opened * 131072 + 1 = (k.low d).few_faults in
     (omega (arith, fits.turns_are, windows, few, calls, had_turns), omega (arith, fits.probes_are, windows, rounds, had_probes), omega (arith, fits.few_faults, windows, rounds, few, falls, had_faults))
   where
     length_entries : (h : List Kept) → length (entries_of h) ≡ length h
@@ -93,7 +93,7 @@ few_tickets stands turns probes faults s k =
 -- What is kept of another device
 
 pub other_home : {D : Type 0} (stands turns probes faults : D → ℕ) (s : OpenHub D) (x : List Kept) (m : ℕ) (v : List DeviceProgress) (u : List (Place D)) (k e : ℕ) (device : D)
-    → device_at v e ≡ device_at s.devices e
+    → progress_at v e ≡ progress_at s.devices e
     → told_calls s.setting.runs (entries_of x) e ≡ told_calls s.setting.runs (entries_of s.history) e
     → told_falls (entries_of x) e ≡ told_falls (entries_of s.history) e
     → (read_of (configuration_of (record s { history = x; moment = m; devices = v; places = u; tickets = k }))).up e ≡ (read_of (configuration_of s)).up e
@@ -108,7 +108,7 @@ other_home stands turns probes faults s x m v u k e device known told falls up' 
     }
 
 pub other_out : {D : Type 0} (s : OpenHub D) (x : List Kept) (m : ℕ) (v : List DeviceProgress) (u : List (Place D)) (k e : ℕ) (slip : Slip) (task : Task)
-    → device_at v e ≡ device_at s.devices e
+    → progress_at v e ≡ progress_at s.devices e
     → told_calls s.setting.runs (entries_of x) e ≡ told_calls s.setting.runs (entries_of s.history) e
     → told_falls (entries_of x) e ≡ told_falls (entries_of s.history) e
     → ((read_of (configuration_of s)).run slip.maker).register ≡ ((read_of (configuration_of (record s { history = x; moment = m; devices = v; places = u; tickets = k }))).run slip.maker).register
@@ -121,7 +121,7 @@ other_out s x m v u k e slip task known told falls register fits =
       probes_are = fits.probes_are ∙ ap (λ (p : DeviceProgress). p.at_opening.probes + (s.rounds - p.probes_left)) (sym known);
       falls_told = subst (λ (p : DeviceProgress). p.at_opening.faults + told_falls (entries_of x) e ≤ slip.faults) (sym known) (omega (arith, fits.falls_told, falls));
       few_faults = subst (λ (p : DeviceProgress). slip.faults + probed task ≤ p.at_opening.faults + told_falls (entries_of x) e + (s.rounds - p.probes_left)) (sym known) (omega (arith, fits.few_faults, falls));
-      does = fits.does ∙ task_same (configuration_of s) (configuration_of (record s { history = x; moment = m; devices = v; places = u; tickets = k })) slip.maker (purpose_of (device_at s.devices e).purpose) refl register
+      does = fits.does ∙ task_same (configuration_of s) (configuration_of (record s { history = x; moment = m; devices = v; places = u; tickets = k })) slip.maker (purpose_of (progress_at s.devices e).purpose) refl register
           ∙ ap (λ (p : DeviceProgress). task_of (configuration_of (record s { history = x; moment = m; devices = v; places = u; tickets = k })) slip.maker (purpose_of p.purpose)) (sym known);
     }
 
@@ -141,11 +141,11 @@ count_gone (p ∷ places) (suc d) device slip task at =
 
 -- how many probes were taken of all devices when one has another number left
 taken_of : (rounds : ℕ) (devices : List DeviceProgress) (d : ℕ) (x : DeviceProgress) → d < length devices
-    → sum_by (λ (p : DeviceProgress). rounds - p.probes_left) (slice_set devices d x) + (rounds - (device_at devices d).probes_left) ≡ sum_by (λ (p : DeviceProgress). rounds - p.probes_left) devices + (rounds - x.probes_left)
+    → sum_by (λ (p : DeviceProgress). rounds - p.probes_left) (slice_set devices d x) + (rounds - (progress_at devices d).probes_left) ≡ sum_by (λ (p : DeviceProgress). rounds - p.probes_left) devices + (rounds - x.probes_left)
 taken_of rounds devices d x within = let both = sum_by-set (λ (p : DeviceProgress). rounds - p.probes_left) devices d x no_device within in omega (arith, both)
 
 -- as many were taken where as many are left
-pub taken_same : (rounds : ℕ) (devices : List DeviceProgress) (d : ℕ) (x : DeviceProgress) → x.probes_left ≡ (device_at devices d).probes_left → d < length devices
+pub taken_same : (rounds : ℕ) (devices : List DeviceProgress) (d : ℕ) (x : DeviceProgress) → x.probes_left ≡ (progress_at devices d).probes_left → d < length devices
     → sum_by (λ (p : DeviceProgress). rounds - p.probes_left) (slice_set devices d x) ≡ sum_by (λ (p : DeviceProgress). rounds - p.probes_left) devices
 taken_same rounds devices d x same within =
     let both = taken_of rounds devices d x within in
@@ -160,7 +160,7 @@ gone s d purpose left slip task t =
     record s {
       history = s.history;
       moment = t;
-      devices = slice_set s.devices d (record (device_at s.devices d) { purpose = purpose; probes_left = left });
+      devices = slice_set s.devices d (record (progress_at s.devices d) { purpose = purpose; probes_left = left });
       places = slice_set s.places d (Out slip task);
       tickets = s.tickets + 1;
     }
@@ -174,15 +174,15 @@ pub record IsLeaving {D : Type 0} (turns probes faults : D → ℕ) (s : OpenHub
   pub had_probes : slip.probes ≡ probes device
   pub had_faults : slip.faults ≡ faults device
   pub does : task ≡ task_of (configuration_of s) r (purpose_of purpose)
-  pub probed_so : left + probed task ≡ (device_at s.devices d).probes_left
+  pub probed_so : left + probed task ≡ (progress_at s.devices d).probes_left
   pub ticket : 1 ≤ one_for (nat_lt 0 r) + probed task
 
 pub gone_configuration : {D : Type 0} (s : OpenHub D) (r d left t : ℕ) (purpose : KeptPurpose) (slip : Slip) (task : Task) → slip.maker ≡ r → d < length s.places → d < length s.devices
     → configuration_of (gone s d purpose left slip task t) ≡ record (configuration_of s) { moment = t; probes = put (configuration_of s).probes d left; grips = put (configuration_of s).grips d (Some (record { maker = r; purpose = purpose_of purpose })) }
 gone_configuration s r d left t purpose slip task maker within known =
-    let known_now = record (device_at s.devices d) { purpose = purpose; probes_left = left } in
-    let probes : ◌≡◌ {A = ℕ → ℕ} (λ e. (device_at (slice_set s.devices d known_now) e).probes_left) (put (configuration_of s).probes d left) = known_set (λ (p : DeviceProgress). p.probes_left) s.devices d known_now known in
-    let grips : ◌≡◌ {A = ℕ → Option Grip} (λ e. grip_in (slice_get (slice_set s.places d (Out slip task)) e) (device_at (slice_set s.devices d known_now) e).purpose) (put (configuration_of s).grips d (Some (record { maker = r; purpose = purpose_of purpose }))) =
+    let known_now = record (progress_at s.devices d) { purpose = purpose; probes_left = left } in
+    let probes : ◌≡◌ {A = ℕ → ℕ} (λ e. (progress_at (slice_set s.devices d known_now) e).probes_left) (put (configuration_of s).probes d left) = known_set (λ (p : DeviceProgress). p.probes_left) s.devices d known_now known in
+    let grips : ◌≡◌ {A = ℕ → Option Grip} (λ e. grip_in (slice_get (slice_set s.places d (Out slip task)) e) (progress_at (slice_set s.devices d known_now) e).purpose) (put (configuration_of s).grips d (Some (record { maker = r; purpose = purpose_of purpose }))) =
     grips_set s.places s.devices d (Out slip task) known_now within known ∙ ap (λ q. put (configuration_of s).grips d (Some (record { maker = q; purpose = purpose_of purpose }))) maker in
     λ i. record { setting = s.setting; history = s.history; moment = t; probes = probes i; grips = grips i }
 
@@ -208,12 +208,12 @@ gone_kept {D = D} stands turns probes faults s r d left t purpose device slip ta
       few_tickets =
           let few : s.tickets ≤ length s.history + count_by is_away s.places + all_probes_taken s = k.few_tickets in
           let more : count_by is_away after.places ≡ count_by is_away s.places + one_for (nat_lt 0 r) = count_gone s.places d device slip task at ∙ ap (λ q. count_by is_away s.places + one_for (nat_lt 0 q)) leaves.maker in
-          let taken : all_probes_taken after + (s.rounds - (device_at s.devices d).probes_left) ≡ all_probes_taken s + (s.rounds - left) = taken_of s.rounds s.devices d known_now known in
+          let taken : all_probes_taken after + (s.rounds - (progress_at s.devices d).probes_left) ≡ all_probes_taken s + (s.rounds - left) = taken_of s.rounds s.devices d known_now known in
           omega (arith, few, more, taken, leaves.probed_so, few_left, leaves.ticket);
     }
   where
     known_now : DeviceProgress
-    known_now = record (device_at s.devices d) { purpose = purpose; probes_left = left }
+    known_now = record (progress_at s.devices d) { purpose = purpose; probes_left = left }
 
     after : OpenHub D
     after = gone s d purpose left slip task t
@@ -227,7 +227,7 @@ gone_kept {D = D} stands turns probes faults s r d left t purpose device slip ta
     held : ◌≡◌ {A = ℕ → ℕ} (held_in s) (held_in after)
     held = sym (λ i e. known_same (λ (p : DeviceProgress). p.held) s.devices d known_now known refl e i)
 
-    few_left : (device_at s.devices d).probes_left ≤ s.rounds
+    few_left : (progress_at s.devices d).probes_left ≤ s.rounds
     few_left = let most : probes_of (configuration_of s) d ≤ s.rounds = k.configuration.probes d in omega (arith, most)
 
     IsFitting : ℕ → Place D → Type 0
@@ -243,18 +243,18 @@ gone_kept {D = D} stands turns probes faults s r d left t purpose device slip ta
           stand = λ up. leaves.stood ∙ ap (λ (p : DeviceProgress). p.held) (sym here);
           turns_are = leaves.had_turns ∙ fits.turns_are ∙ ap (λ (p : DeviceProgress). p.at_opening.turns + told_calls s.setting.runs (entries_of s.history) d) (sym here);
           probes_are =
-              let had : slip.probes ≡ (device_at s.devices d).at_opening.probes + (s.rounds - (device_at s.devices d).probes_left) = leaves.had_probes ∙ fits.probes_are in
-              let now : slip.probes + probed task ≡ (device_at s.devices d).at_opening.probes + (s.rounds - left) = omega (arith, had, leaves.probed_so, few_left) in
+              let had : slip.probes ≡ (progress_at s.devices d).at_opening.probes + (s.rounds - (progress_at s.devices d).probes_left) = leaves.had_probes ∙ fits.probes_are in
+              let now : slip.probes + probed task ≡ (progress_at s.devices d).at_opening.probes + (s.rounds - left) = omega (arith, had, leaves.probed_so, few_left) in
               now ∙ ap (λ (p : DeviceProgress). p.at_opening.probes + (s.rounds - p.probes_left)) (sym here);
           falls_told = subst (λ (p : DeviceProgress). p.at_opening.faults + told_falls (entries_of s.history) d ≤ slip.faults) (sym here) (omega (arith, fits.falls_told, leaves.had_faults));
           few_faults = subst (λ (p : DeviceProgress). slip.faults + probed task ≤ p.at_opening.faults + told_falls (entries_of s.history) d + (s.rounds - p.probes_left)) (sym here)
-              (let few : faults device ≤ (device_at s.devices d).at_opening.faults + told_falls (entries_of s.history) d + (s.rounds - (device_at s.devices d).probes_left) = fits.few_faults in
+              (let few : faults device ≤ (progress_at s.devices d).at_opening.faults + told_falls (entries_of s.history) d + (s.rounds - (progress_at s.devices d).probes_left) = fits.few_faults in
               omega (arith, few, leaves.had_faults, leaves.probed_so, few_left));
           does = leaves.does ∙ task_same (configuration_of s) (configuration_of after) r (purpose_of purpose) refl refl
               ∙ ap₂ (λ q (p : DeviceProgress). task_of (configuration_of after) q (purpose_of p.purpose)) (sym leaves.maker) (sym here);
         }
 
-pub at_index : (xs : List DeviceProgress) (i : ℕ) (x : DeviceProgress) → slice_get xs i ≡ Some x → device_at xs i ≡ x
+pub at_index : (xs : List DeviceProgress) (i : ℕ) (x : DeviceProgress) → slice_get xs i ≡ Some x → progress_at xs i ≡ x
 at_index [] i x at = absurd (cc)
 at_index (y ∷ xs) zero x at = cc
 at_index (y ∷ xs) (suc i) x at = at_index xs i x at
@@ -266,8 +266,8 @@ is_there xs i (Some x) less is = refl
 
 -- as the hub is seen
 pub gone_carries : {D : Type 0} (s : OpenHub D) (r d left t : ℕ) (purpose : KeptPurpose) (slip : Slip) (task : Task) → task ≡ task_of (configuration_of s) r (purpose_of purpose) → d < length s.places
-    → (state_of (gone s d purpose left slip task t)).carried ≡ carrying (state_of s) r d (purpose_of purpose) slip
-gone_carries s r d left t purpose slip task does within = carried_set s.places d (Out slip task) within ∙ ap (λ x. put (state_of s).carried d (Some (record { slip = slip; task = x }))) does
+    → (hub_state_of (gone s d purpose left slip task t)).carried ≡ carrying (hub_state_of s) r d (purpose_of purpose) slip
+gone_carries s r d left t purpose slip task does within = carried_set s.places d (Out slip task) within ∙ ap (λ x. put (hub_state_of s).carried d (Some (record { slip = slip; task = x }))) does
 
 -- its grip is the next one
 pub next_grip : {D : Type 0} (s t : OpenHub D) (grip : Gripped D Ready) (d : ℕ) → grip.slip.device.0 ≡ d → grip.slip.ticket ≡ s.tickets + 1 → t.tickets ≡ s.tickets + 1 → grip.slip.stood ≡ held_in s d → IsNextGrip s grip t

@@ -33,7 +33,7 @@ use Rattle.hub_core.specs.HubCalls.{IsGiven, IsProbeGiven, IsProbed, IsTurn, car
 use Rattle.hub_core.specs.HubSteps.{Carried, Gave, HubState, Returned, give_if}
 use Rattle.hub_core.specs.HubsKept.{HubIsKept, IsWhole, open_of}
 use Rattle.legal_days.specs.LegalWindows.{IsLegalWindow, IsSeriallyLegal, IsWeaklyLegal, history_of}
-use Rattle.hub_core.specs.OpenHubs.{OpenHub, configuration_of, state_of}
+use Rattle.hub_core.specs.OpenHubs.{OpenHub, configuration_of, hub_state_of}
 use Rattle.hub_core.specs.Steps.{Absent, Choice, HandsOut, Moves, Over, Waits, after_choice, after_give, after_take_probe, at_moment, choice_of, command_entries, decide, down_entries, give_entries, may_probe, probe_entries, probe_grip, undo_entries, after_take}
 use Rattle.hub_core.specs.declared.open_windows.OpenWindow.TheInside.{Inside}
 use Rattle.hub_core.specs.declared.turns.Turn.TheVariants.{Absent as NoRun, Go, Moved, Over as Ending, Wait}
@@ -180,7 +180,7 @@ formed_hub stands turns probes faults t kept = kept.configuration.history.well_f
 
 -- the final items stay
 pub turn_sealed : {D : Type 0} (stands turns probes faults : D → ℕ) (s t : OpenHub D) (r m : ℕ) (turn : Turn D) → IsTurn s r m turn t → HubIsKept stands turns probes faults t → StaysSealed (read_of (configuration_of s)) (read_of (configuration_of t))
-turn_sealed stands turns probes faults s t r m (Go grip) is kept = took_sealed (configuration_of s) (configuration_of t) r m (took_after (state_of s) (state_of t) r m grip.slip _ is.step) (formed_hub stands turns probes faults t kept)
+turn_sealed stands turns probes faults s t r m (Go grip) is kept = took_sealed (configuration_of s) (configuration_of t) r m (took_after (hub_state_of s) (hub_state_of t) r m grip.slip _ is.step) (formed_hub stands turns probes faults t kept)
 turn_sealed stands turns probes faults s t r m (Moved made) is kept = took_sealed (configuration_of s) (configuration_of t) r m (after s t r m _ is.0) (formed_hub stands turns probes faults t kept)
 turn_sealed stands turns probes faults s t r m (Wait why) is kept = took_sealed (configuration_of s) (configuration_of t) r m (after s t r m _ is.0) (formed_hub stands turns probes faults t kept)
 turn_sealed stands turns probes faults s t r m (Ending end made) is kept = took_sealed (configuration_of s) (configuration_of t) r m (after s t r m _ is.0) (formed_hub stands turns probes faults t kept)
@@ -215,11 +215,11 @@ seen_so {D = D} {s = s} {t = t} {u = u} {v = v} before after stays =
     subst (λ (x : OpenHub D). StaysSealed (read_of (configuration_of u)) (read_of (configuration_of x))) (sym after) (subst (λ (x : OpenHub D). StaysSealed (read_of (configuration_of x)) (read_of (configuration_of t))) before stays)
 
 pub given_sealed : {D : Type 0} (stands turns probes faults : D → ℕ) (s t : OpenHub D) (grip : Gripped D Done) (m : ℕ) (result : Result Made (Gripped D Done × Stranger)) → IsGiven s grip m result t → HubIsKept stands turns probes faults t → StaysSealed (read_of (configuration_of s)) (read_of (configuration_of t))
-given_sealed stands turns probes faults s t grip m (Ok made) is kept = back_sealed _ (state_of s) (state_of t) (at_moment (configuration_of s) m) (carried_by grip) grip.stage.told _ is.0.0 is.0.1 (formed_hub stands turns probes faults t kept)
+given_sealed stands turns probes faults s t grip m (Ok made) is kept = back_sealed _ (hub_state_of s) (hub_state_of t) (at_moment (configuration_of s) m) (carried_by grip) grip.stage.told _ is.0.0 is.0.1 (formed_hub stands turns probes faults t kept)
 given_sealed stands turns probes faults s t grip m (Err refused) is kept = same_hub s t is.2
 
 pub probe_given_sealed : {D : Type 0} (stands turns probes faults : D → ℕ) (s t : OpenHub D) (grip : Gripped D Done) (result : Result Made (Gripped D Done × Stranger)) → IsProbeGiven s grip result t → HubIsKept stands turns probes faults t → StaysSealed (read_of (configuration_of s)) (read_of (configuration_of t))
-probe_given_sealed stands turns probes faults s t grip (Ok made) is kept = back_sealed _ (state_of s) (state_of t) (configuration_of s) (carried_by grip) grip.stage.told _ is.0.0 is.0.1 (formed_hub stands turns probes faults t kept)
+probe_given_sealed stands turns probes faults s t grip (Ok made) is kept = back_sealed _ (hub_state_of s) (hub_state_of t) (configuration_of s) (carried_by grip) grip.stage.told _ is.0.0 is.0.1 (formed_hub stands turns probes faults t kept)
 probe_given_sealed stands turns probes faults s t grip (Err refused) is kept = same_hub s t is.2
 
 -- A probe goes out
@@ -232,7 +232,7 @@ probe_out_sealed s t d is = by_test (may_probe s d) is
     by_test false same = none_sealed s t (ap (λ (x : Configuration). x.setting) same) (ap (λ (x : Configuration). x.history) same)
 
 pub probed_sealed : {D : Type 0} (s t : OpenHub D) (d : ℕ) (probe : Option (Gripped D Ready)) → IsProbed s d probe t → StaysSealed (read_of (configuration_of s)) (read_of (configuration_of t))
-probed_sealed s t d (Some grip) is = probe_out_sealed (configuration_of s) (configuration_of t) d (took_probe (state_of s) (state_of t) d grip.slip grip.task is.0).1
+probed_sealed s t d (Some grip) is = probe_out_sealed (configuration_of s) (configuration_of t) d (took_probe (hub_state_of s) (hub_state_of t) d grip.slip grip.task is.0).1
 probed_sealed s t d None is = same_hub s t is.1
 
 -- A window that is closed

@@ -32,11 +32,11 @@ use Rattle.hub_core.specs.Bounds.{most_entries}
 use Rattle.hub_core.specs.Homes.{CountsAreLow}
 use Rattle.hub_core.specs.HubCalls.{IsGiven, IsPacked, IsProbeGiven, SameWindow, carried_by}
 use Rattle.hub_core.specs.HubKept.{is_of_run}
-use Rattle.hub_core.specs.HubSteps.{Carried, Gave, Given, HubState, Returned, give, give_if, give_probe, task_of}
+use Rattle.hub_core.specs.HubSteps.{Carried, Gave, HubState, Returned, RunGiven, give, give_if, give_probe, task_of}
 use Rattle.hub_core.specs.HubsKept.{FitsAtHome, HandsAre, HasRoomLeft, HubIsKept, IsWhole, all_probes_taken, is_away, open_of}
 use Rattle.hub_core.specs.KeptByModel.{IsKeptByModel}
 use Rattle.hub_core.specs.KeptOrders.{OrderIsBeside}
-use Rattle.hub_core.specs.OpenHubs.{OpenHub, configuration_of, device_at, events_in, grip_in, held_in, state_of}
+use Rattle.hub_core.specs.OpenHubs.{OpenHub, configuration_of, events_in, grip_in, held_in, hub_state_of, progress_at}
 use Rattle.window_order.specs.KeptOrders.{purpose_of}
 use Rattle.hub_core.specs.ReadHistories.{HistoryState, read_in, with_more}
 use Rattle.hub_core.specs.Steps.{after_give, at_moment, give_entries, with_entries, with_grip}
@@ -60,7 +60,7 @@ back s grip entries t =
     record s {
       history = s.history ++ kept_by grip.slip.maker entries;
       moment = t;
-      devices = slice_set s.devices grip.slip.device.0 (known_after grip.task grip.stage.told (device_at s.devices grip.slip.device.0));
+      devices = slice_set s.devices grip.slip.device.0 (known_after grip.task grip.stage.told (progress_at s.devices grip.slip.device.0));
       places = slice_set s.places grip.slip.device.0 (Home grip.device);
       tickets = s.tickets;
     }
@@ -76,13 +76,13 @@ held_back s grip = held_after grip.stage.told grip.task (held_in s grip.slip.dev
 back_configuration : {D : Type 0} (s : OpenHub D) (grip : Gripped D Done) (entries : List Entry) (t : ℕ) → grip.slip.device.0 < length s.places → grip.slip.device.0 < length s.devices → configuration_of (back s grip entries t) ≡ after_back s grip.slip entries t
 back_configuration s grip entries t within known =
     let d = grip.slip.device.0 in
-    let known_now = known_after grip.task grip.stage.told (device_at s.devices d) in
-    let probes : ◌≡◌ {A = ℕ → ℕ} (λ e. (device_at (slice_set s.devices d known_now) e).probes_left) (λ e. (device_at s.devices e).probes_left) = λ i e. known_same (λ (p : DeviceProgress). p.probes_left) s.devices d known_now known refl e i in
-    let grips : ◌≡◌ {A = ℕ → Option Grip} (λ e. grip_in (slice_get (slice_set s.places d (Home grip.device)) e) (device_at (slice_set s.devices d known_now) e).purpose) (put (configuration_of s).grips d None) = grips_set s.places s.devices d (Home grip.device) known_now within known in
+    let known_now = known_after grip.task grip.stage.told (progress_at s.devices d) in
+    let probes : ◌≡◌ {A = ℕ → ℕ} (λ e. (progress_at (slice_set s.devices d known_now) e).probes_left) (λ e. (progress_at s.devices e).probes_left) = λ i e. known_same (λ (p : DeviceProgress). p.probes_left) s.devices d known_now known refl e i in
+    let grips : ◌≡◌ {A = ℕ → Option Grip} (λ e. grip_in (slice_get (slice_set s.places d (Home grip.device)) e) (progress_at (slice_set s.devices d known_now) e).purpose) (put (configuration_of s).grips d None) = grips_set s.places s.devices d (Home grip.device) known_now within known in
     λ i. record { setting = s.setting; history = s.history ++ kept_by grip.slip.maker entries; moment = t; probes = probes i; grips = grips i }
 
 back_state : {D : Type 0} (s : OpenHub D) (grip : Gripped D Done) (entries : List Entry) (t : ℕ) → grip.slip.device.0 < length s.places → grip.slip.device.0 < length s.devices
-    → state_of (back s grip entries t) ≡ record { configuration = after_back s grip.slip entries t; carried = put (state_of s).carried grip.slip.device.0 None }
+    → hub_state_of (back s grip entries t) ≡ record { configuration = after_back s grip.slip entries t; carried = put (hub_state_of s).carried grip.slip.device.0 None }
 back_state s grip entries t within known =
     let configuration = back_configuration s grip entries t within known in
     let carried = carried_set s.places grip.slip.device.0 (Home grip.device) within in
@@ -114,7 +114,7 @@ pub record ComesBack {D : Type 0} (stands turns probes faults : D → ℕ) (s : 
   pub probes_rose : probes grip.device ≡ grip.slip.probes + probed grip.task
   pub falls_told : told_falls (entries_of (after_back s grip.slip entries t).history) grip.slip.device.0 + grip.slip.faults ≤ faults grip.device + told_falls (entries_of s.history) grip.slip.device.0
   pub few_faults : faults grip.device + told_falls (entries_of s.history) grip.slip.device.0 ≤ grip.slip.faults + probed grip.task + told_falls (entries_of (after_back s grip.slip entries t).history) grip.slip.device.0
-  pub counted : events_after grip.task grip.stage.told (device_at s.devices grip.slip.device.0).events ≡ events_in (read_of (after_back s grip.slip entries t)) grip.slip.device.0
+  pub counted : events_after grip.task grip.stage.told (progress_at s.devices grip.slip.device.0).events ≡ events_in (read_of (after_back s grip.slip entries t)) grip.slip.device.0
   pub calls_other : (e : ℕ) → e ≢ grip.slip.device.0 → told_calls s.setting.runs (entries_of (after_back s grip.slip entries t).history) e ≡ told_calls s.setting.runs (entries_of s.history) e
   pub falls_other : (e : ℕ) → e ≢ grip.slip.device.0 → told_falls (entries_of (after_back s grip.slip entries t).history) e ≡ told_falls (entries_of s.history) e
   pub events_other : (e : ℕ) → e ≢ grip.slip.device.0 → events_in (read_of (after_back s grip.slip entries t)) e ≡ events_in (read_of (configuration_of s)) e
@@ -145,7 +145,7 @@ back_kept {D = D} stands turns probes faults s grip entries t at known back' kep
         | inr q ↦ subst (λ x. IsTrue (has_value (kind_at s.setting.kinds e) x)) (sym (ap (λ (p : DeviceProgress). p.held) (device_there s.devices d e known_now q.0))) (kept.values e home)
       ];
       events = λ e below. elim (get_set s.places d e (Home grip.device) within) [
-        | inl p ↦ subst (λ x. (device_at after.devices x).events ≡ events_in (read_of (configuration_of after)) x) (sym p.0) (ap (λ (p : DeviceProgress). p.events) here ∙ back'.counted)
+        | inl p ↦ subst (λ x. (progress_at after.devices x).events ≡ events_in (read_of (configuration_of after)) x) (sym p.0) (ap (λ (p : DeviceProgress). p.events) here ∙ back'.counted)
         | inr q ↦ ap (λ (p : DeviceProgress). p.events) (device_there s.devices d e known_now q.0) ∙ kept.events e below ∙ sym (back'.events_other e q.0)
       ];
       few_tickets =
@@ -160,7 +160,7 @@ back_kept {D = D} stands turns probes faults s grip entries t at known back' kep
     d = grip.slip.device.0
 
     known_now : DeviceProgress
-    known_now = known_after grip.task grip.stage.told (device_at s.devices d)
+    known_now = known_after grip.task grip.stage.told (progress_at s.devices d)
 
     after : OpenHub D
     after = back s grip entries t
@@ -168,7 +168,7 @@ back_kept {D = D} stands turns probes faults s grip entries t at known back' kep
     within : d < length s.places
     within = slice_get_within s.places d (Out grip.slip grip.task) at
 
-    here : device_at (slice_set s.devices d known_now) d ≡ known_now
+    here : progress_at (slice_set s.devices d known_now) d ≡ known_now
     here = device_here s.devices d known_now known
 
     IsFitting : ℕ → Place D → Type 0
@@ -186,17 +186,17 @@ back_kept {D = D} stands turns probes faults s grip entries t at known back' kep
         record {
           stand = λ up. back'.stand up ∙ ap (λ (p : DeviceProgress). p.held) (sym here);
           turns_are =
-              let had : grip.slip.turns ≡ (device_at s.devices d).at_opening.turns + told_calls s.setting.runs (entries_of s.history) d = fits.turns_are in
-              let same : (device_at after.devices d).at_opening.turns ≡ (device_at s.devices d).at_opening.turns = ap (λ (p : DeviceProgress). p.at_opening.turns) here in
+              let had : grip.slip.turns ≡ (progress_at s.devices d).at_opening.turns + told_calls s.setting.runs (entries_of s.history) d = fits.turns_are in
+              let same : (progress_at after.devices d).at_opening.turns ≡ (progress_at s.devices d).at_opening.turns = ap (λ (p : DeviceProgress). p.at_opening.turns) here in
               let rose : turns grip.device + told_calls s.setting.runs (entries_of s.history) d ≡ grip.slip.turns + told_calls s.setting.runs (entries_of after.history) d = back'.turns_rose in
               omega (arith, rose, had, same);
           probes_are = back'.probes_rose ∙ fits.probes_are ∙ ap (λ (p : DeviceProgress). p.at_opening.probes + (s.rounds - p.probes_left)) (sym here);
           falls_told = subst (λ (p : DeviceProgress). p.at_opening.faults + told_falls (entries_of after.history) d ≤ faults grip.device) (sym here)
-              (let had : (device_at s.devices d).at_opening.faults + told_falls (entries_of s.history) d ≤ grip.slip.faults = fits.falls_told in
+              (let had : (progress_at s.devices d).at_opening.faults + told_falls (entries_of s.history) d ≤ grip.slip.faults = fits.falls_told in
               let rose : told_falls (entries_of after.history) d + grip.slip.faults ≤ faults grip.device + told_falls (entries_of s.history) d = back'.falls_told in
               omega (arith, had, rose));
           few_faults = subst (λ (p : DeviceProgress). faults grip.device ≤ p.at_opening.faults + told_falls (entries_of after.history) d + (s.rounds - p.probes_left)) (sym here)
-              (let had : grip.slip.faults + probed grip.task ≤ (device_at s.devices d).at_opening.faults + told_falls (entries_of s.history) d + (s.rounds - (device_at s.devices d).probes_left) = fits.few_faults in
+              (let had : grip.slip.faults + probed grip.task ≤ (progress_at s.devices d).at_opening.faults + told_falls (entries_of s.history) d + (s.rounds - (progress_at s.devices d).probes_left) = fits.few_faults in
               let rose : faults grip.device + told_falls (entries_of s.history) d ≤ grip.slip.faults + probed grip.task + told_falls (entries_of after.history) d = back'.few_faults in
               omega (arith, had, rose));
         }
@@ -206,8 +206,8 @@ back_kept {D = D} stands turns probes faults s grip entries t at known back' kep
 -- another device is not out for the same run
 other_maker : {D : Type 0} (stands turns probes faults : D → ℕ) (s : OpenHub D) (slip : Slip) (task : Task) (purpose : Purpose) (e : ℕ) (other : Slip) (does : Task) → HubIsKept stands turns probes faults s → IsFor s slip task purpose → is_of_run purpose ≡ true → e ≢ slip.device.0 → slice_get s.places e ≡ Some (Out other does) → other.maker ≢ slip.maker
 other_maker stands turns probes faults s slip task purpose e other does kept for of_run apart there same =
-    apart (kept.configuration.grips.runs.one e slip.device.0 (slip.maker - 1) (purpose_of (device_at s.devices e).purpose) purpose
-    (ap (λ o. grip_in o (device_at s.devices e).purpose) there ∙ ap (λ m. Some (record { maker = m; purpose = purpose_of (device_at s.devices e).purpose })) (same ∙ first))
+    apart (kept.configuration.grips.runs.one e slip.device.0 (slip.maker - 1) (purpose_of (progress_at s.devices e).purpose) purpose
+    (ap (λ o. grip_in o (progress_at s.devices e).purpose) there ∙ ap (λ m. Some (record { maker = m; purpose = purpose_of (progress_at s.devices e).purpose })) (same ∙ first))
     (for.grip ∙ ap (λ m. Some (record { maker = m; purpose = purpose })) first))
   where
     first : slip.maker ≡ suc (slip.maker - 1)
@@ -310,16 +310,16 @@ comes_back {D = D} stands turns probes faults s grip purpose t tag for called la
 -- what is known of the grip, and of its device
 pub record IsReturned {D : Type 0} (stands turns probes faults : D → ℕ) (h : Inside D) (why : KeptPurpose) (tag : ℕ) (grip : Gripped D Done) : Type 0 where
   pub there : IsKept h.away.gate.places grip.slip grip.task
-  pub purpose : (device_at h.away.known.items grip.slip.device.0).purpose ≡ why
+  pub purpose : (progress_at h.away.known.items grip.slip.device.0).purpose ≡ why
   pub called : WasCalled grip.stage.told grip.task grip.slip tag (stands grip.device) (turns grip.device) (probes grip.device) (faults grip.device)
 
 -- .. also where it is told of what the hub shows
-pub grip_back : {D : Type 0} {stands turns probes faults : D → ℕ} (h : Inside D) (s : OpenHub D) (why : KeptPurpose) (tag : ℕ) (grip : Gripped D Done) → open_of h ≡ s → IsKept s.places grip.slip grip.task → (device_at s.devices grip.slip.device.0).purpose ≡ why
+pub grip_back : {D : Type 0} {stands turns probes faults : D → ℕ} (h : Inside D) (s : OpenHub D) (why : KeptPurpose) (tag : ℕ) (grip : Gripped D Done) → open_of h ≡ s → IsKept s.places grip.slip grip.task → (progress_at s.devices grip.slip.device.0).purpose ≡ why
     → WasCalled grip.stage.told grip.task grip.slip tag (stands grip.device) (turns grip.device) (probes grip.device) (faults grip.device) → IsReturned stands turns probes faults h why tag grip
 grip_back {D = D} h s why tag grip seen there for called =
     record {
       there = ap (λ (x : OpenHub D). slice_get x.places grip.slip.device.0) seen ∙ there;
-      purpose = ap (λ (x : OpenHub D). (device_at x.devices grip.slip.device.0).purpose) seen ∙ for;
+      purpose = ap (λ (x : OpenHub D). (progress_at x.devices grip.slip.device.0).purpose) seen ∙ for;
       called = called;
     }
 
@@ -354,7 +354,7 @@ may_come {D = D} h s grip seen kept k =
     there = ap (λ (x : OpenHub D). slice_get x.places d) seen ∙ kept
 
     why : KeptPurpose
-    why = (device_at h.away.known.items d).purpose
+    why = (progress_at h.away.known.items d).purpose
 
     for : IsFor (open_of h) grip.slip grip.task (purpose_of why)
     for = out_for _ _ _ _ (open_of h) grip.slip grip.task why k.shown there refl
@@ -472,13 +472,13 @@ taken_in s c told grip result out = rw out refl
 
 -- what the hub answers, and what it shows then
 came_gives : {D : Type 0} {stands turns probes faults : D → ℕ} (h t : Inside D) (why : KeptPurpose) (tag : ℕ) (grip : Gripped D Done) (entries : List Entry) → CameHome stands turns probes faults h t why tag grip entries → IsWhole stands turns probes faults h
-    → give_if true (state_of (open_of h)) (record (configuration_of (open_of h)) { moment = t.moment }) (carried_by grip) grip.stage.told ≡ record { answer = Gave entries; next = state_of (open_of t) }
+    → give_if true (hub_state_of (open_of h)) (record (configuration_of (open_of h)) { moment = t.moment }) (carried_by grip) grip.stage.told ≡ record { answer = Gave entries; next = hub_state_of (open_of t) }
 came_gives {D = D} h t why tag grip entries came k =
     let s = open_of h in
     let within = came_within h t why tag grip entries came k in
-    taken_in (state_of s) (record (configuration_of s) { moment = t.moment }) (carried_by grip) (record { maker = grip.slip.maker; purpose = purpose_of why }) grip.stage.told (returned_for h why tag grip came.returned k).grip
-    ∙ (λ i. record { answer = Gave (came.gives i); next = record { configuration = after_back s grip.slip (came.gives i) t.moment; carried = put (state_of s).carried grip.slip.device.0 None } })
-    ∙ ap (λ x. record { answer = Gave entries; next = x }) (sym (ap (λ (x : OpenHub D). state_of x) (came_shows h t why tag grip entries came) ∙ back_state s grip entries t.moment within.0 within.1))
+    taken_in (hub_state_of s) (record (configuration_of s) { moment = t.moment }) (carried_by grip) (record { maker = grip.slip.maker; purpose = purpose_of why }) grip.stage.told (returned_for h why tag grip came.returned k).grip
+    ∙ (λ i. record { answer = Gave (came.gives i); next = record { configuration = after_back s grip.slip (came.gives i) t.moment; carried = put (hub_state_of s).carried grip.slip.device.0 None } })
+    ∙ ap (λ x. record { answer = Gave entries; next = x }) (sym (ap (λ (x : OpenHub D). hub_state_of x) (came_shows h t why tag grip entries came) ∙ back_state s grip entries t.moment within.0 within.1))
 
 -- in the same window
 came_window : {D : Type 0} {stands turns probes faults : D → ℕ} (h t : Inside D) (why : KeptPurpose) (tag : ℕ) (grip : Gripped D Done) (entries : List Entry) → CameHome stands turns probes faults h t why tag grip entries → IsWhole stands turns probes faults h → SameWindow (open_of h) (open_of t)
@@ -487,7 +487,7 @@ came_window {D = D} h t why tag grip entries came k =
       setting = refl;
       rounds = refl;
       opened = refl;
-      at_opening = known_same (λ (p : DeviceProgress). p.at_opening) h.away.known.items grip.slip.device.0 (known_after grip.task grip.stage.told (device_at h.away.known.items grip.slip.device.0)) (came_within h t why tag grip entries came k).1 refl;
+      at_opening = known_same (λ (p : DeviceProgress). p.at_opening) h.away.known.items grip.slip.device.0 (known_after grip.task grip.stage.told (progress_at h.away.known.items grip.slip.device.0)) (came_within h t why tag grip entries came k).1 refl;
     })
 
 -- the grip of a run is given
@@ -500,7 +500,7 @@ pub back_given : {D : Type 0} {stands turns probes faults : D → ℕ} (h t : In
 back_given {D = D} h t s₀ m why tag grip entries made seen maker moment_is came made_is packed k =
     subst (λ (x : OpenHub D). CameBack x (open_of t) grip m made) seen (record {
       given = (
-        (ap (λ x. Returned (Gave x)) made_is ∙ ap (λ (x : Given). Returned x.answer) (sym gives), ap (λ (x : Given). x.next) (sym gives)),
+        (ap (λ x. Returned (Gave x)) made_is ∙ ap (λ (x : RunGiven). Returned x.answer) (sym gives), ap (λ (x : RunGiven). x.next) (sym gives)),
         came.parts.home.places,
         came.parts.home.tickets,
         packed,
@@ -511,11 +511,11 @@ back_given {D = D} h t s₀ m why tag grip entries made seen maker moment_is cam
     s : OpenHub D
     s = open_of h
 
-    gives : give (state_of s) (carried_by grip) grip.stage.told m ≡ record { answer = Gave entries; next = state_of (open_of t) }
+    gives : give (hub_state_of s) (carried_by grip) grip.stage.told m ≡ record { answer = Gave entries; next = hub_state_of (open_of t) }
     gives =
-        ap (λ b. give_if (b && nat_lt 0 grip.slip.maker) (state_of s) (at_moment (configuration_of s) m) (carried_by grip) grip.stage.told) (kept_is s grip.slip grip.task came.returned.there)
-        ∙ ap (λ b. give_if (true && b) (state_of s) (at_moment (configuration_of s) m) (carried_by grip) grip.stage.told) (lt-ltb 0 grip.slip.maker maker)
-        ∙ ap (λ x. give_if true (state_of s) (record (configuration_of s) { moment = x }) (carried_by grip) grip.stage.told) (sym moment_is)
+        ap (λ b. give_if (b && nat_lt 0 grip.slip.maker) (hub_state_of s) (at_moment (configuration_of s) m) (carried_by grip) grip.stage.told) (kept_is s grip.slip grip.task came.returned.there)
+        ∙ ap (λ b. give_if (true && b) (hub_state_of s) (at_moment (configuration_of s) m) (carried_by grip) grip.stage.told) (lt-ltb 0 grip.slip.maker maker)
+        ∙ ap (λ x. give_if true (hub_state_of s) (record (configuration_of s) { moment = x }) (carried_by grip) grip.stage.told) (sym moment_is)
         ∙ came_gives h t why tag grip entries came k
 
 -- the grip of the detector is given
@@ -528,7 +528,7 @@ pub probe_given : {D : Type 0} {stands turns probes faults : D → ℕ} (h t : I
 probe_given {D = D} h t s₀ why tag grip entries made seen maker moment_is came made_is packed k =
     subst (λ (x : OpenHub D). ProbeBack x (open_of t) grip made) seen (record {
       given = (
-        (ap (λ x. Returned (Gave x)) made_is ∙ ap (λ (x : Given). Returned x.answer) (sym gives), ap (λ (x : Given). x.next) (sym gives)),
+        (ap (λ x. Returned (Gave x)) made_is ∙ ap (λ (x : RunGiven). Returned x.answer) (sym gives), ap (λ (x : RunGiven). x.next) (sym gives)),
         came.parts.home.places,
         came.parts.home.tickets,
         packed,
@@ -539,9 +539,9 @@ probe_given {D = D} h t s₀ why tag grip entries made seen maker moment_is came
     s : OpenHub D
     s = open_of h
 
-    gives : give_probe (state_of s) (carried_by grip) grip.stage.told ≡ record { answer = Gave entries; next = state_of (open_of t) }
+    gives : give_probe (hub_state_of s) (carried_by grip) grip.stage.told ≡ record { answer = Gave entries; next = hub_state_of (open_of t) }
     gives =
-        ap (λ b. give_if (b && (grip.slip.maker == 0)) (state_of s) (configuration_of s) (carried_by grip) grip.stage.told) (kept_is s grip.slip grip.task came.returned.there)
-        ∙ ap (λ b. give_if (true && b) (state_of s) (configuration_of s) (carried_by grip) grip.stage.told) (eq-eqb grip.slip.maker 0 maker)
-        ∙ ap (λ x. give_if true (state_of s) (record (configuration_of s) { moment = x }) (carried_by grip) grip.stage.told) (sym moment_is)
+        ap (λ b. give_if (b && (grip.slip.maker == 0)) (hub_state_of s) (configuration_of s) (carried_by grip) grip.stage.told) (kept_is s grip.slip grip.task came.returned.there)
+        ∙ ap (λ b. give_if (true && b) (hub_state_of s) (configuration_of s) (carried_by grip) grip.stage.told) (eq-eqb grip.slip.maker 0 maker)
+        ∙ ap (λ x. give_if true (hub_state_of s) (record (configuration_of s) { moment = x }) (carried_by grip) grip.stage.told) (sym moment_is)
         ∙ came_gives h t why tag grip entries came k

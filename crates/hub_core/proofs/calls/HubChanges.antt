@@ -27,7 +27,7 @@ use Rattle.hub_core.specs.KeptByModel.{IsKeptByModel}
 use Rattle.hub_core.specs.HubSteps.{Chose, HubStep, SlipFits, Take, carried_after, task_of}
 use Rattle.hub_core.specs.HubsKept.{HasRoomLeft, HubIsKept, IsWhole, all_probes_taken, is_away, open_of}
 use Rattle.hub_core.specs.KeptOrders.{OrderIsBeside}
-use Rattle.hub_core.specs.OpenHubs.{OpenHub, configuration_of, device_at, events_in, held_in, state_of}
+use Rattle.hub_core.specs.OpenHubs.{OpenHub, configuration_of, events_in, held_in, hub_state_of, progress_at}
 use Rattle.window_order.specs.KeptOrders.{purpose_of}
 use Rattle.hub_core.specs.ReadHistories.{HistoryState, with_doom, with_entry, with_more}
 use Rattle.hub_core.specs.Steps.{Choice, Moves, Over, after_choice, after_take, at_moment, choice_of}
@@ -72,7 +72,7 @@ still_kept stands turns probes faults s x m now told falls rises counted registe
       places_size = k.places_size;
       home = λ d device at. let fits = k.home d device at in record {
         stand = λ up. fits.stand (sym (counted d) ∙ up);
-        turns_are = fits.turns_are ∙ ap (λ n. (device_at s.devices d).at_opening.turns + n) (sym (told d));
+        turns_are = fits.turns_are ∙ ap (λ n. (progress_at s.devices d).at_opening.turns + n) (sym (told d));
         probes_are = fits.probes_are;
         falls_told = omega (arith, fits.falls_told, falls d);
         few_faults = omega (arith, fits.few_faults, falls d);
@@ -80,11 +80,11 @@ still_kept stands turns probes faults s x m now told falls rises counted registe
       out = λ d slip task at. let fits = k.out d slip task at in record {
         device = fits.device;
         stand = fits.stand;
-        turns_are = fits.turns_are ∙ ap (λ n. (device_at s.devices d).at_opening.turns + n) (sym (told d));
+        turns_are = fits.turns_are ∙ ap (λ n. (progress_at s.devices d).at_opening.turns + n) (sym (told d));
         probes_are = fits.probes_are;
         falls_told = omega (arith, fits.falls_told, falls d);
         few_faults = omega (arith, fits.few_faults, falls d);
-        does = fits.does ∙ task_same (configuration_of s) (configuration_of (record s { history = x; moment = m })) slip.maker (purpose_of (device_at s.devices d).purpose) refl (sym (registers slip.maker));
+        does = fits.does ∙ task_same (configuration_of s) (configuration_of (record s { history = x; moment = m })) slip.maker (purpose_of (progress_at s.devices d).purpose) refl (sym (registers slip.maker));
       };
       low = k.low;
       values = k.values;
@@ -216,11 +216,11 @@ answered_more h r k a (Some c) =
 
 -- the step says so of the hub, whatever slip
 pub step_is : {D : Type 0} (s t : OpenHub D) (r m : ℕ) (c : Choice) (slip : Slip) → choice_of (configuration_of s) r m ≡ c
-    → state_of t ≡ record { configuration = after_choice (at_moment (configuration_of s) m) r c; carried = carried_after (state_of s) r c slip } → SlipFits r c slip
-    → HubStep (state_of s) (Take r m slip) (Chose c) (state_of t)
+    → hub_state_of t ≡ record { configuration = after_choice (at_moment (configuration_of s) m) r c; carried = carried_after (hub_state_of s) r c slip } → SlipFits r c slip
+    → HubStep (hub_state_of s) (Take r m slip) (Chose c) (hub_state_of t)
 step_is s t r m c slip is next fits = (
   ap (λ x. Chose x) (sym is),
-  next ∙ ap (λ x. record { configuration = after_choice (at_moment (configuration_of s) m) r x; carried = carried_after (state_of s) r x slip }) (sym is),
+  next ∙ ap (λ x. record { configuration = after_choice (at_moment (configuration_of s) m) r x; carried = carried_after (hub_state_of s) r x slip }) (sym is),
   subst (λ x. SlipFits r x slip) (sym is) fits,
 )
 

@@ -30,9 +30,9 @@ use Rattle.legal_days.specs.AccountedCalls.{CallsAreAccounted, tells_call, told_
 use Rattle.legal_days.specs.Agreement.{UpDevicesStand}
 use Rattle.hub_core.specs.ClosedHomes.{HaveRisen, NoneFell, all_known_left, known_left, stand_left}
 use Rattle.hub_core.specs.Homes.{CountsAreLow, HomeIsKept}
-use Rattle.hub_core.specs.HubCalls.{IsClosed, NoneFails, probes_taken}
+use Rattle.hub_core.specs.HubCalls.{NoneFails, WindowIsClosed, probes_taken}
 use Rattle.hub_core.specs.HubsKept.{FitsAtHome, HubIsKept, IsEmptyFor, IsWhole, open_of}
-use Rattle.hub_core.specs.OpenHubs.{OpenHub, configuration_of, device_at, grip_in, held_in}
+use Rattle.hub_core.specs.OpenHubs.{OpenHub, configuration_of, grip_in, held_in, progress_at}
 use Rattle.legal_days.specs.LegalWindows.{IsLegalWindow}
 use Rattle.hub_core.specs.Steps.{not_quiet}
 use Rattle.hub_core.specs.declared.open_windows.OpenWindow.TheInside.{Inside}
@@ -53,12 +53,12 @@ home_when_quiet s rounds opened held d kept quiet = by_model (s.grips d ≡ None
 pub all_are_home : {D : Type 0} (stands turns probes faults : D → ℕ) (s : OpenHub D) → HubIsKept stands turns probes faults s → not_quiet (configuration_of s) ≡ None → AllHome s.places
 all_are_home {D = D} stands turns probes faults s kept quiet d lt = by (at_place s.places d lt)
   where
-    away : grip_in (slice_get s.places d) (device_at s.devices d).purpose ≡ None
+    away : grip_in (slice_get s.places d) (progress_at s.devices d).purpose ≡ None
     away = home_when_quiet (configuration_of s) s.rounds s.opened (held_in s) d kept.configuration (quiet_is (configuration_of s) quiet)
 
     by : (x : Place D) × (slice_get s.places d ≡ Some x) → (device : D) × (slice_get s.places d ≡ Some (Home device))
     by (Home device, at) = (device, at)
-    by (Out slip task, at) = absurd (let gone = ap (λ p. grip_in p (device_at s.devices d).purpose) at in cc (sym gone ∙ away))
+    by (Out slip task, at) = absurd (let gone = ap (λ p. grip_in p (progress_at s.devices d).purpose) at in cc (sym gone ∙ away))
 
 -- the stand of a device in a list with one more, before the last place and there
 stand_before : (xs : List Stand) (x : Stand) (d : ℕ) → d < length xs → stand_at (xs ++ x ∷ []) d ≡ stand_at xs d
@@ -173,9 +173,9 @@ home_left {D = D} tag stands turns probes faults s devices kinds world c kinds_a
 
     counts : (d : ℕ) (device : D) → FitsAtHome stands turns probes faults s d device → CountsAreLow (s.opened + 1) (turns device) (probes device) (faults device)
     counts d device fits = record {
-      few_turns = still_low s.opened (turns device) (device_at s.devices d).at_opening.turns (told_calls s.setting.runs (entries_of s.history) d) (c.kept.low d).few_turns (omega (arith, fits.turns_are)) (let few = few_calls stands turns probes faults s (tells_call s.setting.runs d) c.kept in omega (arith, few));
-      few_probes = still_low s.opened (probes device) (device_at s.devices d).at_opening.probes (probes_taken s d) (c.kept.low d).few_probes (omega (arith, fits.probes_are)) (let few = c.kept.configuration.opens.few_rounds in omega (arith, few));
-      few_faults = still_low s.opened (faults device) (device_at s.devices d).at_opening.faults (told_falls (entries_of s.history) d + probes_taken s d) (c.kept.low d).few_faults (omega (arith, fits.few_faults))
+      few_turns = still_low s.opened (turns device) (progress_at s.devices d).at_opening.turns (told_calls s.setting.runs (entries_of s.history) d) (c.kept.low d).few_turns (omega (arith, fits.turns_are)) (let few = few_calls stands turns probes faults s (tells_call s.setting.runs d) c.kept in omega (arith, few));
+      few_probes = still_low s.opened (probes device) (progress_at s.devices d).at_opening.probes (probes_taken s d) (c.kept.low d).few_probes (omega (arith, fits.probes_are)) (let few = c.kept.configuration.opens.few_rounds in omega (arith, few));
+      few_faults = still_low s.opened (faults device) (progress_at s.devices d).at_opening.faults (told_falls (entries_of s.history) d + probes_taken s d) (c.kept.low d).few_faults (omega (arith, fits.few_faults))
           (let few = c.kept.configuration.opens.few_rounds in let falls = few_calls stands turns probes faults s (is_fall_of d) c.kept in omega (arith, few, falls));
     }
 
@@ -216,7 +216,7 @@ accounted {D = D} tag stands turns probes faults s devices closed c tells =
 -- the window was closed with this record
 pub window_closed : {D : Type 0} (tag stands turns probes faults : D → ℕ) (s : OpenHub D) (devices : List D) (kinds : List Kind) (world : List Stand) (closed : WindowRecord) → Closes tag stands turns probes faults s devices → Tells turns faults s devices closed
     → kinds ≡ s.setting.kinds → world ≡ closed.last.devices.items
-    → IsClosed turns probes faults s (record { kinds = kinds; world = world; devices = devices; opened = s.opened + 1 }) closed
+    → WindowIsClosed turns probes faults s (record { kinds = kinds; world = world; devices = devices; opened = s.opened + 1 }) closed
 window_closed {D = D} tag stands turns probes faults s devices kinds world closed c tells kinds_are world_is =
     record {
       legal = legal;

@@ -23,7 +23,7 @@ use Rattle.hub_core.proofs.steps.Takes.{live_run}
 use Rattle.hub_core.specs.Bounds.{IsBounded}
 use Rattle.hub_core.specs.HubCalls.{HubStands, SomeRunMoves}
 use Rattle.hub_core.specs.HubsKept.{HubIsKept}
-use Rattle.hub_core.specs.OpenHubs.{OpenHub, configuration_of, device_at, grip_in, held_in}
+use Rattle.hub_core.specs.OpenHubs.{OpenHub, configuration_of, grip_in, held_in, progress_at}
 use Rattle.window_order.specs.KeptOrders.{purpose_of}
 use Rattle.hub_core.specs.Steps.{Waits, not_quiet, opened}
 use Rattle.hub_core.specs.declared.known.DeviceProgress.{DeviceProgress}
@@ -80,7 +80,7 @@ stands_hub {D = D} tag stands turns probes faults s numbered k =
       justified = c.history.justified;
       moment = c.history.moment;
       stand = λ d device at up. (k.home d device at).stand up
-          ∙ stands_at_home (configuration_of s) s.rounds s.opened (held_in s) d c (device_has s d (Home device) k.places_size at) (ap (λ o. grip_in o (device_at s.devices d).purpose) at) up;
+          ∙ stands_at_home (configuration_of s) s.rounds s.opened (held_in s) d c (device_has s d (Home device) k.places_size at) (ap (λ o. grip_in o (progress_at s.devices d).purpose) at) up;
       told = record {
         turns_rose = λ d device at. (k.home d device at).turns_are;
         probes_rose = λ d device at. (k.home d device at).probes_are;
@@ -105,7 +105,7 @@ pub first_out_is : {D : Type 0} (s : OpenHub D) (o : Option DeviceNo) → length
 first_out_is {D = D} s None size some none = sym (find_none (is_out (configuration_of s).grips) 0 (length s.setting.first) (λ y low high. home y (none y (omega (arith, high, size)))))
   where
     home : (y : ℕ) → (device : D) × (slice_get s.places y ≡ Some (Home device)) → is_out (configuration_of s).grips y ≡ false
-    home y at = ap (λ o. is_some (grip_in o (device_at s.devices y).purpose)) at.1
+    home y at = ap (λ o. is_some (grip_in o (progress_at s.devices y).purpose)) at.1
 first_out_is {D = D} s (Some d) size some none =
     sym (find_first (is_out (configuration_of s).grips) 0 (length s.setting.first) d.0 (omega arith) (within some.0) (away some.0) (λ y before. home y (some.1 y before)))
   where
@@ -113,10 +113,10 @@ first_out_is {D = D} s (Some d) size some none =
     within at = omega (arith, slice_get_within s.places d.0 (Out at.0 at.1) at.2, size)
 
     away : (slip : Slip) × (task : Task) × (slice_get s.places d.0 ≡ Some (Out slip task)) → is_out (configuration_of s).grips d.0 ≡ true
-    away at = ap (λ o. is_some (grip_in o (device_at s.devices d.0).purpose)) at.2
+    away at = ap (λ o. is_some (grip_in o (progress_at s.devices d.0).purpose)) at.2
 
     home : (y : ℕ) → (device : D) × (slice_get s.places y ≡ Some (Home device)) → is_out (configuration_of s).grips y ≡ false
-    home y at = ap (λ o. is_some (grip_in o (device_at s.devices y).purpose)) at.1
+    home y at = ap (λ o. is_some (grip_in o (progress_at s.devices y).purpose)) at.1
 
 -- .. as the code finds it
 pub quiet_hub : {D : Type 0} (stands turns probes faults : D → ℕ) (s t : OpenHub D) (o : Option DeviceNo) → s ≡ t → HubIsKept stands turns probes faults s
@@ -129,7 +129,7 @@ quiet_hub {D = D} stands turns probes faults s t o same k ended some none =
 
 -- no probe of a device was taken
 abbrev pub AllProbesLeft : {D : Type 0} → OpenHub D → Type 0
-AllProbesLeft s = (d : ℕ) → d < length s.devices → (device_at s.devices d).probes_left ≡ s.rounds
+AllProbesLeft s = (d : ℕ) → d < length s.devices → (progress_at s.devices d).probes_left ≡ s.rounds
 
 no_length : {A : Type 0} (xs : List A) → length xs ≡ 0 → xs ≡ []
 no_length [] e = refl
@@ -140,30 +140,30 @@ fresh_is {D = D} stands turns probes faults s k none start home left =
     let empty : s.history ≡ [] = no_length s.history none in
     λ i. record { setting = s.setting; history = empty i; moment = start i; probes = λ d. untaken d i; grips = λ d. unheld d i }
   where
-    untaken : (d : ℕ) → (device_at s.devices d).probes_left ≡ (if is_device s.setting d then s.rounds else 0)
+    untaken : (d : ℕ) → (progress_at s.devices d).probes_left ≡ (if is_device s.setting d then s.rounds else 0)
     untaken d = by_place' (nat_lt d (length s.setting.first)) refl
       where
-        none_beyond : (devices : List DeviceProgress) (e : ℕ) → length devices ≤ e → (device_at devices e).probes_left ≡ 0
+        none_beyond : (devices : List DeviceProgress) (e : ℕ) → length devices ≤ e → (progress_at devices e).probes_left ≡ 0
         none_beyond [] e past = refl
         none_beyond (x ∷ devices) zero past = absurd (omega (arith, past))
         none_beyond (x ∷ devices) (suc e) past = none_beyond devices e (omega (arith, past))
 
-        by_place' : (b : Bool) → nat_lt d (length s.setting.first) ≡ b → (device_at s.devices d).probes_left ≡ (if b then s.rounds else 0)
+        by_place' : (b : Bool) → nat_lt d (length s.setting.first) ≡ b → (progress_at s.devices d).probes_left ≡ (if b then s.rounds else 0)
         by_place' true within = left d (let lt : d < length s.setting.first = grind (arith, common_steps) in omega (arith, lt, k.devices_size))
         by_place' false beyond = none_beyond s.devices d (let past : length s.setting.first ≤ d = grind (arith, common_steps) in omega (arith, past, k.devices_size))
 
-    by_place : (d : ℕ) (o : Option (Place D)) → slice_get s.places d ≡ o → grip_in o (device_at s.devices d).purpose ≡ None
+    by_place : (d : ℕ) (o : Option (Place D)) → slice_get s.places d ≡ o → grip_in o (progress_at s.devices d).purpose ≡ None
     by_place d None at = refl
     by_place d (Some (Home device)) at = refl
     by_place d (Some (Out slip task)) at = absurd (let here = home d (slice_get_within s.places d (Out slip task) at) in let both : Some (Out slip task) ≡ Some (Home here.0) = sym at ∙ here.1 in cc)
 
-    unheld : (d : ℕ) → grip_in (slice_get s.places d) (device_at s.devices d).purpose ≡ None
+    unheld : (d : ℕ) → grip_in (slice_get s.places d) (progress_at s.devices d).purpose ≡ None
     unheld d = by_place d (slice_get s.places d) refl
 
 -- what such a hub shows
 fresh_home : {D : Type 0} (s : OpenHub D) (d : ℕ) → configuration_of s ≡ opened s.setting s.rounds → IsFirstOut s.places d → ⊥
 fresh_home s d same out =
-    let away : is_out (configuration_of s).grips d ≡ true = ap (λ p. is_some (grip_in p (device_at s.devices d).purpose)) out.0.2 in
+    let away : is_out (configuration_of s).grips d ≡ true = ap (λ p. is_some (grip_in p (progress_at s.devices d).purpose)) out.0.2 in
     let home : is_out (configuration_of s).grips d ≡ false = ap (λ c. is_out c.grips d) same in
     let both : true ≡ false = sym away ∙ home in absurd (cc)
 
@@ -196,17 +196,17 @@ fresh_hub {D = D} stands turns probes faults s t o b same k none start home away
 -- What a hub tells
 
 -- the grip of a device that is out
-pub grip_by_slip : {D : Type 0} (s : OpenHub D) (d : ℕ) (slip : Slip) → Some slip ≡ slip_of (slice_get s.places d) → (configuration_of s).grips d ≡ Some (record { maker = slip.maker; purpose = purpose_of (device_at s.devices d).purpose })
+pub grip_by_slip : {D : Type 0} (s : OpenHub D) (d : ℕ) (slip : Slip) → Some slip ≡ slip_of (slice_get s.places d) → (configuration_of s).grips d ≡ Some (record { maker = slip.maker; purpose = purpose_of (progress_at s.devices d).purpose })
 grip_by_slip {D = D} s d slip some = by_place (slice_get s.places d) some
   where
-    by_place : (o : Option (Place D)) → Some slip ≡ slip_of o → grip_in o (device_at s.devices d).purpose ≡ Some (record { maker = slip.maker; purpose = purpose_of (device_at s.devices d).purpose })
+    by_place : (o : Option (Place D)) → Some slip ≡ slip_of o → grip_in o (progress_at s.devices d).purpose ≡ Some (record { maker = slip.maker; purpose = purpose_of (progress_at s.devices d).purpose })
     by_place None e = absurd (cc)
     by_place (Some (Home device)) e = absurd (cc)
-    by_place (Some (Out other task)) e = ap (λ (x : Slip). Some (record { maker = x.maker; purpose = purpose_of (device_at s.devices d).purpose })) (sym (same_Some slip other e))
+    by_place (Some (Out other task)) e = ap (λ (x : Slip). Some (record { maker = x.maker; purpose = purpose_of (progress_at s.devices d).purpose })) (sym (same_Some slip other e))
 
 -- the run of a command that is out, and its number
 pub command_out : {D : Type 0} (stands turns probes faults : D → ℕ) (s : OpenHub D) (d : ℕ) (slip : Slip) (k : ℕ) → HubIsKept stands turns probes faults s → Some slip ≡ slip_of (slice_get s.places d)
-    → (device_at s.devices d).purpose ≡ Command k → IsTrue (is_run s.setting.runs slip.maker) × (k < length (commands_of s.setting.runs slip.maker))
+    → (progress_at s.devices d).purpose ≡ Command k → IsTrue (is_run s.setting.runs slip.maker) × (k < length (commands_of s.setting.runs slip.maker))
 command_out {D = D} stands turns probes faults s d slip k kept some purpose =
     let n = read_of (configuration_of s) in
     let grip : (configuration_of s).grips d ≡ Some (record { maker = slip.maker; purpose = Commands k }) = grip_by_slip s d slip some ∙ ap (λ (q : KeptPurpose). Some (record { maker = slip.maker; purpose = purpose_of q })) purpose in

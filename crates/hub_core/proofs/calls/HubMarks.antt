@@ -20,11 +20,11 @@ use Rattle.hub_core.proofs.steps.HubAnswers.{gave_back, gave_probe_back, took_af
 use Rattle.hub_core.proofs.waiting.BlockedSteps.{IsKept, back, goes, left_stay, may_mark, moved, probed, reached, waits}
 use Rattle.hub_core.specs.BlockedMarks.{AreBlocked, AreFreedWeakly, AreLeft, BlockedState, MayBeMarked, NoneMarked, is_waiting}
 use Rattle.hub_core.specs.BlockedRuns.{EndNoWait, is_quiet}
-use Rattle.hub_core.specs.HubCalls.{Answers, GoesOut, IsGiven, IsProbeGiven, IsProbed, IsTurn, SameWindow, carried_by}
+use Rattle.hub_core.specs.HubCalls.{Answers, DeviceGoesOut, IsGiven, IsProbeGiven, IsProbed, IsTurn, SameWindow, carried_by}
 use Rattle.hub_core.specs.HubSteps.{Carried, Gave, HubState, Returned, give_if, is_kept as is_kept_grip, same_carried}
 use Rattle.hub_core.specs.HubsKept.{HubIsKept}
 use Rattle.hub_core.specs.MarkedRuns.{IsAnsweredStill, is_out_for_command}
-use Rattle.hub_core.specs.OpenHubs.{OpenHub, carried_in, configuration_of, device_at, grip_in, held_in, state_of}
+use Rattle.hub_core.specs.OpenHubs.{OpenHub, carried_in, configuration_of, grip_in, held_in, hub_state_of, progress_at}
 use Rattle.window_order.specs.KeptOrders.{purpose_of}
 use Rattle.hub_core.specs.Steps.{Absent, Choice, HandsOut, Moves, Over, Waits, after_choice, after_give, after_take, at_moment, choice_of, decide, give_entries, probe_grip, with_entries, with_grip}
 use Rattle.hub_core.specs.declared.waits.Why.{Why}
@@ -42,10 +42,10 @@ some_slip = record { ticket = 0; device = record { 0 = 0 }; maker = 0; stood = 0
 
 -- a step of a run that hands no device out
 pub chosen : {D : Type 0} (s t : OpenHub D) (r m : ℕ) (choice : Choice) → Answers s r m choice t → choice ≡ choice_of (configuration_of s) r m
-chosen s t r m choice answers = took_choice (state_of s) (state_of t) r m some_slip choice (answers.step some_slip)
+chosen s t r m choice answers = took_choice (hub_state_of s) (hub_state_of t) r m some_slip choice (answers.step some_slip)
 
 pub after : {D : Type 0} (s t : OpenHub D) (r m : ℕ) (choice : Choice) → Answers s r m choice t → configuration_of t ≡ after_take (configuration_of s) r m
-after s t r m choice answers = took_after (state_of s) (state_of t) r m some_slip choice (answers.step some_slip)
+after s t r m choice answers = took_after (hub_state_of s) (hub_state_of t) r m some_slip choice (answers.step some_slip)
 
 -- the test of the entries is that of the window before the call
 same_window : {D : Type 0} (s t : OpenHub D) (r m : ℕ) (choice : Choice) → choice ≡ choice_of (configuration_of s) r m → configuration_of t ≡ after_take (configuration_of s) r m → configuration_of t ≡ after_choice (at_moment (configuration_of s) m) r choice
@@ -58,7 +58,7 @@ after_answer s t r m choice answers = same_window s t r m choice (chosen s t r m
 
 -- a device that is home is out with no grip
 home_grip : {D : Type 0} (s : OpenHub D) (d : ℕ) (device : D) → slice_get s.places d ≡ Some (Home device) → (configuration_of s).grips d ≡ None
-home_grip s d device at = ap (λ o. grip_in o (device_at s.devices d).purpose) at
+home_grip s d device at = ap (λ o. grip_in o (progress_at s.devices d).purpose) at
 
 made_marks : (s u : Configuration) (r m : ℕ) (entries : List Entry) (b after : BlockedState) → IsKept s → IsKept u → u ≡ with_entries (at_moment s m) r entries → AreBlocked s b → AreLeft b after (λ d. EndNoWait u.setting (read_of u) d entries) → AreBlocked u after
 made_marks s u r m entries b after was now is are left =
@@ -90,13 +90,13 @@ marks_absent stands turns probes faults s t r m b before then' was now answers a
     subst (λ x. AreBlocked x b) (sym is) (reached (configuration_of s) m b (is_kept stands turns probes faults s before was) (subst IsKept is (is_kept stands turns probes faults t then' now)) are)
 
 -- or hands its device out
-pub marks_goes : {D : Type 0} (stands turns probes faults : D → ℕ) (s t : OpenHub D) (r m : ℕ) (grip : Gripped D Ready) (b after : BlockedState) → is_weak s.setting.mode ≡ false → is_weak t.setting.mode ≡ false → HubIsKept stands turns probes faults s → HubIsKept stands turns probes faults t → GoesOut s r m grip t → AreBlocked (configuration_of s) b
+pub marks_goes : {D : Type 0} (stands turns probes faults : D → ℕ) (s t : OpenHub D) (r m : ℕ) (grip : Gripped D Ready) (b after : BlockedState) → is_weak s.setting.mode ≡ false → is_weak t.setting.mode ≡ false → HubIsKept stands turns probes faults s → HubIsKept stands turns probes faults t → DeviceGoesOut s r m grip t → AreBlocked (configuration_of s) b
     → AreLeft b after (λ e. is_out_for_command (configuration_of t) grip.slip.device.0 ≡ false → e ≢ grip.slip.device.0) → AreBlocked (configuration_of t) after
 marks_goes stands turns probes faults s t r m grip b after before then' was now out are left =
     let d : ℕ = grip.slip.device.0 in
-    let choice : HandsOut d out.purpose ≡ choice_of (configuration_of s) r m = took_choice (state_of s) (state_of t) r m grip.slip (HandsOut d out.purpose) out.step in
+    let choice : HandsOut d out.purpose ≡ choice_of (configuration_of s) r m = took_choice (hub_state_of s) (hub_state_of t) r m grip.slip (HandsOut d out.purpose) out.step in
     let is : configuration_of t ≡ with_grip (at_moment (configuration_of s) m) d (Some (record { maker = r; purpose = out.purpose })) =
-    same_window s t r m (HandsOut d out.purpose) choice (took_after (state_of s) (state_of t) r m grip.slip (HandsOut d out.purpose) out.step) in
+    same_window s t r m (HandsOut d out.purpose) choice (took_after (hub_state_of s) (hub_state_of t) r m grip.slip (HandsOut d out.purpose) out.step) in
     subst (λ x. AreBlocked x after) (sym is) (goes (configuration_of s) r m d out.purpose b after (home_grip s d grip.device out.home) (is_kept stands turns probes faults s before was) (subst IsKept is (is_kept stands turns probes faults t then' now)) (sym choice) are
     (subst (λ x. AreLeft b after (λ e. is_out_for_command x d ≡ false → e ≢ d)) is left))
 
@@ -107,7 +107,7 @@ pub marks_probed : {D : Type 0} (stands turns probes faults : D → ℕ) (s t : 
 marks_probed stands turns probes faults s t d None b after before then' was now out are left =
     subst (λ x. AreBlocked (configuration_of x) after) (sym out.1) (left_stay (configuration_of s) (configuration_of s) b after (λ e. e ≢ d) are left (λ q e blocked next other. (blocked, next)))
 marks_probed stands turns probes faults s t d (Some grip) b after before then' was now out are left =
-    let took = took_probe (state_of s) (state_of t) d grip.slip grip.task out.0 in
+    let took = took_probe (hub_state_of s) (hub_state_of t) d grip.slip grip.task out.0 in
     let is : configuration_of t ≡ record (configuration_of s) { probes = put (configuration_of s).probes d ((configuration_of s).probes d - 1); grips = put (configuration_of s).grips d (Some (probe_grip (configuration_of s) d)) } = took.1 ∙ rw took.0 refl in
     subst (λ x. AreBlocked x after) (sym is) (probed (configuration_of s) d _ _ b after (home_grip s d grip.device out.1) (is_kept stands turns probes faults s before was) (subst IsKept is (is_kept stands turns probes faults t then' now)) are left)
 
@@ -122,8 +122,8 @@ back_marks s v n d grip told entries b after was now later out made is are left 
     subst (λ x. AreBlocked x after) (sym is) (back s n d grip told b after later out was (subst IsKept is now) are left'')
 
 -- the grip with which the device in this place is out
-out_grip : {D : Type 0} (s : OpenHub D) (d : ℕ) (slip : Slip) (task : Task) → slice_get s.places d ≡ Some (Out slip task) → (configuration_of s).grips d ≡ Some (record { maker = slip.maker; purpose = purpose_of (device_at s.devices d).purpose })
-out_grip s d slip task at = ap (λ o. grip_in o (device_at s.devices d).purpose) at
+out_grip : {D : Type 0} (s : OpenHub D) (d : ℕ) (slip : Slip) (task : Task) → slice_get s.places d ≡ Some (Out slip task) → (configuration_of s).grips d ≡ Some (record { maker = slip.maker; purpose = purpose_of (progress_at s.devices d).purpose })
+out_grip s d slip task at = ap (λ o. grip_in o (progress_at s.devices d).purpose) at
 
 -- a grip is taken back of no device that is home
 never_taken : (s : HubState) (c : Configuration) (told : Carried) (result : Told) (entries : List Entry) (more : Bool) → s.carried told.slip.device.0 ≡ None → Returned (Gave entries) ≡ Returned (give_if (is_kept_grip s told && more) s c told result).answer → ⊥
@@ -141,11 +141,11 @@ marks_given {D} stands turns probes faults s t m grip made b after before then' 
     d = grip.slip.device.0
 
     by_place : (o : Option (Place D)) → slice_get s.places d ≡ o → AreBlocked (configuration_of t) after
-    by_place None at = absurd (never_taken (state_of s) (at_moment (configuration_of s) m) (carried_by grip) grip.stage.told (entries_made made) _ (ap carried_in at) given.0.0)
-    by_place (Some (Home device)) at = absurd (never_taken (state_of s) (at_moment (configuration_of s) m) (carried_by grip) grip.stage.told (entries_made made) _ (ap carried_in at) given.0.0)
+    by_place None at = absurd (never_taken (hub_state_of s) (at_moment (configuration_of s) m) (carried_by grip) grip.stage.told (entries_made made) _ (ap carried_in at) given.0.0)
+    by_place (Some (Home device)) at = absurd (never_taken (hub_state_of s) (at_moment (configuration_of s) m) (carried_by grip) grip.stage.told (entries_made made) _ (ap carried_in at) given.0.0)
     by_place (Some (Out slip task)) at =
         let out = out_grip s d slip task at in
-        let told = gave_back (state_of s) (state_of t) (carried_by grip) grip.stage.told m _ (entries_made made) out given.0 in
+        let told = gave_back (hub_state_of s) (hub_state_of t) (carried_by grip) grip.stage.told m _ (entries_made made) out given.0 in
         back_marks (configuration_of s) (configuration_of t) (max s.moment m) d _ grip.stage.told (entries_made made) b after (is_kept stands turns probes faults s before was) (is_kept stands turns probes faults t then' now) (omega (arith)) out told.0 told.1 are left
 
 pub marks_probe_given : {D : Type 0} (stands turns probes faults : D → ℕ) (s t : OpenHub D) (grip : Gripped D Done) (made : Made) (b after : BlockedState) → is_weak s.setting.mode ≡ false → is_weak t.setting.mode ≡ false → HubIsKept stands turns probes faults s → HubIsKept stands turns probes faults t → IsProbeGiven s grip (Ok made) t → AreBlocked (configuration_of s) b
@@ -156,11 +156,11 @@ marks_probe_given {D} stands turns probes faults s t grip made b after before th
     d = grip.slip.device.0
 
     by_place : (o : Option (Place D)) → slice_get s.places d ≡ o → AreBlocked (configuration_of t) after
-    by_place None at = absurd (never_taken (state_of s) (configuration_of s) (carried_by grip) grip.stage.told (entries_made made) _ (ap carried_in at) given.0.0)
-    by_place (Some (Home device)) at = absurd (never_taken (state_of s) (configuration_of s) (carried_by grip) grip.stage.told (entries_made made) _ (ap carried_in at) given.0.0)
+    by_place None at = absurd (never_taken (hub_state_of s) (configuration_of s) (carried_by grip) grip.stage.told (entries_made made) _ (ap carried_in at) given.0.0)
+    by_place (Some (Home device)) at = absurd (never_taken (hub_state_of s) (configuration_of s) (carried_by grip) grip.stage.told (entries_made made) _ (ap carried_in at) given.0.0)
     by_place (Some (Out slip task)) at =
         let out = out_grip s d slip task at in
-        let told = gave_probe_back (state_of s) (state_of t) (carried_by grip) grip.stage.told _ (entries_made made) out given.0 in
+        let told = gave_probe_back (hub_state_of s) (hub_state_of t) (carried_by grip) grip.stage.told _ (entries_made made) out given.0 in
         back_marks (configuration_of s) (configuration_of t) s.moment d _ grip.stage.told (entries_made made) b after (is_kept stands turns probes faults s before was) (is_kept stands turns probes faults t then' now) (omega (arith)) out told.0 told.1 are left
 
 -- the model is the same before a call

@@ -17,14 +17,14 @@ use Rattle.hub_core.specs.Bounds.{most_entries, most_items}
 use Rattle.hub_core.specs.HubCalls.{IsOpened}
 use Rattle.hub_core.specs.KeptByModel.{IsKeptByModel}
 use Rattle.hub_core.specs.HubsKept.{HandsAre, FitsAtHome, HasRoomLeft, HubIsKept}
-use Rattle.hub_core.specs.OpenHubs.{OpenHub, configuration_of, device_at, grip_in, held_in, no_device, no_events}
+use Rattle.hub_core.specs.OpenHubs.{OpenHub, configuration_of, grip_in, held_in, no_device, no_events, progress_at}
 use Rattle.hub_core.specs.Openings.{MayOpen}
 use Rattle.hub_core.specs.Steps.{opened}
 use Rattle.window_order.specs.declared.purposes.Purpose.{Purpose}
 use Rattle.hub_core.specs.Homes.{CountsAreLow, HomeIsKept, HomeState, setting_for}
 use Rattle.hub_core.specs.OpeningRooms.{AreKnown, IsClosingRoom, IsOrderRoom, IsScratchFor, known_first}
 use Rattle.hub_core.specs.PlannedPlaces.{IsForHome}
-use Rattle.timeline_scheduler.specs.Scratches.{Room}
+use Rattle.timeline_scheduler.specs.Scratches.{ScratchRoom}
 use Rattle.home_types.specs.declared.worlds.Stand.{Stand}
 use Rattle.hub_core.specs.declared.open_windows.ClosingLists.{ClosingLists}
 use Rattle.hub_core.specs.declared.known.DeviceProgress.{DeviceProgress}
@@ -104,19 +104,19 @@ pub record Opens {D : Type 0} (tag stands turns probes faults : D → ℕ) (home
 -- a device of the home, and what is known of it
 known_there : {D : Type 0} (turns probes faults : D → ℕ) (home : HomeState D) (rounds : ℕ) (known : List DeviceProgress) (d : ℕ) (device : D)
     → AreKnown turns probes faults home rounds (length home.devices) known → slice_get home.devices d ≡ Some device
-    → device_at known d ≡ known_first rounds (stand_at home.world d).value (turns device) (probes device) (faults device)
+    → progress_at known d ≡ known_first rounds (stand_at home.world d).value (turns device) (probes device) (faults device)
 known_there turns probes faults home rounds known d device are at =
     get_or_from_slice_get known d _ no_device (are.each d device (slice_get_within home.devices d device at) at)
 
 -- no device of the home
 unknown_there : {D : Type 0} (turns probes faults : D → ℕ) (home : HomeState D) (rounds : ℕ) (known : List DeviceProgress) (d : ℕ)
-    → AreKnown turns probes faults home rounds (length home.devices) known → length home.devices ≤ d → device_at known d ≡ no_device
+    → AreKnown turns probes faults home rounds (length home.devices) known → length home.devices ≤ d → progress_at known d ≡ no_device
 unknown_there turns probes faults home rounds known d are past = past_end known d no_device (omega (arith, are.size, past))
 
 -- each device of the home, or none
 data There {D : Type 0} (turns probes faults : D → ℕ) (home : HomeState D) (rounds : ℕ) (known : List DeviceProgress) (d : ℕ) : Type 0 where
-  known_as : (device : D) → slice_get home.devices d ≡ Some device → d < length home.world → device_at known d ≡ known_first rounds (stand_at home.world d).value (turns device) (probes device) (faults device) → There turns probes faults home rounds known d
-  unknown : length home.world ≤ d → device_at known d ≡ no_device → There turns probes faults home rounds known d
+  known_as : (device : D) → slice_get home.devices d ≡ Some device → d < length home.world → progress_at known d ≡ known_first rounds (stand_at home.world d).value (turns device) (probes device) (faults device) → There turns probes faults home rounds known d
+  unknown : length home.world ≤ d → progress_at known d ≡ no_device → There turns probes faults home rounds known d
 
 there : {D : Type 0} (turns probes faults : D → ℕ) (home : HomeState D) (rounds : ℕ) (known : List DeviceProgress) (d : ℕ) → length home.devices ≡ length home.world
     → AreKnown turns probes faults home rounds (length home.devices) known → There turns probes faults home rounds known d
@@ -139,7 +139,7 @@ first_configuration tag stands turns probes faults home roster mode rounds known
   history = [];
   moment = 0;
   probes = λ d. left d i;
-  grips = λ d. none_out home.devices d (device_at known d).purpose i;
+  grips = λ d. none_out home.devices d (progress_at known d).purpose i;
 }
   where
     in_home : (b : Bool) (lt : ℕ) → b ≡ true → (if b then lt else 0) ≡ lt
@@ -150,11 +150,11 @@ first_configuration tag stands turns probes faults home roster mode rounds known
     out_home false lt e = refl
     out_home true lt e = absurd (cc)
 
-    left_by : (d : ℕ) → There turns probes faults home rounds known d → (device_at known d).probes_left ≡ (if nat_lt d (length home.world) then rounds else 0)
+    left_by : (d : ℕ) → There turns probes faults home rounds known d → (progress_at known d).probes_left ≡ (if nat_lt d (length home.world) then rounds else 0)
     left_by d (known_as device at lt is) = ap (λ (k : DeviceProgress). k.probes_left) is ∙ sym (in_home (nat_lt d (length home.world)) rounds (lt-ltb d (length home.world) lt))
     left_by d (unknown le is) = ap (λ (k : DeviceProgress). k.probes_left) is ∙ sym (out_home (nat_lt d (length home.world)) rounds (le-ltb d (length home.world) le))
 
-    left : (d : ℕ) → (device_at known d).probes_left ≡ (if nat_lt d (length home.world) then rounds else 0)
+    left : (d : ℕ) → (progress_at known d).probes_left ≡ (if nat_lt d (length home.world) then rounds else 0)
     left d = left_by d (there turns probes faults home rounds known d opens.kept.size opens.knows)
 
 -- where the devices stand as the window opens
@@ -162,7 +162,7 @@ pub first_held : {D : Type 0} (tag stands turns probes faults : D → ℕ) (home
     → Opens tag stands turns probes faults home roster mode rounds known → (stand_at home.world d).value ≡ held_in (first_hub home roster mode rounds known) d
 first_held tag stands turns probes faults home roster mode rounds known d opens = by (there turns probes faults home rounds known d opens.kept.size opens.knows)
   where
-    by : There turns probes faults home rounds known d → (stand_at home.world d).value ≡ (device_at known d).held
+    by : There turns probes faults home rounds known d → (stand_at home.world d).value ≡ (progress_at known d).held
     by (known_as device at lt is) = sym (ap (λ (k : DeviceProgress). k.held) is)
     by (unknown le is) = ap (λ (s : Stand). s.value) (past_end home.world d nowhere le) ∙ sym (ap (λ (k : DeviceProgress). k.held) is)
 
@@ -204,19 +204,19 @@ first_kept {D = D} tag stands turns probes faults home roster mode rounds known 
         let is = known_there turns probes faults home rounds known d device opens.knows at in
         record {
           stand = λ up. opens.kept.stand d device at up ∙ held d;
-          turns_are = let same : (device_at known d).at_opening.turns ≡ turns device = ap (λ (k : DeviceProgress). k.at_opening.turns) is in omega (arith, same);
+          turns_are = let same : (progress_at known d).at_opening.turns ≡ turns device = ap (λ (k : DeviceProgress). k.at_opening.turns) is in omega (arith, same);
           probes_are =
-              let same : (device_at known d).at_opening.probes ≡ probes device = ap (λ (k : DeviceProgress). k.at_opening.probes) is in
-              let left : (device_at known d).probes_left ≡ rounds = ap (λ (k : DeviceProgress). k.probes_left) is in omega (arith, same, left);
-          falls_told = let same : (device_at known d).at_opening.faults ≡ faults device = ap (λ (k : DeviceProgress). k.at_opening.faults) is in omega (arith, same);
-          few_faults = let same : (device_at known d).at_opening.faults ≡ faults device = ap (λ (k : DeviceProgress). k.at_opening.faults) is in omega (arith, same);
+              let same : (progress_at known d).at_opening.probes ≡ probes device = ap (λ (k : DeviceProgress). k.at_opening.probes) is in
+              let left : (progress_at known d).probes_left ≡ rounds = ap (λ (k : DeviceProgress). k.probes_left) is in omega (arith, same, left);
+          falls_told = let same : (progress_at known d).at_opening.faults ≡ faults device = ap (λ (k : DeviceProgress). k.at_opening.faults) is in omega (arith, same);
+          few_faults = let same : (progress_at known d).at_opening.faults ≡ faults device = ap (λ (k : DeviceProgress). k.at_opening.faults) is in omega (arith, same);
         }
 
-    none_yet : (d : ℕ) → There turns probes faults home rounds known d → (device_at known d).events ≡ no_events
+    none_yet : (d : ℕ) → There turns probes faults home rounds known d → (progress_at known d).events ≡ no_events
     none_yet d (known_as device at lt is) = ap (λ (k : DeviceProgress). k.events) is
     none_yet d (unknown le is) = ap (λ (k : DeviceProgress). k.events) is
 
-    low : (d : ℕ) → There turns probes faults home rounds known d → CountsAreLow home.opened (device_at known d).at_opening.turns (device_at known d).at_opening.probes (device_at known d).at_opening.faults
+    low : (d : ℕ) → There turns probes faults home rounds known d → CountsAreLow home.opened (progress_at known d).at_opening.turns (progress_at known d).at_opening.probes (progress_at known d).at_opening.faults
     low d (known_as device at lt is) = rw is (opens.kept.counts d device at)
     low d (unknown le is) = rw is (record { few_turns = omega arith; few_probes = omega arith; few_faults = omega arith })
 
@@ -291,7 +291,7 @@ first_order tag stands turns probes faults home roster mode rounds spare known l
     (order_begins rounds (setting_for home roster mode) line table room.no_item room.none_sealed room.runs_kept (let same : length (runs_of roster) ≡ length roster.runs.items = length-map roster.runs.items plain_run in rw same (omega (arith, room.room))) room.opened)
 
 -- the scratch of a window that opens is for its home
-pub first_scratch : {D : Type 0} (home : HomeState D) (roster : Roster) (mode : Mode) (rounds : ℕ) (kinds : List Kind) (world : List Stand) (devices : List D) (opened' : ℕ) (setting : Setting) (room : Room)
+pub first_scratch : {D : Type 0} (home : HomeState D) (roster : Roster) (mode : Mode) (rounds : ℕ) (kinds : List Kind) (world : List Stand) (devices : List D) (opened' : ℕ) (setting : Setting) (room : ScratchRoom)
     → ◌≡◌ {A = HomeState D} (record { kinds = kinds; world = world; devices = devices; opened = opened' }) home
     → ◌≡◌ {A = Setting} setting (record { runs = runs_of roster; mode = mode; kinds = kinds; first = world })
     → IsScratchFor (length home.world) (most_items (length roster.runs.items) (length home.world) rounds) room → IsForHome setting rounds room

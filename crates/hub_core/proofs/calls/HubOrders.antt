@@ -54,7 +54,7 @@ use Rattle.hub_core.specs.HubKept.{ConfigurationIsKept}
 use Rattle.hub_core.specs.HubsKept.{HandsAre, HubIsKept, IsWhole, open_of}
 use Rattle.hub_core.specs.KeptOrders.{OrderIsBeside}
 use Rattle.window_order.specs.KeptOrders.{IsSealed, MayArrange, MayNote, arranged, is_first, noted_first, purpose_of, scheduled_with}
-use Rattle.hub_core.specs.OpenHubs.{OpenHub, configuration_of, device_at, grip_in, held_in, progress_of}
+use Rattle.hub_core.specs.OpenHubs.{OpenHub, configuration_of, grip_in, held_in, progress_at, progress_of}
 use Rattle.hub_core.specs.Openings.{MayOpen, names_values_of}
 use Rattle.hub_core.specs.PlannedPlaces.{AreUsesOf, HoldsPlan, IsForHome}
 use Rattle.hub_core.specs.Steps.{HandsOut, Moves, choice_of}
@@ -70,14 +70,14 @@ use Rattle.lineage_table.specs.Accesses.{IsDisciplined, effective_writer}
 use Rattle.lineage_table.specs.Lineages.{LineageState, accesses_at, committed_lineage, lineage_at, removed, undone, with_lineage}
 use Rattle.lock_leasing.specs.Configurations.{Commands, Configuration, Grips, Probes, Purpose, Undoes, is_command, is_out, is_undo, read_of}
 use Rattle.lock_leasing.specs.Standings.{IsRosterFor, IsStandingOf}
-use Rattle.serial_line.specs.Marks.{Mark, Marked, items_of, settling, stands, touching, with_item, without}
+use Rattle.serial_line.specs.Marks.{Mark, Marked, items_of, marks_without, settling, stands, touching, with_item}
 use Rattle.std.proofs.Common.{ap, ap₂, arith, length-append, refl, subst, sym, ◌∙◌}
 use Rattle.std.proofs.lemmas.Grind.{common_steps}
 use Rattle.std.proofs.lemmas.List.{length-map, take-append-drop}
 use Rattle.std.proofs.lemmas.Option.{slice_get-get_or, slice_get_within}
 use Rattle.std.specs.List.{All, range_with_len}
 use Rattle.std.specs.Prelude.{Bool, IsSome, IsTrue, List, None, Option, Some, [], drop, false, get_or, if◌then◌else◌, is_none, length, max, nat_lt, not, option_map, slice_get, suc, take, true, unwrap_or, zero, ℕ, ◌&&◌, ◌++◌, ◌+◌, ◌-◌, ◌<◌, ◌==◌, ◌||◌, ◌∷◌, ◌≡◌, ◌≤◌}
-use Rattle.timeline_scheduler.specs.Scratches.{HoldsTimes, Room}
+use Rattle.timeline_scheduler.specs.Scratches.{HoldsTimes, ScratchRoom}
 use Rattle.window_order.proofs.FewAccesses.{few_accesses}
 use Rattle.window_order.proofs.Grips.{HoldsNone, fits_other, holds_none}
 use Rattle.window_order.proofs.Joined.{same_parts}
@@ -249,15 +249,15 @@ abbrev pub marks_then : {D : Type 0} → Inside D → ℕ → ℕ → List Mark
 marks_then h r m = marks_for h.history.setting (read_in h.history) r (max h.moment m) h.order.line.marks
 
 -- by the timeline the scratch holds the set of the run
-pub joins_set : {D : Type 0} (h : Inside D) (s : OpenHub D) (r at m : ℕ) (room : Room) → open_of h ≡ s → HoldsPlan room (configuration_of s) r (max s.moment m) at → scheduler_of h.history.setting.mode ≡ Timeline → room.before ≡ gap_set h.history.setting (read_in h.history) r (max h.moment m)
+pub joins_set : {D : Type 0} (h : Inside D) (s : OpenHub D) (r at m : ℕ) (room : ScratchRoom) → open_of h ≡ s → HoldsPlan room (configuration_of s) r (max s.moment m) at → scheduler_of h.history.setting.mode ≡ Timeline → room.before ≡ gap_set h.history.setting (read_in h.history) r (max h.moment m)
 joins_set {D = D} h s r at m room seen holds timed = (subst (λ (x : OpenHub D). HoldsPlan room (configuration_of x) r (max x.moment m) at) (sym seen) holds timed).set
 
 -- .. which may be brought to the front
-pub hub_arranges : {D : Type 0} {stands turns probes faults : D → ℕ} (h : Inside D) (s : OpenHub D) (r at m : ℕ) (room : Room) → open_of h ≡ s → HoldsPlan room (configuration_of s) r (max s.moment m) at → scheduler_of h.history.setting.mode ≡ Timeline → IsWhole stands turns probes faults h → MayArrange room.before h.order.line
+pub hub_arranges : {D : Type 0} {stands turns probes faults : D → ℕ} (h : Inside D) (s : OpenHub D) (r at m : ℕ) (room : ScratchRoom) → open_of h ≡ s → HoldsPlan room (configuration_of s) r (max s.moment m) at → scheduler_of h.history.setting.mode ≡ Timeline → IsWhole stands turns probes faults h → MayArrange room.before h.order.line
 hub_arranges h s r at m room seen holds timed k = may_arrange h.history.setting (read_in h.history) (configuration_of (open_of h)).grips r (max h.moment m) room.before h.order.line h.order.table (read_whole h k) (joins_set h s r at m room seen holds timed) k.order
 
 -- the line that was arranged by it stands as it should then
-pub hub_arranged : {D : Type 0} (h : Inside D) (s : OpenHub D) (r at m : ℕ) (room : Room) (scheduler : Scheduler) (flags : List Bool) (marks : List Mark) → open_of h ≡ s → HoldsPlan room (configuration_of s) r (max s.moment m) at
+pub hub_arranged : {D : Type 0} (h : Inside D) (s : OpenHub D) (r at m : ℕ) (room : ScratchRoom) (scheduler : Scheduler) (flags : List Bool) (marks : List Mark) → open_of h ≡ s → HoldsPlan room (configuration_of s) r (max s.moment m) at
     → scheduler ≡ scheduler_of h.history.setting.mode → flags ≡ room.before → marks ≡ arranged scheduler flags h.order.line.marks → marks ≡ marks_then h r m
 hub_arranged h s r at m room scheduler flags marks seen holds by same are =
     are ∙ (λ i. arranged (by i) (same i) h.order.line.marks) ∙ arranged_same (scheduler_of h.history.setting.mode) room.before (gap_set h.history.setting (read_in h.history) r (max h.moment m)) h.order.line.marks (joins_set h s r at m room seen holds)
@@ -313,7 +313,7 @@ pub record IsJoined {D : Type 0} (h t : Inside D) (r at m : ℕ) : Type 0 where
   pub table : ChangesEach (scheduled_on h.history.setting.runs r (planned_times h.history.setting (read_in h.history) r (front_for h.history.setting (read_in h.history) r at (max h.moment m)) (max h.moment m)) (drop at (items_of (marks_then h r m)))) h.order.table t.order.table
 
 -- .. with its planned uses, as the scratch has them where it is placed by the timeline
-pub joins_planned : {D : Type 0} (h : Inside D) (s : OpenHub D) (r at m now : ℕ) (room : Room) (uses : List (Option PlannedUse)) (runs : List Run) (back : List Item) (later : List LineageState) → open_of h ≡ s → HoldsPlan room (configuration_of s) r (max s.moment m) at → now ≡ max h.moment m
+pub joins_planned : {D : Type 0} (h : Inside D) (s : OpenHub D) (r at m now : ℕ) (room : ScratchRoom) (uses : List (Option PlannedUse)) (runs : List Run) (back : List Item) (later : List LineageState) → open_of h ≡ s → HoldsPlan room (configuration_of s) r (max s.moment m) at → now ≡ max h.moment m
     → ((front : List Item) → (scheduler_of h.history.setting.mode ≡ Timeline → HoldsTimes room.slots (planned_times h.history.setting (read_in h.history) r front now)) → AreUsesOf uses (planned_times h.history.setting (read_in h.history) r front now)) → runs ≡ h.history.setting.runs → length h.order.table ≤ 256
     → ChangesEach (scheduled_with runs r uses back) h.order.table later → ChangesEach (scheduled_on h.history.setting.runs r (planned_times h.history.setting (read_in h.history) r (front_for h.history.setting (read_in h.history) r at (max h.moment m)) (max h.moment m)) back) h.order.table later
 joins_planned {D = D} h s r at m now room uses runs back later seen holds is planned same few changes =
@@ -390,7 +390,7 @@ commits_whole h t r m enters marks spare runs sealed table k = entered_whole h t
 
 -- the run has left the line, and has no access any more
 pub record IsWithdrawn {D : Type 0} (h t : Inside D) (r : ℕ) : Type 0 where
-  pub marks : t.order.line.marks ≡ without r h.order.line.marks
+  pub marks : t.order.line.marks ≡ marks_without r h.order.line.marks
   pub spare : t.order.line.spare ≡ h.order.line.spare + 1
   pub runs : t.order.line.runs ≡ h.order.line.runs
   pub sealed : IsSealed t.order.line
@@ -595,7 +595,7 @@ pub standing_size : (s : Configuration) (table : List LineageState) (line : List
 standing_size s table line history runs parts = sym (length-map line (λ (x : Mark). x.item)) ∙ ap length parts.its_line.items
 
 -- the line of a hub has no more items than the scratch has room for
-pub standing_fits : {D : Type 0} {stands turns probes faults : D → ℕ} (h : Inside D) (s : OpenHub D) (table : List LineageState) (line : List Mark) (history : List Kept) (runs : List Run) (room : Room) → open_of h ≡ s → IsStandingOf (configuration_of s) table line history runs → IsForHome s.setting s.rounds room → IsWhole stands turns probes faults h → length line ≤ room.items
+pub standing_fits : {D : Type 0} {stands turns probes faults : D → ℕ} (h : Inside D) (s : OpenHub D) (table : List LineageState) (line : List Mark) (history : List Kept) (runs : List Run) (room : ScratchRoom) → open_of h ≡ s → IsStandingOf (configuration_of s) table line history runs → IsForHome s.setting s.rounds room → IsWhole stands turns probes faults h → length line ≤ room.items
 standing_fits {D = D} h s table line history runs room seen parts home k =
     let size = standing_size (configuration_of s) table line history runs parts in
     let fits = subst (λ (x : OpenHub D). length (read_of (configuration_of x)).line ≤ most_items (length x.setting.runs) (length x.setting.first) x.rounds) seen (line_fits _ h.rounds h.opened _ k.shown.configuration) in
@@ -642,7 +642,7 @@ gone_grips : {D : Type 0} {stands turns probes faults : D → ℕ} (h t : Inside
     → ◌≡◌ {A = Grips} (configuration_of (open_of t)).grips (put (configuration_of (open_of h)).grips d (Some (record { maker = r; purpose = purpose_of purpose })))
 gone_grips h t r m d purpose known task grip handed k =
     let within = slice_get_within h.away.gate.places d (Home grip.device) handed.sent.at in
-    (λ i e. grip_in (slice_get (handed.sent.places i) e) (device_at (handed.sent.known_is i) e).purpose)
+    (λ i e. grip_in (slice_get (handed.sent.places i) e) (progress_at (handed.sent.known_is i) e).purpose)
     ∙ grips_set h.away.gate.places h.away.known.items d (Out grip.slip task) (record known { purpose = purpose }) within (omega (arith, within, k.shown.devices_size, k.shown.places_size))
     ∙ (λ i. put (configuration_of (open_of h)).grips d (Some (record { maker = handed.sent.maker_is i; purpose = purpose_of purpose })))
 

@@ -24,9 +24,9 @@ use Rattle.hub_core.specs.Openings.{names_values_of}
 use Rattle.home_types.specs.Kinds.{kind_at}
 use Rattle.hub_core.specs.KeptByModel.{IsKeptByModel}
 use Rattle.hub_core.specs.HubSteps.{Chose, HubStep, Take, carried_after, task_of}
-use Rattle.hub_core.specs.HubCalls.{GoesOut, SameWindow}
+use Rattle.hub_core.specs.HubCalls.{DeviceGoesOut, SameWindow}
 use Rattle.hub_core.specs.HubsKept.{HubIsKept, IsWhole, open_of}
-use Rattle.hub_core.specs.OpenHubs.{OpenHub, configuration_of, device_at, held_in, state_of}
+use Rattle.hub_core.specs.OpenHubs.{OpenHub, configuration_of, held_in, hub_state_of, progress_at}
 use Rattle.window_order.specs.KeptOrders.{purpose_of}
 use Rattle.hub_core.specs.Steps.{HandsOut, after_choice, at_moment, choice_of, with_grip}
 use Rattle.hub_core.specs.declared.open_windows.OpenWindow.TheInside.{Inside}
@@ -171,7 +171,7 @@ stands_home : {D : Type 0} (stands turns probes faults : D → ℕ) (s : OpenHub
 stands_home stands turns probes faults s r m d purpose device k chosen at = (k.home d device at).stand (handed_out (configuration_of s) s.rounds s.opened (held_in s) r m d purpose k.configuration chosen).up
 
 -- it may go out to its run
-pub may_send : {D : Type 0} {stands turns probes faults : D → ℕ} (h : Inside D) (r m d : ℕ) (purpose : Purpose) (known : DeviceProgress) (task : Task) → choice_of (configuration_of (open_of h)) r m ≡ HandsOut d purpose → known ≡ device_at h.away.known.items d → IsWhole stands turns probes faults h → MaySend stands turns probes faults h.away d r known.held task
+pub may_send : {D : Type 0} {stands turns probes faults : D → ℕ} (h : Inside D) (r m d : ℕ) (purpose : Purpose) (known : DeviceProgress) (task : Task) → choice_of (configuration_of (open_of h)) r m ≡ HandsOut d purpose → known ≡ progress_at h.away.known.items d → IsWhole stands turns probes faults h → MaySend stands turns probes faults h.away d r known.held task
 may_send {stands = stands} {turns = turns} {probes = probes} {faults = faults} h r m d purpose known task chosen known_is k =
     let home = out_home stands turns probes faults (open_of h) r m d purpose k.shown chosen in
     let out = handed_out (configuration_of (open_of h)) h.rounds h.opened (held_in (open_of h)) r m d purpose k.shown.configuration chosen in
@@ -189,54 +189,54 @@ may_send {stands = stands} {turns = turns} {probes = probes} {faults = faults} h
 
 -- for the run, whatever its probes
 went_configuration : {D : Type 0} (s : OpenHub D) (r d m : ℕ) (purpose : KeptPurpose) (slip : Slip) (task : Task) → slip.maker ≡ r → d < length s.places → d < length s.devices
-    → configuration_of (gone s d purpose (device_at s.devices d).probes_left slip task (max s.moment m)) ≡ with_grip (at_moment (configuration_of s) m) d (Some (record { maker = r; purpose = purpose_of purpose }))
+    → configuration_of (gone s d purpose (progress_at s.devices d).probes_left slip task (max s.moment m)) ≡ with_grip (at_moment (configuration_of s) m) d (Some (record { maker = r; purpose = purpose_of purpose }))
 went_configuration s r d m purpose slip task maker within known =
-    gone_configuration s r d (device_at s.devices d).probes_left (max s.moment m) purpose slip task maker within known
-    ∙ ap (λ (f : ℕ → ℕ). record (configuration_of s) { moment = max s.moment m; probes = f; grips = put (configuration_of s).grips d (Some (record { maker = r; purpose = purpose_of purpose })) }) (sym (put_at (configuration_of s).probes (configuration_of s).probes d (device_at s.devices d).probes_left refl (λ e other. refl)))
+    gone_configuration s r d (progress_at s.devices d).probes_left (max s.moment m) purpose slip task maker within known
+    ∙ ap (λ (f : ℕ → ℕ). record (configuration_of s) { moment = max s.moment m; probes = f; grips = put (configuration_of s).grips d (Some (record { maker = r; purpose = purpose_of purpose })) }) (sym (put_at (configuration_of s).probes (configuration_of s).probes d (progress_at s.devices d).probes_left refl (λ e other. refl)))
 
 went_state : {D : Type 0} (s : OpenHub D) (r d m : ℕ) (purpose : KeptPurpose) (slip : Slip) (task : Task) → slip.maker ≡ r → task ≡ task_of (configuration_of s) r (purpose_of purpose) → d < length s.places → d < length s.devices
-    → state_of (gone s d purpose (device_at s.devices d).probes_left slip task (max s.moment m)) ≡ record { configuration = after_choice (at_moment (configuration_of s) m) r (HandsOut d (purpose_of purpose)); carried = carried_after (state_of s) r (HandsOut d (purpose_of purpose)) slip }
+    → hub_state_of (gone s d purpose (progress_at s.devices d).probes_left slip task (max s.moment m)) ≡ record { configuration = after_choice (at_moment (configuration_of s) m) r (HandsOut d (purpose_of purpose)); carried = carried_after (hub_state_of s) r (HandsOut d (purpose_of purpose)) slip }
 went_state s r d m purpose slip task maker does within known =
     let configuration = went_configuration s r d m purpose slip task maker within known in
-    let carried = gone_carries s r d (device_at s.devices d).probes_left (max s.moment m) purpose slip task does within in
+    let carried = gone_carries s r d (progress_at s.devices d).probes_left (max s.moment m) purpose slip task does within in
     λ i. record { configuration = configuration i; carried = carried i }
 
 -- the device goes out in the step of the run, of which this was known: so the parts change
 pub record IsHanded {D : Type 0} (turns probes faults : D → ℕ) (h t : Inside D) (r m d : ℕ) (purpose : KeptPurpose) (known : DeviceProgress) (task : Task) (grip : Gripped D Ready) : Type 0 where
   pub chosen : choice_of (configuration_of (open_of h)) r m ≡ HandsOut d (purpose_of purpose)
   pub does : task ≡ task_of (configuration_of (open_of h)) r (purpose_of purpose)
-  pub known_is : known ≡ device_at h.away.known.items d
+  pub known_is : known ≡ progress_at h.away.known.items d
   pub sent : IsSent turns probes faults h.away (device_no d) r (record known { purpose = purpose }) task grip t.away
   pub moment_is : t.moment ≡ max h.moment m
   pub new : t ≡ record h { moment = t.moment; away = t.away; order = t.order }
 
 pub record WentOut {D : Type 0} (stands turns probes faults : D → ℕ) (s : OpenHub D) (r m : ℕ) (grip : Gripped D Ready) (t : OpenHub D) : Type 0 where
   pub kept : HubIsKept stands turns probes faults t
-  pub out : GoesOut s r m grip t
+  pub out : DeviceGoesOut s r m grip t
   pub window : SameWindow s t
 
 pub went_out : {D : Type 0} {stands turns probes faults : D → ℕ} (h t : Inside D) (r m d : ℕ) (purpose : KeptPurpose) (known : DeviceProgress) (task : Task) (grip : Gripped D Ready)
     → IsHanded turns probes faults h t r m d purpose known task grip → IsWhole stands turns probes faults h → WentOut stands turns probes faults (open_of h) r m grip (open_of t)
 went_out {D = D} {stands = stands} {turns = turns} {probes = probes} {faults = faults} h t r m d purpose known task grip handed k =
     record {
-      kept = subst (λ (x : OpenHub D). HubIsKept stands turns probes faults x) (sym new) (gone_kept stands turns probes faults s r d (device_at s.devices d).probes_left (max s.moment m) purpose grip.device grip.slip task sent.at leaves configuration k.shown);
-      out = subst (λ (x : OpenHub D). GoesOut s r m grip x) (sym new) (record {
+      kept = subst (λ (x : OpenHub D). HubIsKept stands turns probes faults x) (sym new) (gone_kept stands turns probes faults s r d (progress_at s.devices d).probes_left (max s.moment m) purpose grip.device grip.slip task sent.at leaves configuration k.shown);
+      out = subst (λ (x : OpenHub D). DeviceGoesOut s r m grip x) (sym new) (record {
         purpose = purpose_of purpose;
-        step = subst (λ e. HubStep (state_of s) (Take r m grip.slip) (Chose (HandsOut e (purpose_of purpose))) (state_of t')) (sym number)
+        step = subst (λ e. HubStep (hub_state_of s) (Take r m grip.slip) (Chose (HandsOut e (purpose_of purpose))) (hub_state_of t')) (sym number)
             (step_is s t' r m (HandsOut d (purpose_of purpose)) grip.slip handed.chosen (went_state s r d m purpose grip.slip task sent.maker_is leaves.does within within_devices) (record { device = number; maker = sent.maker_is }));
         task = sent.does ∙ leaves.does;
         home = subst (λ e. slice_get s.places e ≡ Some (Home grip.device)) (sym number) sent.at;
         places = ap₂ (λ e x. slice_set s.places e (Out grip.slip x)) (sym number) (sym sent.does);
         next = next_grip s t' grip d number sent.ticket refl leaves.stood;
       });
-      window = subst (λ (x : OpenHub D). SameWindow s x) (sym new) (record { setting = refl; rounds = refl; opened = refl; at_opening = known_same (λ (p : DeviceProgress). p.at_opening) s.devices d (record (device_at s.devices d) { purpose = purpose }) within_devices refl });
+      window = subst (λ (x : OpenHub D). SameWindow s x) (sym new) (record { setting = refl; rounds = refl; opened = refl; at_opening = known_same (λ (p : DeviceProgress). p.at_opening) s.devices d (record (progress_at s.devices d) { purpose = purpose }) within_devices refl });
     }
   where
     s : OpenHub D
     s = open_of h
 
     t' : OpenHub D
-    t' = gone s d purpose (device_at s.devices d).probes_left grip.slip task (max s.moment m)
+    t' = gone s d purpose (progress_at s.devices d).probes_left grip.slip task (max s.moment m)
 
     sent : IsSent turns probes faults h.away (device_no d) r (record known { purpose = purpose }) task grip t.away
     sent = handed.sent
@@ -250,7 +250,7 @@ went_out {D = D} {stands = stands} {turns = turns} {probes = probes} {faults = f
     within_devices : d < length s.devices
     within_devices = omega (arith, within, k.shown.devices_size, k.shown.places_size)
 
-    here : device_at s.devices d ≡ known
+    here : progress_at s.devices d ≡ known
     here = sym handed.known_is
 
     out : IsHandedOut (configuration_of s) r d (purpose_of purpose)
@@ -270,7 +270,7 @@ went_out {D = D} {stands = stands} {turns = turns} {probes = probes} {faults = f
         subst (λ (c : Configuration). IsKeptByModel c s.rounds s.opened (held_in s)) (sym (went_configuration s r d m purpose grip.slip task sent.maker_is within within_devices))
         (subst (λ c. IsKeptByModel (after_choice (at_moment (configuration_of s) m) r c) s.rounds s.opened (held_in s)) handed.chosen (taken_kept (configuration_of s) s.rounds s.opened (held_in s) r m k.shown.configuration))
 
-    leaves : IsLeaving turns probes faults s r d purpose (device_at s.devices d).probes_left grip.device grip.slip task
+    leaves : IsLeaving turns probes faults s r d purpose (progress_at s.devices d).probes_left grip.device grip.slip task
     leaves =
         record {
           number = number;

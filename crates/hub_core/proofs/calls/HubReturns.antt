@@ -23,7 +23,7 @@ use Rattle.hub_core.proofs.calls.HubChanges.{answer_entries, answered_more}
 use Rattle.hub_core.proofs.calls.OutFor.{IsForCommand, for_command, out_for}
 use Rattle.hub_core.specs.Decisions.{refuted_by}
 use Rattle.hub_core.specs.HubsKept.{IsWhole, open_of}
-use Rattle.hub_core.specs.OpenHubs.{OpenHub, device_at}
+use Rattle.hub_core.specs.OpenHubs.{OpenHub, progress_at}
 use Rattle.window_order.specs.KeptOrders.{purpose_of}
 use Rattle.hub_core.specs.ReadHistories.{HistoryState, read_in, with_doom, with_entry, with_more}
 use Rattle.hub_core.specs.Steps.{give_entries}
@@ -38,12 +38,12 @@ use Rattle.std.specs.Prelude.{Bool, IsSome, List, None, Option, Some, [], false,
 -- For what it was out
 
 -- the command for which it was out
-pub command_back : {D : Type 0} {stands turns probes faults : D → ℕ} (h : Inside D) (s : OpenHub D) (slip : Slip) (task : Task) (k : ℕ) → open_of h ≡ s → IsKept s.places slip task → (device_at s.devices slip.device.0).purpose ≡ ForCommand k → IsWhole stands turns probes faults h → IsForCommand (open_of h) slip task k
+pub command_back : {D : Type 0} {stands turns probes faults : D → ℕ} (h : Inside D) (s : OpenHub D) (slip : Slip) (task : Task) (k : ℕ) → open_of h ≡ s → IsKept s.places slip task → (progress_at s.devices slip.device.0).purpose ≡ ForCommand k → IsWhole stands turns probes faults h → IsForCommand (open_of h) slip task k
 command_back {D = D} h s slip task k seen there for whole =
-    for_command _ _ _ _ (open_of h) slip task k whole.shown (ap (λ (x : OpenHub D). slice_get x.places slip.device.0) seen ∙ there) (ap (λ (x : OpenHub D). (device_at x.devices slip.device.0).purpose) seen ∙ for)
+    for_command _ _ _ _ (open_of h) slip task k whole.shown (ap (λ (x : OpenHub D). slice_get x.places slip.device.0) seen ∙ there) (ap (λ (x : OpenHub D). (progress_at x.devices slip.device.0).purpose) seen ∙ for)
 
 -- no probe was out
-pub no_probe : {D : Type 0} {stands turns probes faults : D → ℕ} (h : Inside D) (s : OpenHub D) (slip : Slip) (task : Task) (v : Option ℕ) → open_of h ≡ s → IsKept s.places slip task → 0 < slip.maker → (device_at h.away.known.items slip.device.0).purpose ≡ ForProbe v → IsWhole stands turns probes faults h → ⊥
+pub no_probe : {D : Type 0} {stands turns probes faults : D → ℕ} (h : Inside D) (s : OpenHub D) (slip : Slip) (task : Task) (v : Option ℕ) → open_of h ≡ s → IsKept s.places slip task → 0 < slip.maker → (progress_at h.away.known.items slip.device.0).purpose ≡ ForProbe v → IsWhole stands turns probes faults h → ⊥
 no_probe {D = D} h s slip task v seen there maker for k =
     let out = out_for _ _ _ _ (open_of h) slip task (ForProbe v) k.shown (ap (λ (x : OpenHub D). slice_get x.places slip.device.0) seen ∙ there) for in
     absurd (let both : false ≡ true = out.maker ∙ lt-ltb 0 slip.maker maker in cc)

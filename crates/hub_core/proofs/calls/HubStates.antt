@@ -9,7 +9,7 @@ use Rattle.history_book.specs.Readings.{put}
 use Rattle.hub_core.proofs.kept.HubReads.{get_set}
 use Rattle.hub_core.proofs.steps.HubAnswers.{same_self}
 use Rattle.hub_core.specs.HubSteps.{Carried, is_kept, same_carried, same_optional, same_slip, same_task}
-use Rattle.hub_core.specs.OpenHubs.{OpenHub, carried_in, device_at, grip_in, no_device, state_of}
+use Rattle.hub_core.specs.OpenHubs.{OpenHub, carried_in, grip_in, hub_state_of, no_device, progress_at}
 use Rattle.hub_core.specs.declared.known.DeviceProgress.{DeviceProgress}
 use Rattle.lock_leasing.specs.Configurations.{Grip}
 use Rattle.std.proofs.Common.{ap, arith, inl, inr, refl, sym, ◌∙◌}
@@ -30,10 +30,10 @@ put_at f h d v same others = λ i e. by_place e i
 
 -- what is known of a device when one was set
 
-pub device_here : (devices : List DeviceProgress) (d : ℕ) (x : DeviceProgress) → d < length devices → device_at (slice_set devices d x) d ≡ x
+pub device_here : (devices : List DeviceProgress) (d : ℕ) (x : DeviceProgress) → d < length devices → progress_at (slice_set devices d x) d ≡ x
 device_here devices d x within = get_or-set_same devices d x no_device within
 
-pub device_there : (devices : List DeviceProgress) (d e : ℕ) (x : DeviceProgress) → e ≢ d → device_at (slice_set devices d x) e ≡ device_at devices e
+pub device_there : (devices : List DeviceProgress) (d e : ℕ) (x : DeviceProgress) → e ≢ d → progress_at (slice_set devices d x) e ≡ progress_at devices e
 device_there devices d e x other = get_or-set_other devices d e x no_device other
 
 -- the places when one was set
@@ -47,10 +47,10 @@ place_there places d e x within other = elim (get_set places d e x within) [ inl
 -- the grips, and what they carry, when a place and what is known of its device were set
 
 pub grips_set : {D : Type 0} (places : List (Place D)) (devices : List DeviceProgress) (d : ℕ) (x : Place D) (y : DeviceProgress) → d < length places → d < length devices
-    → ◌≡◌ {A = ℕ → Option Grip} (λ e. grip_in (slice_get (slice_set places d x) e) (device_at (slice_set devices d y) e).purpose) (put (λ e. grip_in (slice_get places e) (device_at devices e).purpose) d (grip_in (Some x) y.purpose))
+    → ◌≡◌ {A = ℕ → Option Grip} (λ e. grip_in (slice_get (slice_set places d x) e) (progress_at (slice_set devices d y) e).purpose) (put (λ e. grip_in (slice_get places e) (progress_at devices e).purpose) d (grip_in (Some x) y.purpose))
 grips_set places devices d x y within known = put_at _ _ d _
-    (ap (λ p. grip_in p (device_at (slice_set devices d y) d).purpose) (place_here places d x within) ∙ ap (λ (z : DeviceProgress). grip_in (Some x) z.purpose) (device_here devices d y known))
-    (λ e other. ap (λ p. grip_in p (device_at (slice_set devices d y) e).purpose) (place_there places d e x within other) ∙ ap (λ (z : DeviceProgress). grip_in (slice_get places e) z.purpose) (device_there devices d e y other))
+    (ap (λ p. grip_in p (progress_at (slice_set devices d y) d).purpose) (place_here places d x within) ∙ ap (λ (z : DeviceProgress). grip_in (Some x) z.purpose) (device_here devices d y known))
+    (λ e other. ap (λ p. grip_in p (progress_at (slice_set devices d y) e).purpose) (place_there places d e x within other) ∙ ap (λ (z : DeviceProgress). grip_in (slice_get places e) z.purpose) (device_there devices d e y other))
 
 pub carried_set : {D : Type 0} (places : List (Place D)) (d : ℕ) (x : Place D) → d < length places
     → ◌≡◌ {A = ℕ → Option Carried} (λ e. carried_in (slice_get (slice_set places d x) e)) (put (λ e. carried_in (slice_get places e)) d (carried_in (Some x)))
@@ -60,13 +60,13 @@ carried_set places d x within = put_at _ _ d _
 
 -- where the devices stand, and their probes and openings, when one was set
 pub known_set : {A : Type 0} (f : DeviceProgress → A) (devices : List DeviceProgress) (d : ℕ) (y : DeviceProgress) → d < length devices
-    → ◌≡◌ {A = ℕ → A} (λ e. f (device_at (slice_set devices d y) e)) (put (λ e. f (device_at devices e)) d (f y))
+    → ◌≡◌ {A = ℕ → A} (λ e. f (progress_at (slice_set devices d y) e)) (put (λ e. f (progress_at devices e)) d (f y))
 known_set f devices d y known = put_at _ _ d _ (ap f (device_here devices d y known)) (λ e other. ap f (device_there devices d e y other))
 
-pub known_same : {A : Type 0} (f : DeviceProgress → A) (devices : List DeviceProgress) (d : ℕ) (y : DeviceProgress) → d < length devices → f y ≡ f (device_at devices d)
-    → (e : ℕ) → f (device_at (slice_set devices d y) e) ≡ f (device_at devices e)
-known_same f devices d y known same e = elim (e == d) as (λ b. (e == d) ≡ b → f (device_at (slice_set devices d y) e) ≡ f (device_at devices e)) [
-  | true ↦ (λ q. let here : e ≡ d = grind (arith, common_steps) in ap (λ k. f (device_at (slice_set devices d y) k)) here ∙ ap f (device_here devices d y known) ∙ same ∙ ap (λ k. f (device_at devices k)) (sym here))
+pub known_same : {A : Type 0} (f : DeviceProgress → A) (devices : List DeviceProgress) (d : ℕ) (y : DeviceProgress) → d < length devices → f y ≡ f (progress_at devices d)
+    → (e : ℕ) → f (progress_at (slice_set devices d y) e) ≡ f (progress_at devices e)
+known_same f devices d y known same e = elim (e == d) as (λ b. (e == d) ≡ b → f (progress_at (slice_set devices d y) e) ≡ f (progress_at devices e)) [
+  | true ↦ (λ q. let here : e ≡ d = grind (arith, common_steps) in ap (λ k. f (progress_at (slice_set devices d y) k)) here ∙ ap f (device_here devices d y known) ∙ same ∙ ap (λ k. f (progress_at devices k)) (sym here))
   | false ↦ (λ q. ap f (device_there devices d e y (λ p. absurd (cc (sym q ∙ eq-eqb e d p)))))
 ] refl
 
@@ -116,10 +116,10 @@ slip_is a b e =
     faults = grind (arith, common_steps)
 
 -- the gate's test is the hub's
-pub kept_is : {D : Type 0} (s : OpenHub D) (slip : Slip) (task : Task) → IsKept s.places slip task → is_kept (state_of s) (record { slip = slip; task = task }) ≡ true
+pub kept_is : {D : Type 0} (s : OpenHub D) (slip : Slip) (task : Task) → IsKept s.places slip task → is_kept (hub_state_of s) (record { slip = slip; task = task }) ≡ true
 kept_is s slip task kept = rw kept (same_self (record { slip = slip; task = task }))
 
-pub is_kept_there : {D : Type 0} (s : OpenHub D) (slip : Slip) (task : Task) → is_kept (state_of s) (record { slip = slip; task = task }) ≡ true → IsKept s.places slip task
+pub is_kept_there : {D : Type 0} (s : OpenHub D) (slip : Slip) (task : Task) → is_kept (hub_state_of s) (record { slip = slip; task = task }) ≡ true → IsKept s.places slip task
 is_kept_there {D = D} s slip task kept = by_place (slice_get s.places slip.device.0) refl kept
   where
     by_place : (o : Option (Place D)) → slice_get s.places slip.device.0 ≡ o → unwrap_or (option_map (same_carried (record { slip = slip; task = task })) (carried_in o)) false ≡ true → IsKept s.places slip task

@@ -30,7 +30,7 @@ use Rattle.hub_core.proofs.steps.Takes.{command_is, live_run}
 use Rattle.hub_core.specs.HubKept.{is_of_run}
 use Rattle.hub_core.specs.HubSteps.{command_task, task_of}
 use Rattle.hub_core.specs.HubsKept.{FitsOut, HubIsKept}
-use Rattle.hub_core.specs.OpenHubs.{OpenHub, configuration_of, device_at, grip_in, held_in}
+use Rattle.hub_core.specs.OpenHubs.{OpenHub, configuration_of, grip_in, held_in, progress_at}
 use Rattle.window_order.specs.KeptOrders.{purpose_of}
 use Rattle.hub_core.specs.Openings.{names_values_of}
 use Rattle.hub_core.specs.Steps.{give_entries}
@@ -93,10 +93,10 @@ task_calls kind (Check v) register = refl
 task_calls kind Load register = refl
 task_calls kind Store register = refl
 
-grip_there : {D : Type 0} (s : OpenHub D) (slip : Slip) (task : Task) → IsKept s.places slip task → (configuration_of s).grips slip.device.0 ≡ Some (record { maker = slip.maker; purpose = purpose_of (device_at s.devices slip.device.0).purpose })
-grip_there s slip task kept = ap (λ o. grip_in o (device_at s.devices slip.device.0).purpose) kept
+grip_there : {D : Type 0} (s : OpenHub D) (slip : Slip) (task : Task) → IsKept s.places slip task → (configuration_of s).grips slip.device.0 ≡ Some (record { maker = slip.maker; purpose = purpose_of (progress_at s.devices slip.device.0).purpose })
+grip_there s slip task kept = ap (λ o. grip_in o (progress_at s.devices slip.device.0).purpose) kept
 
-pub for_command : {D : Type 0} (stands turns probes faults : D → ℕ) (s : OpenHub D) (slip : Slip) (task : Task) (k : ℕ) → HubIsKept stands turns probes faults s → IsKept s.places slip task → (device_at s.devices slip.device.0).purpose ≡ ForCommand k → IsForCommand s slip task k
+pub for_command : {D : Type 0} (stands turns probes faults : D → ℕ) (s : OpenHub D) (slip : Slip) (task : Task) (k : ℕ) → HubIsKept stands turns probes faults s → IsKept s.places slip task → (progress_at s.devices slip.device.0).purpose ≡ ForCommand k → IsForCommand s slip task k
 for_command stands turns probes faults s slip task k kept there purpose =
     record {
       grip = grip;
@@ -160,7 +160,7 @@ out_below stands turns probes faults s slip task kept there =
     omega (arith, within, kept.places_size)
 
 -- a command is a run's
-command_for : {D : Type 0} (stands turns probes faults : D → ℕ) (s : OpenHub D) (slip : Slip) (task : Task) (k : ℕ) → HubIsKept stands turns probes faults s → IsKept s.places slip task → (device_at s.devices slip.device.0).purpose ≡ ForCommand k → IsFor s slip task (Commands k)
+command_for : {D : Type 0} (stands turns probes faults : D → ℕ) (s : OpenHub D) (slip : Slip) (task : Task) (k : ℕ) → HubIsKept stands turns probes faults s → IsKept s.places slip task → (progress_at s.devices slip.device.0).purpose ≡ ForCommand k → IsFor s slip task (Commands k)
 command_for stands turns probes faults s slip task k kept there purpose =
     let for = for_command stands turns probes faults s slip task k kept there purpose in
     let c = command_at s.setting.runs slip.maker k in
@@ -179,7 +179,7 @@ command_for stands turns probes faults s slip task k kept there purpose =
     }
 
 -- so is the undo of a write
-undo_for : {D : Type 0} (stands turns probes faults : D → ℕ) (s : OpenHub D) (slip : Slip) (task : Task) (v : ℕ) → HubIsKept stands turns probes faults s → IsKept s.places slip task → (device_at s.devices slip.device.0).purpose ≡ ForUndo v → IsFor s slip task (Undoes v)
+undo_for : {D : Type 0} (stands turns probes faults : D → ℕ) (s : OpenHub D) (slip : Slip) (task : Task) (v : ℕ) → HubIsKept stands turns probes faults s → IsKept s.places slip task → (progress_at s.devices slip.device.0).purpose ≡ ForUndo v → IsFor s slip task (Undoes v)
 undo_for stands turns probes faults s slip task v kept there purpose =
     record {
       grip = grip;
@@ -215,7 +215,7 @@ undo_for stands turns probes faults s slip task v kept there purpose =
     does = fits.does ∙ ap (λ (p : KeptPurpose). task_of (configuration_of s) slip.maker (purpose_of p)) purpose
 
 -- a probe is the detector's: what it restores says how the device is counted, and is a value of its kind
-probe_for : {D : Type 0} (stands turns probes faults : D → ℕ) (s : OpenHub D) (slip : Slip) (task : Task) (v : Option ℕ) → HubIsKept stands turns probes faults s → IsKept s.places slip task → (device_at s.devices slip.device.0).purpose ≡ ForProbe v → IsFor s slip task (Probes v)
+probe_for : {D : Type 0} (stands turns probes faults : D → ℕ) (s : OpenHub D) (slip : Slip) (task : Task) (v : Option ℕ) → HubIsKept stands turns probes faults s → IsKept s.places slip task → (progress_at s.devices slip.device.0).purpose ≡ ForProbe v → IsFor s slip task (Probes v)
 probe_for stands turns probes faults s slip task v kept there purpose =
     record {
       grip = grip;
@@ -255,19 +255,19 @@ probe_for stands turns probes faults s slip task v kept there purpose =
     valued (Some u) at = restored_fits (configuration_of s) s.rounds s.opened (held_in s) slip.device.0 slip.maker u at below (kept.values slip.device.0 below) kept.configuration
 
 -- in each case
-pub out_for : {D : Type 0} (stands turns probes faults : D → ℕ) (s : OpenHub D) (slip : Slip) (task : Task) (purpose : KeptPurpose) → HubIsKept stands turns probes faults s → IsKept s.places slip task → (device_at s.devices slip.device.0).purpose ≡ purpose → IsFor s slip task (purpose_of purpose)
+pub out_for : {D : Type 0} (stands turns probes faults : D → ℕ) (s : OpenHub D) (slip : Slip) (task : Task) (purpose : KeptPurpose) → HubIsKept stands turns probes faults s → IsKept s.places slip task → (progress_at s.devices slip.device.0).purpose ≡ purpose → IsFor s slip task (purpose_of purpose)
 out_for stands turns probes faults s slip task (ForCommand k) kept there is = command_for stands turns probes faults s slip task k kept there is
 out_for stands turns probes faults s slip task (ForUndo v) kept there is = undo_for stands turns probes faults s slip task v kept there is
 out_for stands turns probes faults s slip task (ForProbe v) kept there is = probe_for stands turns probes faults s slip task v kept there is
 
 -- what the detector has out is a probe
-pub probe_purpose : {D : Type 0} (stands turns probes faults : D → ℕ) (s : OpenHub D) (slip : Slip) (task : Task) → HubIsKept stands turns probes faults s → IsKept s.places slip task → slip.maker ≡ 0 → (v : Option ℕ) × ((device_at s.devices slip.device.0).purpose ≡ ForProbe v)
-probe_purpose stands turns probes faults s slip task kept there none = by_purpose (device_at s.devices slip.device.0).purpose refl
+pub probe_purpose : {D : Type 0} (stands turns probes faults : D → ℕ) (s : OpenHub D) (slip : Slip) (task : Task) → HubIsKept stands turns probes faults s → IsKept s.places slip task → slip.maker ≡ 0 → (v : Option ℕ) × ((progress_at s.devices slip.device.0).purpose ≡ ForProbe v)
+probe_purpose stands turns probes faults s slip task kept there none = by_purpose (progress_at s.devices slip.device.0).purpose refl
   where
-    no_run : (p : KeptPurpose) → (device_at s.devices slip.device.0).purpose ≡ p → is_of_run (purpose_of p) ≡ false
+    no_run : (p : KeptPurpose) → (progress_at s.devices slip.device.0).purpose ≡ p → is_of_run (purpose_of p) ≡ false
     no_run p is = (out_for stands turns probes faults s slip task p kept there is).maker ∙ ap (nat_lt 0) none
 
-    by_purpose : (p : KeptPurpose) → (device_at s.devices slip.device.0).purpose ≡ p → (v : Option ℕ) × ((device_at s.devices slip.device.0).purpose ≡ ForProbe v)
+    by_purpose : (p : KeptPurpose) → (progress_at s.devices slip.device.0).purpose ≡ p → (v : Option ℕ) × ((progress_at s.devices slip.device.0).purpose ≡ ForProbe v)
     by_purpose (ForCommand k) is = absurd (let run : true ≡ false = no_run (ForCommand k) is in cc)
     by_purpose (ForUndo v) is = absurd (let run : true ≡ false = no_run (ForUndo v) is in cc)
     by_purpose (ForProbe v) is = (v, is)

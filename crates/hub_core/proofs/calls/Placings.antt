@@ -28,7 +28,7 @@ use Rattle.std.proofs.Common.{ap, arith, refl, subst, sym, ◌∙◌}
 use Rattle.std.proofs.lemmas.Grind.{common_steps}
 use Rattle.std.specs.Option.{IfSome}
 use Rattle.std.specs.Prelude.{IsTrue, List, None, Option, Some, [], length, max, nat_lt, take, ℕ, true, ◌&&◌, ◌<◌, ◌∷◌, ◌≡◌, ◌≤◌}
-use Rattle.timeline_scheduler.specs.Scratches.{HoldsTimes, Room}
+use Rattle.timeline_scheduler.specs.Scratches.{HoldsTimes, ScratchRoom}
 
 -- the run that a run of the window follows is one of the window
 pub leader_runs : (w : Setting) (rounds opened r : ℕ) → MayOpen w rounds opened → is_run w.runs r ≡ true → IfSome (followed_by w.runs r) (λ f. IsTrue (is_run w.runs f.0))
@@ -65,7 +65,7 @@ pub timed_front : (w : Setting) (n : Reading) (r at m : ℕ) → scheduler_of w.
 timed_front w n r at m timed = rw timed refl
 
 -- what the scratch holds then
-pub holds_gap : (room : Room) (s : Configuration) (r m at : ℕ) → scheduler_of s.setting.mode ≡ Timeline → room.before ≡ gap_set s.setting (read_of s) r m → HoldsTimes room.slots (planned_times s.setting (read_of s) r (chosen (gap_set s.setting (read_of s) r m) (read_of s).line) m) → HoldsGap room s r m at
+pub holds_gap : (room : ScratchRoom) (s : Configuration) (r m at : ℕ) → scheduler_of s.setting.mode ≡ Timeline → room.before ≡ gap_set s.setting (read_of s) r m → HoldsTimes room.slots (planned_times s.setting (read_of s) r (chosen (gap_set s.setting (read_of s) r m) (read_of s).line) m) → HoldsGap room s r m at
 holds_gap room s r m at timed set times = record {
   set = set;
   times = subst (λ front. HoldsTimes room.slots (planned_times s.setting (read_of s) r front m)) (sym (timed_front s.setting (read_of s) r at m timed)) times;
@@ -108,12 +108,12 @@ turn_earliest s t r m Absent is = tt
 -- The scratch of a hub
 
 -- it is for the home still, where it has as much room as before
-pub still_for : {D : Type 0} (s t : OpenHub D) (before after : Room) → HasSameRoom before after → SameWindow s t → IsForHome s.setting s.rounds before → IsForHome t.setting t.rounds after
+pub still_for : {D : Type 0} (s t : OpenHub D) (before after : ScratchRoom) → HasSameRoom before after → SameWindow s t → IsForHome s.setting s.rounds before → IsForHome t.setting t.rounds after
 still_for s t before after same window fits = record {
   devices = same.devices ∙ fits.devices ∙ sym (ap (λ (w : Setting). length w.first) window.setting);
   items = subst (λ (w : Setting). most_items (length w.runs) (length w.first) t.rounds ≤ after.items) (sym window.setting) (subst (λ k. most_items (length s.setting.runs) (length s.setting.first) k ≤ after.items) (sym window.rounds) (subst (λ k. most_items (length s.setting.runs) (length s.setting.first) s.rounds ≤ k) (sym same.items) fits.items));
 }
 
 -- .. and where it is left as it is
-pub kept_for : {D : Type 0} (s t : OpenHub D) (room : Room) → SameWindow s t → IsForHome s.setting s.rounds room → IsForHome t.setting t.rounds room
+pub kept_for : {D : Type 0} (s t : OpenHub D) (room : ScratchRoom) → SameWindow s t → IsForHome s.setting s.rounds room → IsForHome t.setting t.rounds room
 kept_for s t room window fits = still_for s t room room (record { devices = refl; items = refl }) window fits

@@ -5,7 +5,7 @@ use Rattle.history_book.specs.Readings.{Planned, Reading}
 use Rattle.history_book.specs.Settings.{Setting}
 use Rattle.home_types.specs.declared.items.Item.{Item}
 use Rattle.home_types.specs.declared.commands.Command.{Command}
-use Rattle.hub_core.specs.PlansInTurn.{planned_use, used_again}
+use Rattle.hub_core.specs.PlansInTurn.{planned_again, planned_use}
 use Rattle.window_order.specs.declared.planned_uses.PlannedUse.{PlannedUse}
 use Rattle.std.proofs.Common.{ap, refl, sym, ◌∙◌}
 use Rattle.std.proofs.Math.Bool.{or-false}
@@ -15,7 +15,7 @@ use Rattle.std.specs.Prelude.{Bool, List, None, Option, Some, [], false, find, f
 
 -- the use of the device behind these, where it is this one before them
 abbrev pub use_from : ℕ → Option PlannedUse → List Planned → Option PlannedUse
-use_from d used planned = fold (λ u p. if p.device == d then Some (used_again u p.from p.to) else u) used planned
+use_from d used planned = fold (λ u p. if p.device == d then Some (planned_again u p.from p.to) else u) used planned
 
 abbrev pub end_from : ℕ → ℕ → List Planned → ℕ
 end_from d end planned = fold (λ t p. if p.device == d then p.to else t) end planned

@@ -42,7 +42,7 @@ use Rattle.hub_core.proofs.kept.ProbeSteps.{order_fell, order_lost, order_probe_
 use Rattle.hub_core.specs.HubCalls.{IsPacked}
 use Rattle.hub_core.specs.HubsKept.{HandsAre, IsWhole, open_of}
 use Rattle.hub_core.specs.KeptOrders.{HasFallen, HasRisen, IsLostTo, MayTurn, OrderIsBeside, hand_of}
-use Rattle.hub_core.specs.OpenHubs.{OpenHub, configuration_of, device_at, held_in}
+use Rattle.hub_core.specs.OpenHubs.{OpenHub, configuration_of, held_in, progress_at}
 use Rattle.hub_core.specs.ReadHistories.{HistoryState, read_in, with_entry, with_lost, with_more}
 use Rattle.hub_core.specs.declared.open_windows.OpenWindow.TheInside.{Inside}
 use Rattle.window_order.specs.declared.kept_orders.KeptOrder.{KeptOrder}
@@ -64,7 +64,7 @@ use Rattle.window_order.proofs.Grips.{fits_same}
 use Rattle.window_order.proofs.ReadFacts.{IsRead, read_facts}
 use Rattle.window_order.proofs.Runs.{live_run}
 use Rattle.window_order.proofs.TurnedLines.{event_place_of}
-use Rattle.window_order.specs.TableChanges.{is_device as is_that_device}
+use Rattle.window_order.specs.TableChanges.{is_named_device}
 
 -- What the detector's grip brings home
 
@@ -89,7 +89,7 @@ probe_here {D = D} {stands = stands} {turns = turns} {probes = probes} {faults =
     there : IsKept h.away.gate.places grip.slip grip.task
     there = ap (λ (x : OpenHub D). slice_get x.places grip.slip.device.0) known.seen ∙ known.there
 
-    out : (v : Option ℕ) × ((device_at h.away.known.items grip.slip.device.0).purpose ≡ ForProbe v)
+    out : (v : Option ℕ) × ((progress_at h.away.known.items grip.slip.device.0).purpose ≡ ForProbe v)
     out = probe_purpose _ _ _ _ (open_of h) grip.slip grip.task k.shown there known.maker
 
     returned : IsReturned stands turns probes faults h (ForProbe out.0) tag grip
@@ -161,7 +161,7 @@ rose_gives w n d Died down lives = absurd (cc)
 pub record FoundBack {D : Type 0} (h : Inside D) (s : OpenHub D) (grip : Gripped D Done) (events : Events) : Type 0 where
   pub down : (read_of (configuration_of s)).up grip.slip.device.0 ≡ false
   pub lives : has_died grip.stage.told ≡ false
-  pub events_are : events ≡ events_after grip.task grip.stage.told (device_at h.away.known.items grip.slip.device.0).events
+  pub events_are : events ≡ events_after grip.task grip.stage.told (progress_at h.away.known.items grip.slip.device.0).events
 
 back_tells : {D : Type 0} {stands turns probes faults : D → ℕ} (h : Inside D) (s : OpenHub D) (tag : ℕ) (grip : Gripped D Done) (sl : Slip) (events : Events) → ProbeKnown stands turns probes faults h s tag grip sl → FoundBack h s grip events → (here : ProbeHere stands turns probes faults h tag grip) → TellsTurn stands turns probes faults h (ForProbe here.v) tag grip (Rose grip.slip.device) []
 back_tells h s tag grip sl events known found here = record {
@@ -280,7 +280,7 @@ for_commands w n g r e fit run sound = by_grip (g e) refl
     by_grip (Some p) at = by_purpose p.maker p.purpose at (p.maker == r) refl
 
 -- .. and one at most: that of this device, where there is one
-pub out_commands : (w : Setting) (n : Reading) (g : Grips) (r : ℕ) (out : Option DeviceNo) → GripsFit w n g → is_run w.runs r ≡ true → is_doomed n r ≡ false → option_map (λ d. d.0) out ≡ grip_wait w g r → (e : ℕ) → grips_command g r e ≡ is_that_device out e
+pub out_commands : (w : Setting) (n : Reading) (g : Grips) (r : ℕ) (out : Option DeviceNo) → GripsFit w n g → is_run w.runs r ≡ true → is_doomed n r ≡ false → option_map (λ d. d.0) out ≡ grip_wait w g r → (e : ℕ) → grips_command g r e ≡ is_named_device out e
 out_commands w n g r out fit run sound held e = for_commands w n g r e fit run sound ∙ by_out out held
   where
     place : (r ≡ suc (r - 1)) × (r - 1 < length w.runs)
@@ -325,12 +325,12 @@ out_commands w n g r out fit run sound held e = for_commands w n g r e fit run s
             let two = maker_of e (g e) refl has in
             absurd (let same : x.0 ≡ e = fit.runs.one x.0 e (r - 1) one.0 two.0 one.1 two.1 in let both : false ≡ true = sym other ∙ ap (λ z. x.0 == z) (sym same) ∙ eq-eqb x.0 _ refl in cc)
 
-    by_out : (o : Option DeviceNo) → option_map (λ d. d.0) o ≡ grip_wait w g r → has_grip g r e ≡ is_that_device o e
+    by_out : (o : Option DeviceNo) → option_map (λ d. d.0) o ≡ grip_wait w g r → has_grip g r e ≡ is_named_device o e
     by_out None is = empty (sym is)
     by_out (Some x) is = alone x (sym is)
 
 -- .. of its hand
-pub hand_commands : (w : Setting) (n : Reading) (g : Grips) (r : ℕ) (hands : List (Option DeviceNo)) → GripsFit w n g → HandsAre w g hands → is_run w.runs r ≡ true → is_doomed n r ≡ false → (e : ℕ) → grips_command g r e ≡ is_that_device (hand_of hands r) e
+pub hand_commands : (w : Setting) (n : Reading) (g : Grips) (r : ℕ) (hands : List (Option DeviceNo)) → GripsFit w n g → HandsAre w g hands → is_run w.runs r ≡ true → is_doomed n r ≡ false → (e : ℕ) → grips_command g r e ≡ is_named_device (hand_of hands r) e
 hand_commands w n g r hands fit are run sound = out_commands w n g r (hand_of hands r) fit run sound (by_hand (slice_get hands (r - 1)) refl)
   where
     place : (r ≡ suc (r - 1)) × (r - 1 < length w.runs)
@@ -360,7 +360,7 @@ fell_gives w n d Died up died = ap (λ b. if b then dead_entries d (lost_by w n 
 pub record FoundDead {D : Type 0} (h : Inside D) (s : OpenHub D) (grip : Gripped D Done) (events : Events) : Type 0 where
   pub up : (read_of (configuration_of s)).up grip.slip.device.0 ≡ true
   pub died : has_died grip.stage.told ≡ true
-  pub events_are : events ≡ events_after grip.task grip.stage.told (device_at h.away.known.items grip.slip.device.0).events
+  pub events_are : events ≡ events_after grip.task grip.stage.told (progress_at h.away.known.items grip.slip.device.0).events
 
 -- the run that is lost
 abbrev lost_here : {D : Type 0} → Inside D → Gripped D Done → Option ℕ

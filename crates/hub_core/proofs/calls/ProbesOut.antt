@@ -23,13 +23,13 @@ use Rattle.hub_core.specs.KeptByModel.{IsKeptByModel}
 use Rattle.hub_core.specs.HubSteps.{ProbeTaken, Probed, take_probe, carrying}
 use Rattle.hub_core.specs.HubsKept.{HandsAre, HubIsKept, IsWhole, open_of}
 use Rattle.hub_core.specs.KeptOrders.{OrderIsBeside}
-use Rattle.hub_core.specs.OpenHubs.{OpenHub, configuration_of, device_at, held_in, state_of}
+use Rattle.hub_core.specs.OpenHubs.{OpenHub, configuration_of, held_in, hub_state_of, progress_at}
 use Rattle.hub_core.specs.ReadHistories.{read_in}
 use Rattle.hub_core.specs.Steps.{after_take_probe, may_probe, probe_grip, restored}
 use Rattle.hub_core.specs.declared.open_windows.OpenWindow.TheInside.{Inside}
 use Rattle.hub_core.specs.declared.known.DeviceProgress.{DeviceProgress}
 use Rattle.window_order.specs.declared.purposes.Purpose.TheVariants.{Probe as ForProbe}
-use Rattle.lineage_table.specs.Accesses.{IsDisciplined, standing_value as accesses_standing}
+use Rattle.lineage_table.specs.Accesses.{IsDisciplined, value_standing}
 use Rattle.lineage_table.specs.Lineages.{accesses_at, lineage_at}
 use Rattle.lock_leasing.proofs.Facts.{facts_of}
 use Rattle.lock_leasing.specs.Configurations.{Configuration, Grips, Probes, is_out, read_of}
@@ -62,7 +62,7 @@ may_parts s d may = by_parts (is_device s.setting d) (is_out s.grips d) (nat_lt 
 -- What it restores
 
 -- the value at which the device should stand, as the table tells it, where it is counted down
-pub restores : {D : Type 0} {stands turns probes faults : D → ℕ} (h : Inside D) (s : OpenHub D) (d value : ℕ) (up : Bool) → open_of h ≡ s → ((e : ℕ) → IsDisciplined (accesses_at h.order.table e)) → is_device s.setting d ≡ true → up ≡ (lineage_at h.order.table d).up → up ≡ false → value ≡ accesses_standing (lineage_at h.order.table d).committed (accesses_at h.order.table d)
+pub restores : {D : Type 0} {stands turns probes faults : D → ℕ} (h : Inside D) (s : OpenHub D) (d value : ℕ) (up : Bool) → open_of h ≡ s → ((e : ℕ) → IsDisciplined (accesses_at h.order.table e)) → is_device s.setting d ≡ true → up ≡ (lineage_at h.order.table d).up → up ≡ false → value ≡ value_standing (lineage_at h.order.table d).committed (accesses_at h.order.table d)
     → is_weak h.history.setting.mode ≡ false → IsWhole stands turns probes faults h → Some value ≡ restored (configuration_of s) d
 restores {D = D} h s d value up seen disciplined device up_is down value_is strong k =
     subst (λ (x : OpenHub D). is_device x.setting d ≡ true → Some value ≡ restored (configuration_of x) d) seen (λ there. as_told ((k.order.table_is.ordered strong).each d (below_home h.history.setting d there))) device
@@ -73,10 +73,10 @@ restores {D = D} h s d value up seen disciplined device up_is down value_is stro
         ∙ sym (ap (λ b. if b then None else Some (standing_value h.history.setting (read_in h.history) (configuration_of (open_of h)).grips d)) (sym own.up ∙ sym up_is ∙ down))
 
 -- .. under the weak model where it is known to stand
-pub restores_weakly : {D : Type 0} {stands turns probes faults : D → ℕ} (h : Inside D) (s : OpenHub D) (d value : ℕ) (up : Bool) → open_of h ≡ s → is_device s.setting d ≡ true → up ≡ (lineage_at h.order.table d).up → up ≡ false → value ≡ (device_at s.devices d).held
+pub restores_weakly : {D : Type 0} {stands turns probes faults : D → ℕ} (h : Inside D) (s : OpenHub D) (d value : ℕ) (up : Bool) → open_of h ≡ s → is_device s.setting d ≡ true → up ≡ (lineage_at h.order.table d).up → up ≡ false → value ≡ (progress_at s.devices d).held
     → is_weak h.history.setting.mode ≡ true → IsWhole stands turns probes faults h → Some value ≡ restored (configuration_of s) d
 restores_weakly {D = D} h s d value up seen device up_is down value_is weak k =
-    subst (λ (x : OpenHub D). is_device x.setting d ≡ true → value ≡ (device_at x.devices d).held → Some value ≡ restored (configuration_of x) d) seen (λ there is. as_told (below_home h.history.setting d there) is) device value_is
+    subst (λ (x : OpenHub D). is_device x.setting d ≡ true → value ≡ (progress_at x.devices d).held → Some value ≡ restored (configuration_of x) d) seen (λ there is. as_told (below_home h.history.setting d there) is) device value_is
   where
     as_told : d < length h.history.setting.first → value ≡ held_in (open_of h) d → Some value ≡ restored (configuration_of (open_of h)) d
     as_told below is =
@@ -92,7 +92,7 @@ counted_then s d value is up = by_up ((read_of s).up d) (subst (λ v. IsTrue (is
     by_up false e = absurd (cc)
 
 -- it may go out to the detector
-pub may_send_probe : {D : Type 0} {stands turns probes faults : D → ℕ} (h : Inside D) (s : OpenHub D) (d : ℕ) (value : Option ℕ) (known : DeviceProgress) → open_of h ≡ s → may_probe (configuration_of s) d ≡ true → value ≡ restored (configuration_of s) d → known ≡ device_at h.away.known.items d → IsWhole stands turns probes faults h → MaySend stands turns probes faults h.away d 0 known.held (Probe value)
+pub may_send_probe : {D : Type 0} {stands turns probes faults : D → ℕ} (h : Inside D) (s : OpenHub D) (d : ℕ) (value : Option ℕ) (known : DeviceProgress) → open_of h ≡ s → may_probe (configuration_of s) d ≡ true → value ≡ restored (configuration_of s) d → known ≡ progress_at h.away.known.items d → IsWhole stands turns probes faults h → MaySend stands turns probes faults h.away d 0 known.held (Probe value)
 may_send_probe {D = D} {stands = stands} {turns = turns} {probes = probes} {faults = faults} h s d value known seen may value_is known_is k =
     let parts = may_parts (configuration_of (open_of h)) d (ap (λ (x : OpenHub D). may_probe (configuration_of x) d) seen ∙ may) in
     let below = below_home h.history.setting d parts.device in
@@ -111,13 +111,13 @@ may_send_probe {D = D} {stands = stands} {turns = turns} {probes = probes} {faul
 pub record IsProbedOut {D : Type 0} (turns probes faults : D → ℕ) (h t : Inside D) (d : ℕ) (value : Option ℕ) (known : DeviceProgress) (grip : Gripped D Ready) : Type 0 where
   pub may : may_probe (configuration_of (open_of h)) d ≡ true
   pub value_is : value ≡ restored (configuration_of (open_of h)) d
-  pub known_is : known ≡ device_at h.away.known.items d
+  pub known_is : known ≡ progress_at h.away.known.items d
   pub sent : IsSent turns probes faults h.away (device_no d) 0 (record known { purpose = ForProbe value; probes_left = known.probes_left - 1 }) (Probe value) grip t.away
   pub new : t ≡ record h { away = t.away }
 
 -- with so many left
 abbrev pub left_of : {D : Type 0} → Inside D → ℕ → ℕ
-left_of h d = (device_at h.away.known.items d).probes_left - 1
+left_of h d = (progress_at h.away.known.items d).probes_left - 1
 
 -- the hub shows it
 probe_shows : {D : Type 0} {turns probes faults : D → ℕ} (h t : Inside D) (d : ℕ) (value : Option ℕ) (known : DeviceProgress) (grip : Gripped D Ready) → IsProbedOut turns probes faults h t d value known grip → open_of t ≡ gone (open_of h) d (ForProbe value) (left_of h d) grip.slip (Probe value) h.moment
@@ -143,7 +143,7 @@ probe_leaves h t d value known grip out =
       had_probes = out.sent.had_probes;
       had_faults = out.sent.had_faults;
       does = refl;
-      probed_so = one_less (device_at h.away.known.items d).probes_left (may_parts (configuration_of (open_of h)) d out.may).left;
+      probed_so = one_less (progress_at h.away.known.items d).probes_left (may_parts (configuration_of (open_of h)) d out.may).left;
       ticket = omega arith;
     }
   where
@@ -199,7 +199,7 @@ probe_sent {D = D} h t s₀ d value known grip seen out k =
         ap (λ x. slice_set h.away.gate.places d (Out grip.slip x)) (sym out.sent.does),
         next_grip s after grip d number out.sent.ticket refl (probe_leaves h t d value known grip out).stood,
       );
-      window = record { setting = refl; rounds = refl; opened = refl; at_opening = known_same (λ (p : DeviceProgress). p.at_opening) h.away.known.items d (record (device_at h.away.known.items d) { purpose = ForProbe value; probes_left = left_of h d }) within refl };
+      window = record { setting = refl; rounds = refl; opened = refl; at_opening = known_same (λ (p : DeviceProgress). p.at_opening) h.away.known.items d (record (progress_at h.away.known.items d) { purpose = ForProbe value; probes_left = left_of h d }) within refl };
     }))
   where
     within : d < length h.away.known.items
@@ -214,11 +214,11 @@ probe_sent {D = D} h t s₀ d value known grip seen out k =
     after : OpenHub D
     after = gone s d (ForProbe value) (left_of h d) grip.slip (Probe value) h.moment
 
-    takes : take_probe (state_of s) d grip.slip ≡ record { task = Some (Probe (restored (configuration_of s) d)); next = record { configuration = after_take_probe (configuration_of s) d; carried = carrying (state_of s) 0 d (Probes (restored (configuration_of s) d)) grip.slip } }
-    takes = ap (λ b. if b then record { task = Some (Probe (restored (configuration_of s) d)); next = record { configuration = after_take_probe (configuration_of s) d; carried = carrying (state_of s) 0 d (Probes (restored (configuration_of s) d)) grip.slip } } else record { task = None; next = state_of s }) out.may
+    takes : take_probe (hub_state_of s) d grip.slip ≡ record { task = Some (Probe (restored (configuration_of s) d)); next = record { configuration = after_take_probe (configuration_of s) d; carried = carrying (hub_state_of s) 0 d (Probes (restored (configuration_of s) d)) grip.slip } }
+    takes = ap (λ b. if b then record { task = Some (Probe (restored (configuration_of s) d)); next = record { configuration = after_take_probe (configuration_of s) d; carried = carrying (hub_state_of s) 0 d (Probes (restored (configuration_of s) d)) grip.slip } } else record { task = None; next = hub_state_of s }) out.may
 
-    state : state_of after ≡ record { configuration = after_take_probe (configuration_of s) d; carried = carrying (state_of s) 0 d (Probes (restored (configuration_of s) d)) grip.slip }
+    state : hub_state_of after ≡ record { configuration = after_take_probe (configuration_of s) d; carried = carrying (hub_state_of s) 0 d (Probes (restored (configuration_of s) d)) grip.slip }
     state =
         let configuration = probe_configuration h t d value known grip out within in
-        let carried = gone_carries s 0 d (left_of h d) h.moment (ForProbe value) grip.slip (Probe value) refl (slice_get_within h.away.gate.places d (Home grip.device) out.sent.at) ∙ ap (λ v. carrying (state_of s) 0 d (Probes v) grip.slip) out.value_is in
+        let carried = gone_carries s 0 d (left_of h d) h.moment (ForProbe value) grip.slip (Probe value) refl (slice_get_within h.away.gate.places d (Home grip.device) out.sent.at) ∙ ap (λ v. carrying (hub_state_of s) 0 d (Probes v) grip.slip) out.value_is in
         λ i. record { configuration = configuration i; carried = carried i }

@@ -8,7 +8,7 @@ use Rattle.home_types.specs.declared.worlds.Stand.{Stand}
 use Rattle.hub_core.specs.Homes.{HomeIsKept}
 use Rattle.legal_days.proofs.Lists.{at_place}
 use Rattle.legal_days.specs.LegalDays.{AreLeftFrom, IsDeviceOf, one_more_where}
-use Rattle.legal_days.specs.ResumedDays.{AreResumed, IsDeviceResumed, IsStateResumed, has_died, resumed_day}
+use Rattle.legal_days.specs.ResumedDays.{AreResumed, IsDeviceResumed, IsStateResumed, has_died_resuming, resumed_day}
 use Rattle.routine_reader.specs.Rosters.{kinds_of}
 use Rattle.routine_reader.specs.Scripts.{plain_device, plain_script}
 use Rattle.routine_reader.specs.Sound.{IsSound}
@@ -85,7 +85,7 @@ module _ {D : Type 0} (tag : D → ℕ) (plan : D → Option (List (ℕ × ℕ))
         subst (λ t. IsDeviceOf tag plan t d device) its is.2.own;
     stand = λ d device at up. let is = of_number d device at in is.2.stand up;
     turns_are = λ d device at. let is = of_number d device at in is.2.turns_are ∙ counted_once (stand_at now d).up;
-    faults_are = λ d device at. let is = of_number d device at in is.2.faults_are ∙ counted_once (has_died (stand_at before d) (stand_at now d));
+    faults_are = λ d device at. let is = of_number d device at in is.2.faults_are ∙ counted_once (has_died_resuming (stand_at before d) (stand_at now d));
   }
 
   pub never_probed : (d : ℕ) (device : D) → slice_get devices d ≡ Some device → probes device ≡ 0
@@ -105,6 +105,6 @@ module _ {D : Type 0} (tag : D → ℕ) (plan : D → Option (List (ℕ × ℕ))
     counts = λ d device at. let is = of_number d device at in record {
       few_turns = low_once (stand_at now d).up (turns device) is.2.turns_are;
       few_probes = let none = is.2.no_probes in omega (arith, none);
-      few_faults = low_once (has_died (stand_at before d) (stand_at now d)) (faults device) is.2.faults_are;
+      few_faults = low_once (has_died_resuming (stand_at before d) (stand_at now d)) (faults device) is.2.faults_are;
     };
   }

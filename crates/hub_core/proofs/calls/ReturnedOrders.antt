@@ -31,7 +31,7 @@ use Rattle.hub_core.proofs.steps.Gives.{told_access}
 use Rattle.hub_core.specs.HubsKept.{IsWhole, open_of}
 use Rattle.hub_core.specs.KeptOrders.{OrderIsBeside}
 use Rattle.window_order.specs.KeptOrders.{MayNote, is_first, noted_first}
-use Rattle.hub_core.specs.OpenHubs.{configuration_of, device_at, held_in}
+use Rattle.hub_core.specs.OpenHubs.{configuration_of, held_in, progress_at}
 use Rattle.hub_core.specs.ReadHistories.{HistoryState, read_in, with_doom, with_entry}
 use Rattle.hub_core.specs.declared.open_windows.OpenWindow.TheInside.{Inside}
 use Rattle.window_order.specs.declared.kept_orders.KeptOrder.{KeptOrder}
@@ -126,7 +126,7 @@ order_told {rounds = rounds} h h₁ h₂ g f d r k a cause mid after between lat
 
 -- what line and table note of a command that came back: what it tells of its device, and then the doom of its run where there is a cause
 pub record IsNoted {D : Type 0} (h t : Inside D) (grip : Gripped D Done) (value : ℕ) (slip : Slip) (a : Answer) (cause : Option Cause) (mid : HistoryState) (view : View) (wrote : Option ℕ) (last : Bool) (between : KeptOrder) : Type 0 where
-  pub value_is : value ≡ held_after grip.stage.told grip.task (device_at h.away.known.items grip.slip.device.0).held
+  pub value_is : value ≡ held_after grip.stage.told grip.task (progress_at h.away.known.items grip.slip.device.0).held
   pub view_is : view ≡ view_when (is_told a)
   pub wrote_is : wrote ≡ (if is_fine a then Some value else None)
   pub last_is : last ≡ (is_doomed (read_in mid) slip.maker || not (pends mid.setting (read_in mid) slip.maker slip.device.0))
@@ -150,7 +150,7 @@ order_came {D = D} h t value k tag grip slip a cause mid view wrote last between
     (λ strong. order_answered h.history mid (configuration_of (open_of h)).grips (configuration_of (open_of t)).grips (held_in (open_of h)) d r k a view wrote last h.order.line between.line h.order.table between.table
     access (read_whole h whole) strong (whole.shown.configuration.ordered strong).order for.grip below new gripped (record {
       view_is = noted.view_is;
-      wrote_is = noted.wrote_is ∙ wrote_is w n r (command_at w.runs r k) a grip.task value (device_at h.away.known.items d).held suited for.does (noted.value_is ∙ ap (λ b. if b then (device_at h.away.known.items d).held else value_after grip.task (device_at h.away.known.items d).held) answered.lives);
+      wrote_is = noted.wrote_is ∙ wrote_is w n r (command_at w.runs r k) a grip.task value (progress_at h.away.known.items d).held suited for.does (noted.value_is ∙ ap (λ b. if b then (progress_at h.away.known.items d).held else value_after grip.task (progress_at h.away.known.items d).held) answered.lives);
       last_is = noted.last_is ∙ (λ i. is_doomed (read_in (new i)) (answered.same i).maker || not (pends (new i).setting (read_in (new i)) (answered.same i).maker (answered.same i).device.0)) ∙ ap (λ x. is_doomed x r || not (pends w x r d)) (read_more w h.history.history r (Did (run_no r) k a)) ∙ done_after w n r k a d for.next for.on;
     }) noted.line (subst (λ (z : Slip). between.table ≡ with_lineage h.order.table z.device.0 (noted_first z.maker (is_first z.maker (lineage_at h.order.table z.device.0)) view wrote last)) answered.same (noted.table strong)) whole.order))
   where

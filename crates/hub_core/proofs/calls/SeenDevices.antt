@@ -3,8 +3,8 @@ use Rattle.command_rules.specs.Items.{of_run}
 use Rattle.command_rules.specs.Rosters.{command_at, commands_of, is_on, no_command}
 use Rattle.device_order.specs.LineEntries.{stage_of, usage}
 use Rattle.device_order.specs.LineWords.{CutAt}
-use Rattle.device_order.specs.RunStates.{uses as uses_device}
-use Rattle.device_order.specs.Usages.{is_open as stage_is_open}
+use Rattle.device_order.specs.RunStates.{uses_device}
+use Rattle.device_order.specs.Usages.{stage_is_open}
 use Rattle.history_book.specs.Readings.{Reading, is_doomed, is_live, next_of, pends, sees_down, view_of}
 use Rattle.history_book.specs.Settings.{Setting, is_device, is_weak}
 use Rattle.home_types.specs.declared.commands.Command.{Command}

@@ -26,7 +26,7 @@ use Rattle.hub_core.specs.Bounds.{most_items}
 use Rattle.hub_core.specs.HubsKept.{IsWhole, open_of}
 use Rattle.hub_core.proofs.kept.SealedOrders.{table_unsealed}
 use Rattle.hub_core.specs.KeptOrders.{MayTurn}
-use Rattle.hub_core.specs.OpenHubs.{configuration_of, device_at, events_in, held_in}
+use Rattle.hub_core.specs.OpenHubs.{configuration_of, events_in, held_in, progress_at}
 use Rattle.window_order.specs.KeptOrders.{purpose_of}
 use Rattle.hub_core.specs.ReadHistories.{read_in}
 use Rattle.hub_core.specs.declared.open_windows.OpenWindow.TheInside.{Inside}
@@ -83,7 +83,7 @@ turn_room h why tag grip e es tells longer k = (
 
 -- what is counted then, where it died that was counted up, or answered that was counted down
 turned_to : {D : Type 0} {stands turns probes faults : D → ℕ} (h : Inside D) (why : KeptPurpose) (tag : ℕ) (grip : Gripped D Done) (events : Events) (up died : Bool) → IsReturned stands turns probes faults h why tag grip → is_up_for (purpose_of why) ≡ up → has_died grip.stage.told ≡ died
-    → events ≡ events_after grip.task grip.stage.told (device_at h.away.known.items grip.slip.device.0).events → IsWhole stands turns probes faults h → events ≡ turned up died (events_in (read_in h.history) grip.slip.device.0)
+    → events ≡ events_after grip.task grip.stage.told (progress_at h.away.known.items grip.slip.device.0).events → IsWhole stands turns probes faults h → events ≡ turned up died (events_in (read_in h.history) grip.slip.device.0)
 turned_to h why tag grip events up died returned up_is died_is events_are k =
     let for = returned_for h why tag grip returned k in
     events_are ∙ (λ i. turned ((for.up ∙ up_is) i) (died_is i) (k.shown.events grip.slip.device.0 for.below i))
@@ -93,7 +93,7 @@ pub record Falls {D : Type 0} (h : Inside D) (why : KeptPurpose) (grip : Gripped
   pub same : sl ≡ grip.slip
   pub up : is_up_for (purpose_of why) ≡ true
   pub died : has_died grip.stage.told ≡ true
-  pub events_are : events ≡ events_after grip.task grip.stage.told (device_at h.away.known.items grip.slip.device.0).events
+  pub events_are : events ≡ events_after grip.task grip.stage.told (progress_at h.away.known.items grip.slip.device.0).events
 
 pub fallen_number : {D : Type 0} {stands turns probes faults : D → ℕ} (h : Inside D) (why : KeptPurpose) (tag : ℕ) (grip : Gripped D Done) (sl : Slip) (events : Events) → IsReturned stands turns probes faults h why tag grip → Falls h why grip sl events → IsWhole stands turns probes faults h → events.fell ≡ (read_in h.history).fell grip.slip.device.0 + 1
 fallen_number h why tag grip sl events returned falls k = ap (λ (e : Events). e.fell) (turned_to h why tag grip events true true returned falls.up falls.died falls.events_are k)
@@ -103,7 +103,7 @@ pub record Rises {D : Type 0} (h : Inside D) (why : KeptPurpose) (grip : Gripped
   pub same : sl ≡ grip.slip
   pub down : is_up_for (purpose_of why) ≡ false
   pub lives : has_died grip.stage.told ≡ false
-  pub events_are : events ≡ events_after grip.task grip.stage.told (device_at h.away.known.items grip.slip.device.0).events
+  pub events_are : events ≡ events_after grip.task grip.stage.told (progress_at h.away.known.items grip.slip.device.0).events
 
 pub risen_number : {D : Type 0} {stands turns probes faults : D → ℕ} (h : Inside D) (why : KeptPurpose) (tag : ℕ) (grip : Gripped D Done) (sl : Slip) (events : Events) → IsReturned stands turns probes faults h why tag grip → Rises h why grip sl events → IsWhole stands turns probes faults h → events.rose ≡ (read_in h.history).rose grip.slip.device.0 + 1
 risen_number h why tag grip sl events returned rises k = ap (λ (e : Events). e.rose) (turned_to h why tag grip events false false returned rises.down rises.lives rises.events_are k)

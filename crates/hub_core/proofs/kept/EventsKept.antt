@@ -12,7 +12,7 @@ use Rattle.home_types.specs.declared.items.Item.{Item}
 use Rattle.hub_core.proofs.kept.Followed.{followed_step}
 use Rattle.hub_core.proofs.kept.HistoryKept.{AreFewer, MayAdd, first_less, turn_less}
 use Rattle.hub_core.proofs.kept.LineOrder.{same_order}
-use Rattle.hub_core.specs.HubKept.{ActsInTurn, HistoryIsKept, is_later, placed_in_order}
+use Rattle.hub_core.specs.HubKept.{ActsInTurn, HistoryIsKept, is_placed_later, placed_in_order}
 use Rattle.lock_leasing.specs.Configurations.{Configuration, Grips, read_of}
 use Rattle.lock_leasing.specs.Words.{live_runs, stamp_of}
 use Rattle.std.proofs.Common.{ap, cond, refl, sym, ◌∙◌}
@@ -26,17 +26,17 @@ use Rattle.window_order.proofs.EventPlaces.{awaits_there}
 -- the item is no run, and so none of the words on the runs of a line tells of it
 pub record IsEvent (n : Reading) (x : Item) : Type 0 where
   pub none : (q : ℕ) → is_ran q x ≡ false
-  pub later : (stamp : ℕ) → is_later n stamp x ≡ true
+  pub later : (stamp : ℕ) → is_placed_later n stamp x ≡ true
   pub order : (is : List Item) → placed_in_order n (x ∷ is) ≡ placed_in_order n is
   pub live : (is : List Item) → live_runs n (x ∷ is) ≡ live_runs n is
 
-later_with : (n : Reading) (stamp : ℕ) (t : Item → Bool) (x : Item) (line : List Item) → is_later n stamp x ≡ true → list_all (is_later n stamp) (put_before t x line) ≡ list_all (is_later n stamp) line
+later_with : (n : Reading) (stamp : ℕ) (t : Item → Bool) (x : Item) (line : List Item) → is_placed_later n stamp x ≡ true → list_all (is_placed_later n stamp) (put_before t x line) ≡ list_all (is_placed_later n stamp) line
 later_with n stamp t x [] later = ap (λ b. b && true) later
 later_with n stamp t x (i ∷ is) later = by_test (t i) (later_with n stamp t x is later)
   where
-    by_test : (b : Bool) → list_all (is_later n stamp) (put_before t x is) ≡ list_all (is_later n stamp) is → list_all (is_later n stamp) (if b then x ∷ i ∷ is else i ∷ put_before t x is) ≡ list_all (is_later n stamp) (i ∷ is)
-    by_test true rest = ap (λ b. b && list_all (is_later n stamp) (i ∷ is)) later
-    by_test false rest = ap (λ b. is_later n stamp i && b) rest
+    by_test : (b : Bool) → list_all (is_placed_later n stamp) (put_before t x is) ≡ list_all (is_placed_later n stamp) is → list_all (is_placed_later n stamp) (if b then x ∷ i ∷ is else i ∷ put_before t x is) ≡ list_all (is_placed_later n stamp) (i ∷ is)
+    by_test true rest = ap (λ b. b && list_all (is_placed_later n stamp) (i ∷ is)) later
+    by_test false rest = ap (λ b. is_placed_later n stamp i && b) rest
 
 -- they stand in the order of their placings as before
 order_with : (n : Reading) (t : Item → Bool) (x : Item) (line : List Item) → IsEvent n x → placed_in_order n (put_before t x line) ≡ placed_in_order n line

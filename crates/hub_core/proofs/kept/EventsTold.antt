@@ -39,7 +39,7 @@ use Rattle.window_order.proofs.ReadFacts.{IsRead}
 use Rattle.window_order.proofs.Runs.{live_run, three}
 use Rattle.window_order.proofs.TouchedLines.{live_stands, run_stands}
 use Rattle.window_order.proofs.TurnedLines.{event_before, event_last, event_place_of}
-use Rattle.window_order.specs.LostRuns.{first_waiting, is_lost, waits}
+use Rattle.window_order.specs.LostRuns.{first_waiting_run, is_access_waiting, is_lost_access}
 use Rattle.window_order.specs.MarksKept.{MarksAreKept}
 use Rattle.window_order.specs.OrderKept.{OrderIsKept}
 use Rattle.window_order.specs.TableKept.{LineageIsKept, access_read, commits_write}
@@ -70,18 +70,18 @@ line_size n g marks lines = sym (length-map marks (λ (x : Mark). x.item)) ∙ a
 -- the event of the device stands where the definition puts it
 pub event_told : (w : Setting) (n : Reading) (g : Grips) (held : ℕ → ℕ) (d : ℕ) (h : List Kept) (s : LineageState) (marks : List Mark) → IsRead w n → is_weak w.mode ≡ false → is_device w d ≡ true → OrderIsKept w n g held → LineageIsKept w n g d s → MarksAreKept n g marks
     → ((r : ℕ) → is_none (doom_of h r) ≡ not (is_doomed n r)) → event_place h None s.accesses marks ≡ event_place_of w n d
-event_told w n g held d h s marks read strong device order own lines sound = ap (λ o. place_or_end (option_map (λ (x : Access). x.run) o) marks) same_found ∙ by_found (find (waits (is_doomed n)) s.accesses) refl
+event_told w n g held d h s marks read strong device order own lines sound = ap (λ o. place_or_end (option_map (λ (x : Access). x.run) o) marks) same_found ∙ by_found (find (is_access_waiting (is_doomed n)) s.accesses) refl
   where
     unnamed : (a b : Bool) → ((a || false) && b) ≡ (a && b)
     unnamed a b = grind (arith, common_steps)
 
-    same_found : find (waits_by h None) s.accesses ≡ find (waits (is_doomed n)) s.accesses
+    same_found : find (waits_by h None) s.accesses ≡ find (is_access_waiting (is_doomed n)) s.accesses
     same_found = λ i. find (λ (x : Access). (unnamed (is_scheduled x.status) (is_sound h x) ∙ ap (λ b. is_scheduled x.status && b) (sound x.run.0)) i) s.accesses
 
-    awaited : find (awaits_there w n d) (live_runs n n.line) ≡ first_waiting (is_doomed n) s
+    awaited : find (awaits_there w n d) (live_runs n n.line) ≡ first_waiting_run (is_doomed n) s
     awaited = waiting_read w n g held d s read strong device order own
 
-    by_found : (o : Option Access) → find (waits (is_doomed n)) s.accesses ≡ o → place_or_end (option_map (λ (x : Access). x.run) o) marks ≡ event_place_of w n d
+    by_found : (o : Option Access) → find (is_access_waiting (is_doomed n)) s.accesses ≡ o → place_or_end (option_map (λ (x : Access). x.run) o) marks ≡ event_place_of w n d
     by_found None e = line_size n g marks lines ∙ sym (event_last w n d (awaited ∙ ap (option_map (λ (x : Access). x.run.0)) e))
     by_found (Some x) e =
         let first : find (awaits_there w n d) (live_runs n n.line) ≡ Some x.run.0 = awaited ∙ ap (option_map (λ (y : Access). y.run.0)) e in
@@ -106,7 +106,7 @@ pub lost_told : (w : Setting) (n : Reading) (g : Grips) (held : ℕ → ℕ) (d 
     → ((r : ℕ) → is_none (doom_of h r) ≡ not (is_doomed n r)) → option_map (λ r. r.0) (lost_run h s.accesses) ≡ lost_by w n d
 lost_told w n g held d h s read strong device free order own sound =
     ap (option_map (λ (r : RunNo). r.0)) (lost_acquired h s.accesses none ∙ ap (option_map (λ (x : Access). x.run)) (λ i. find (λ (x : Access). is_acquired x.status && seen x.view i) s.accesses))
-    ∙ number (find is_lost s.accesses) ∙ sym (lost_read w n g held d s read strong device free order own)
+    ∙ number (find is_lost_access s.accesses) ∙ sym (lost_read w n g held d s read strong device free order own)
   where
     number : (o : Option Access) → option_map (λ (r : RunNo). r.0) (option_map (λ (x : Access). x.run) o) ≡ option_map (λ x. x.run.0) o
     number None = refl

@@ -19,7 +19,7 @@ use Rattle.home_types.specs.declared.modes.Visibility.{Visibility}
 use Rattle.home_types.specs.declared.modes.Visibility.TheVariants.{Eventual, Global, Partitioned, Weak}
 use Rattle.home_types.specs.declared.worlds.Stand.{Stand}
 use Rattle.hub_core.proofs.windows.StrongChoices.{placed_after}
-use Rattle.hub_core.specs.HubKept.{is_later, placed_in_order}
+use Rattle.hub_core.specs.HubKept.{is_placed_later, placed_in_order}
 use Rattle.legal_days.specs.Isolation.{is_alone, is_placed_before}
 use Rattle.lock_leasing.specs.Waits.{strict_wait}
 use Rattle.lock_leasing.specs.Words.{live_before, live_runs, stamp_of}
@@ -74,7 +74,7 @@ pub same_order : (n m : Reading) (line : List Item) → ((q : ℕ) → stamp_of 
 same_order n m [] same = refl
 same_order n m (Ran r ∷ is) same = rw (same_order n m is same, same r.0, same_later is) refl
   where
-    same_later : (line : List Item) → list_all (is_later m (stamp_of n r.0)) line ≡ list_all (is_later n (stamp_of n r.0)) line
+    same_later : (line : List Item) → list_all (is_placed_later m (stamp_of n r.0)) line ≡ list_all (is_placed_later n (stamp_of n r.0)) line
     same_later [] = refl
     same_later (Ran q ∷ rest) = rw (same q.0, same_later rest) refl
     same_later (Failed d k ∷ rest) = same_later rest
@@ -102,15 +102,15 @@ order_at_end n m r [] same below ordered = refl
 order_at_end n m r (Ran x ∷ is) same below ordered =
     let here : (x.0 ≢ r) × (nat_lt (stamp_of m x.0) (stamp_of m r) ≡ true) = below x.0 (grind (arith, common_steps)) in
     let rest : IsTrue (placed_in_order m (is ++ Ran (run_no r) ∷ [])) = order_at_end n m r is same (λ q there. below q (rw there (grind (arith, common_steps)))) (grind (arith, common_steps)) in
-    let behind' : IsTrue (list_all (is_later m (stamp_of m x.0)) (is ++ Ran (run_no r) ∷ [])) = later_more is (λ q there. below q (rw there (grind (arith, common_steps)))) (same x.0 here.0) here.1 (grind (arith, common_steps)) in
+    let behind' : IsTrue (list_all (is_placed_later m (stamp_of m x.0)) (is ++ Ran (run_no r) ∷ [])) = later_more is (λ q there. below q (rw there (grind (arith, common_steps)))) (same x.0 here.0) here.1 (grind (arith, common_steps)) in
     rw (rest, behind') refl
   where
     later_more : (line : List Item) → ((q : ℕ) → list_any (is_ran q) line ≡ true → (q ≢ r) × (nat_lt (stamp_of m q) (stamp_of m r) ≡ true)) → stamp_of m x.0 ≡ stamp_of n x.0 → nat_lt (stamp_of m x.0) (stamp_of m r) ≡ true
-        → IsTrue (list_all (is_later n (stamp_of n x.0)) line) → IsTrue (list_all (is_later m (stamp_of m x.0)) (line ++ Ran (run_no r) ∷ []))
+        → IsTrue (list_all (is_placed_later n (stamp_of n x.0)) line) → IsTrue (list_all (is_placed_later m (stamp_of m x.0)) (line ++ Ran (run_no r) ∷ []))
     later_more [] under own last all = rw last refl
     later_more (Ran q ∷ rest) under own last all =
         let now : stamp_of m q.0 ≡ stamp_of n q.0 = same q.0 ((under q.0 (grind (arith, common_steps))).0) in
-        let more : IsTrue (list_all (is_later m (stamp_of m x.0)) (rest ++ Ran (run_no r) ∷ [])) = later_more rest (λ k there. under k (rw there (grind (arith, common_steps)))) own last (grind (arith, common_steps)) in
+        let more : IsTrue (list_all (is_placed_later m (stamp_of m x.0)) (rest ++ Ran (run_no r) ∷ [])) = later_more rest (λ k there. under k (rw there (grind (arith, common_steps)))) own last (grind (arith, common_steps)) in
         rw (more, own, now) (grind (arith, common_steps))
     later_more (Failed d k ∷ rest) under own last all = later_more rest under own last all
     later_more (Back d k ∷ rest) under own last all = later_more rest under own last all
@@ -269,11 +269,11 @@ live_without n r (Back d k ∷ is) gone = live_without n r is gone
 pub live_before_without : (n m : Reading) (r q : ℕ) → m.line ≡ without r n.line → is_live m r ≡ false → q ≢ r → live_before m q ≡ live_runs m (before q n.line)
 live_before_without n m r q line gone other = ap (λ l. live_runs m (before q l)) line ∙ ap (live_runs m) (before_without r q n.line other) ∙ live_without m r (before q n.line) gone
 
-later_without : (n : Reading) (r stamp : ℕ) (line : List Item) → IsTrue (list_all (is_later n stamp) line) → IsTrue (list_all (is_later n stamp) (without r line))
+later_without : (n : Reading) (r stamp : ℕ) (line : List Item) → IsTrue (list_all (is_placed_later n stamp) line) → IsTrue (list_all (is_placed_later n stamp) (without r line))
 later_without n r stamp [] later = refl
-later_without n r stamp (i ∷ is) later = elim (is_ran r i) as (λ b. IsTrue (list_all (is_later n stamp) (cond (not b) (i ∷ without r is) (without r is)))) [
+later_without n r stamp (i ∷ is) later = elim (is_ran r i) as (λ b. IsTrue (list_all (is_placed_later n stamp) (cond (not b) (i ∷ without r is) (without r is)))) [
   | true ↦ later_without n r stamp is (grind (arith, common_steps))
-  | false ↦ (let here : is_later n stamp i ≡ true = grind (arith, common_steps) in rw (here, later_without n r stamp is (grind (arith, common_steps))) refl)
+  | false ↦ (let here : is_placed_later n stamp i ≡ true = grind (arith, common_steps) in rw (here, later_without n r stamp is (grind (arith, common_steps))) refl)
 ]
 
 -- the runs that stay stand in the order of their placings

@@ -2,7 +2,7 @@
 use Rattle.command_rules.specs.Items.{is_ran}
 use Rattle.command_rules.specs.Rosters.{command_at, device_no, is_run, run_no, touches_from}
 use Rattle.device_order.specs.LineWords.{CutAt}
-use Rattle.device_order.specs.Usages.{is_command as holds_command}
+use Rattle.device_order.specs.Usages.{holds_command}
 use Rattle.history_book.proofs.Standing.{stands_in}
 use Rattle.history_book.proofs.Snoc.{along_on, each_at, entries_on, put_same, reading_more}
 use Rattle.history_book.specs.Histories.{entries_of, entry, kept_by, reading}
@@ -29,11 +29,11 @@ use Rattle.window_order.specs.KeptOrders.{IsSealed, IsUnreleased, MayNote, is_fi
 use Rattle.hub_core.specs.ReadHistories.{HistoryState, read_in, with_doom, with_entry}
 use Rattle.legal_days.proofs.Lists.{count_cons}
 use Rattle.lineage_table.specs.Accesses.{is_scheduled, status_of}
-use Rattle.lineage_table.specs.Lineages.{IsOpened, LineageState, committed_lineage, lineage_at, removed, undone, with_lineage}
+use Rattle.lineage_table.specs.Lineages.{LineageState, TableIsOpened, committed_lineage, lineage_at, removed, undone, with_lineage}
 use Rattle.lineage_table.specs.declared.accesses.Status.TheVariants.{Acquired, Scheduled}
 use Rattle.lock_leasing.specs.Configurations.{Commands, Grip, Grips, Purpose, Undoes, grips_command, is_command, no_grips}
 use Rattle.serial_line.specs.KeptRuns.{AreKeptOf}
-use Rattle.serial_line.specs.Marks.{Mark, Marked, front_of, items_of, settling, touching, untouched, with_end, with_item, with_touch, without}
+use Rattle.serial_line.specs.Marks.{Mark, Marked, front_of, items_of, marks_without, settling, touching, untouched, with_end, with_item, with_touch}
 use Rattle.std.proofs.Common.{ap, arith, cond, length-append, refl, subst, sym, ◌∙◌}
 use Rattle.hub_core.proofs.kept.Arranged.{as_they_stand, long_arranged, marks_arranged, marks_for, marks_joined}
 use Rattle.hub_core.proofs.kept.SealedOrders.{placed_sealed, same_sealed, sealed_is, touched_sealed}
@@ -82,7 +82,7 @@ entry_kept {rounds = rounds} h h₂ g maker e line table new kept =
 
 -- The start
 
-pub order_begins : (rounds : ℕ) (w : Setting) (line : Marked) (table : List LineageState) → line.marks ≡ [] → line.sealed ≡ 0 → AreKeptOf w.runs line.runs → most_items (length w.runs) (length w.first) rounds ≤ line.spare → IsOpened w.runs w.first table → IsOrderOf rounds w (nothing_read w) no_grips line table
+pub order_begins : (rounds : ℕ) (w : Setting) (line : Marked) (table : List LineageState) → line.marks ≡ [] → line.sealed ≡ 0 → AreKeptOf w.runs line.runs → most_items (length w.runs) (length w.first) rounds ≤ line.spare → TableIsOpened w.runs w.first table → IsOrderOf rounds w (nothing_read w) no_grips line table
 order_begins rounds w line table none none_sealed runs room opened = record {
   table_is = record {
     devices = opened.devices;
@@ -499,17 +499,17 @@ order_dropped {rounds = rounds} h h₂ g r d line after table later read below n
 -- A run is aborted
 
 -- without the run so many items are left
-length_without : (r : ℕ) (marks : List Mark) → length marks ≡ length (without r marks) + count_by (is_ran r) (items_of marks)
+length_without : (r : ℕ) (marks : List Mark) → length marks ≡ length (marks_without r marks) + count_by (is_ran r) (items_of marks)
 length_without r [] = refl
 length_without r (m ∷ marks) = at_ (length_without r marks) (is_ran r m.item) (count_cons (is_ran r) m.item (items_of marks))
   where
-    at_ : length marks ≡ length (without r marks) + count_by (is_ran r) (items_of marks) → (b : Bool) → count_by (is_ran r) (items_of (m ∷ marks)) ≡ cond b 1 0 + count_by (is_ran r) (items_of marks)
-        → length (m ∷ marks) ≡ length (cond (not b) (m ∷ without r marks) (without r marks)) + count_by (is_ran r) (items_of (m ∷ marks))
+    at_ : length marks ≡ length (marks_without r marks) + count_by (is_ran r) (items_of marks) → (b : Bool) → count_by (is_ran r) (items_of (m ∷ marks)) ≡ cond b 1 0 + count_by (is_ran r) (items_of marks)
+        → length (m ∷ marks) ≡ length (cond (not b) (m ∷ marks_without r marks) (marks_without r marks)) + count_by (is_ran r) (items_of (m ∷ marks))
     at_ ih true counted = omega (arith, ih, counted)
     at_ ih false counted = omega (arith, ih, counted)
 
 pub order_aborted : {rounds : ℕ} (h h₂ : HistoryState) (g : Grips) (r : ℕ) (cause : Cause) (line after : Marked) (table later : List LineageState) → IsRead h.setting (read_in h) → h₂ ≡ with_entry h r (Ended (run_no r) (Aborted cause)) → IsWellFormed h₂.setting (entries_of h₂.history)
-    → after.marks ≡ without r line.marks → after.spare ≡ line.spare + 1 → after.runs ≡ line.runs → IsSealed after → ChangesEach (λ d. removed r) table later → OrderIsBeside rounds h g line table → OrderIsBeside rounds h₂ g after later
+    → after.marks ≡ marks_without r line.marks → after.spare ≡ line.spare + 1 → after.runs ≡ line.runs → IsSealed after → ChangesEach (λ d. removed r) table later → OrderIsBeside rounds h g line table → OrderIsBeside rounds h₂ g after later
 order_aborted {rounds = rounds} h h₂ g r cause line after table later read new formed marks spare runs sealed changes kept = entry_kept h h₂ g r (Ended (run_no r) (Aborted cause)) after later new (record {
   table_is = fits_changed w n _ g g (λ d. removed r) table later (λ d. refl) (λ d. removed_bare r) changes (λ own. aborted_table w n g r cause table later read may changes own) kept.table_is;
   line_is = subst (MarksAreKept (entry w n (Ended (run_no r) (Aborted cause))) g) (sym marks) (marks_aborted w n g r cause line.marks kept.line_is);

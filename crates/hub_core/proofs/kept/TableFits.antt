@@ -10,7 +10,7 @@ use Rattle.lineage_table.specs.Lineages.{LineageState, accesses_at, committed_li
 use Rattle.lock_leasing.specs.Configurations.{Grips}
 use Rattle.std.proofs.Common.{ap, refl, subst, sym, ◌∙◌}
 use Rattle.std.specs.Prelude.{Bool, List, Option, [], false, if◌then◌else◌, length, true, ℕ, ◌<◌, ◌==◌, ◌≡◌}
-use Rattle.window_order.specs.TableChanges.{ChangesEach, doomed_lineage, doomed_unless, is_device, undone_change}
+use Rattle.window_order.specs.TableChanges.{ChangesEach, doomed_lineage, doomed_unless, is_named_device, undone_change}
 use Rattle.window_order.specs.TableKept.{TableIsKept}
 
 -- Bare lineages
@@ -39,7 +39,7 @@ pub doomed_bare : (r : ℕ) → KeepsBare (doomed_lineage r)
 doomed_bare r = record { none = λ s. refl; up = λ s. refl }
 
 pub unless_bare : (out : Option DeviceNo) (r d : ℕ) → KeepsBare (doomed_unless out r d)
-unless_bare out r d = by_test (is_device out d)
+unless_bare out r d = by_test (is_named_device out d)
   where
     by_test : (b : Bool) → KeepsBare (λ s. if b then s else doomed_lineage r s)
     by_test true = record { none = λ s. refl; up = λ s. refl }

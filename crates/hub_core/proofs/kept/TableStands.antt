@@ -7,7 +7,7 @@ use Rattle.home_types.specs.HomeStates.{stand_at}
 use Rattle.home_types.specs.declared.items.Item.TheVariants.{Back, Failed, Ran}
 use Rattle.home_types.specs.declared.items.Item.{Item}
 use Rattle.home_types.specs.declared.numbers.RunNo.{RunNo}
-use Rattle.lineage_table.specs.Accesses.{standing_value as accesses_standing}
+use Rattle.lineage_table.specs.Accesses.{value_standing}
 use Rattle.lineage_table.specs.Lineages.{LineageState}
 use Rattle.lineage_table.specs.declared.accesses.Access.{Access}
 use Rattle.lock_leasing.proofs.AccessRuns.{EachTail}
@@ -75,7 +75,7 @@ module _ (w : Setting) (n : Reading) (g : Grips) (f : Facts w n g) (d : ℕ) (pa
   abbrev Follows : ℕ → List Item → Option Write → Option ℕ → ℕ → Type 0
   Follows c is best known value =
       unwrap_or (committed_from known is) (stand_at w.first d).value ≡ c → (list_any (of_run (commits_write n d)) is ≡ true → value ≡ c) → (list_any (of_run (commits_write n d)) is ≡ false → value ≡ value_in best)
-      → accesses_standing value (accesses_of is) ≡ value_in (fold (λ o x. option_or (write_of n g d x) o) best is)
+      → value_standing value (accesses_of is) ≡ value_in (fold (λ o x. option_or (write_of n g d x) o) best is)
 
   run_follows : (c : ℕ) (q : RunNo) (is : List Item) (best : Option Write) (known : Option ℕ) (value : ℕ) → (is_live n q.0 || is_committed n q.0) ≡ true → ((o : Option Write) (k : Option ℕ) (v : ℕ) → Follows c is o k v) → Follows c (Ran q ∷ is) best known value
   run_follows c q is best known value stays behind committed own none = by_tests (list_any (of_run (commits_write n d)) is) refl (commits_write n d q.0) refl (uses w n d q.0) refl
@@ -87,11 +87,11 @@ module _ (w : Setting) (n : Reading) (g : Grips) (f : Facts w n g) (d : ℕ) (pa
       later = option_or (committed_write n d (Ran q)) known
 
       -- behind it a committed run has written
-      covered : list_any (of_run (commits_write n d)) is ≡ true → accesses_standing value (accesses_of is) ≡ value_in (fold (λ o x. option_or (write_of n g d x) o) next is)
+      covered : list_any (of_run (commits_write n d)) is ≡ true → value_standing value (accesses_of is) ≡ value_in (fold (λ o x. option_or (write_of n g d x) o) next is)
       covered ea = behind next later value committed (λ e. own (or_right (commits_write n d q.0) (list_any (of_run (commits_write n d)) is) ea)) (λ e. absurd (both_ways (list_any (of_run (commits_write n d)) is) e ea))
 
       by_tests : (a : Bool) → list_any (of_run (commits_write n d)) is ≡ a → (b : Bool) → commits_write n d q.0 ≡ b → (u : Bool) → uses w n d q.0 ≡ u
-          → accesses_standing value (if u && not a then (access_read w n g passed d q.0 ∷ accesses_of is) else accesses_of is) ≡ value_in (fold (λ o x. option_or (write_of n g d x) o) next is)
+          → value_standing value (if u && not a then (access_read w n g passed d q.0 ∷ accesses_of is) else accesses_of is) ≡ value_in (fold (λ o x. option_or (write_of n g d x) o) next is)
       by_tests true ea b eb true eu = covered ea
       by_tests true ea b eb false eu = covered ea
       by_tests false ea true eb true eu = absurd (both_ways (is_committed n q.0) (live_uncommitted n q.0 (three (is_live n q.0) _ _ eu).0) (and_parts (is_committed n q.0) (is_some ((n.run q.0).on d).wrote) eb).0)
@@ -109,8 +109,8 @@ module _ (w : Setting) (n : Reading) (g : Grips) (f : Facts w n g) (d : ℕ) (pa
   along c (Ran q ∷ is) best known value stays committed own none = run_follows c q is best known value (stays.0 q.0 (eq-eqb q.0 _ refl)) (λ o k v. along c is o k v stays.1) committed own none
 
 -- the table tells the standing value
-pub stand_told : (w : Setting) (n : Reading) (g : Grips) (d : ℕ) (s : LineageState) → Facts w n g → is_weak w.mode ≡ false → LineageIsKept w n g d s → accesses_standing s.committed s.accesses ≡ standing_value w n g d
+pub stand_told : (w : Setting) (n : Reading) (g : Grips) (d : ℕ) (s : LineageState) → Facts w n g → is_weak w.mode ≡ false → LineageIsKept w n g d s → value_standing s.committed s.accesses ≡ standing_value w n g d
 stand_told w n g d s f strong own =
-    ap (accesses_standing s.committed) own.accesses
+    ap (value_standing s.committed) own.accesses
     ∙ along w n g f d own.passed s.committed n.line None None s.committed (all_stay w n g f d) (sym own.committed) (λ e. refl) (λ e. own.committed ∙ ap (λ o. unwrap_or o (stand_at w.first d).value) (none_committed w n g f d own.passed n.line None e))
     ∙ sym (ap (λ b. if b then n.last d else unwrap_or (option_map (λ e. e.value) (effective_write n g d)) (stand_at w.first d).value) strong)

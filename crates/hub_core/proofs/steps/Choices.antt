@@ -12,7 +12,7 @@ use Rattle.history_book.specs.declared.entries.End.{End}
 use Rattle.history_book.specs.declared.entries.End.TheVariants.{Committed}
 use Rattle.history_book.specs.declared.entries.Entry.TheVariants.{Arrived, Doomed, Ended, Placed, Undid}
 use Rattle.home_types.specs.declared.commands.Command.{Command}
-use Rattle.hub_core.specs.Steps.{Absent, Choice, HandsOut, Moves, Over, Waits, aborts, answers_down, busy_case, command_cases, decide, decide_answered, decide_arrived, decide_command, decide_doomed, down_case, down_entries, first_case, only_if, place_choice, skip_entries, strict_case, undo_cases, undo_on}
+use Rattle.hub_core.specs.Steps.{Absent, Choice, HandsOut, Moves, Over, Waits, aborts, answers_down, busy_case, command_cases, decide, decide_answered, decide_arrived, decide_command, decide_doomed, down_case, down_entries, first_case, only_if, place_choice, skip_entries, strict_case, undo_cases, undo_choice}
 use Rattle.hub_core.specs.declared.waits.Why.{Why}
 use Rattle.hub_core.specs.declared.waits.Why.TheVariants.{Behind, Busy, Denied, Dirty, Follow, Strict}
 use Rattle.lock_leasing.specs.Configurations.{Commands, Grips, Undoes, is_out}
@@ -137,10 +137,10 @@ doomed_is : (P : Choice → Type 0) (w : Setting) (n : Reading) (g : Grips) (r m
 doomed_is P w n g r m each cause act doomed = elim (is_weak w.mode) as (λ b. is_weak w.mode ≡ b → P (first_case (if b then [] else undo_cases w n g r) (aborts r cause))) [
   | true ↦ (λ weak. each.aborted cause act doomed (λ strong. absurd (let both : true ≡ false = sym weak ∙ strong in cc)))
   | false ↦ (λ strong. by_map P (λ d. Waits (Busy (device_no d))) (undo_wait w n g r) _ (λ d e. each.waits (Busy (device_no d)))
-      (λ none. by_map P (undo_on w n g r) (next_undo_of w n g r) (aborts r cause) (λ d at. undo strong none d at) (λ over. each.aborted cause act doomed (λ e. over))))
+      (λ none. by_map P (undo_choice w n g r) (next_undo_of w n g r) (aborts r cause) (λ d at. undo strong none d at) (λ over. each.aborted cause act doomed (λ e. over))))
 ] refl
   where
-    undo : is_weak w.mode ≡ false → undo_wait w n g r ≡ None → (d : ℕ) → next_undo_of w n g r ≡ Some d → P (undo_on w n g r d)
+    undo : is_weak w.mode ≡ false → undo_wait w n g r ≡ None → (d : ℕ) → next_undo_of w n g r ≡ Some d → P (undo_choice w n g r d)
     undo strong none d at = elim (n.up d) as (λ b. n.up d ≡ b → P (if b then HandsOut d (Undoes (value_without w n g r d)) else Moves (Undid (run_no r) (device_no d) false ∷ []))) [
       | true ↦ (λ up. each.undoes cause d undoing up)
       | false ↦ (λ down. each.drops cause d undoing down)

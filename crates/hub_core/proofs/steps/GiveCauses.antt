@@ -4,7 +4,7 @@ use Rattle.history_book.proofs.Logs.{Logged, span_more}
 use Rattle.history_book.proofs.Searches.{some_is}
 use Rattle.history_book.proofs.Snoc.{put_same}
 use Rattle.history_book.specs.Histories.{entry, more_if}
-use Rattle.history_book.specs.Readings.{Event, First, Last, Mark, Reading, did, is_access, is_doomed, is_fall, is_first, is_last, next_command, next_of, pends, sees_down, sees_up, span_of, view_of}
+use Rattle.history_book.specs.Readings.{Event, First, Last, LogMark, Reading, did, is_access, is_doomed, is_fall, is_first_mark, is_last_mark, next_command, next_of, pends, sees_down, sees_up, span_of, view_of}
 use Rattle.history_book.specs.Settings.{Setting, is_weak}
 use Rattle.history_book.specs.WellFormed.{along}
 use Rattle.history_book.specs.declared.entries.Cause.TheVariants.{Lost, MustDown, Refuted}
@@ -35,10 +35,10 @@ abbrev pub ShowsAll : Setting → Reading → List Entry → Type 0
 ShowsAll w n entries = IsTrue (along w (abort_is_justified w) n entries)
 
 -- a failure in the log behind the run's first answer, and before the answer to its last command, stands in the span
-fall_in_span : (r d k : ℕ) (marks more : List Mark) → list_any (is_first r) marks ≡ true → list_any (is_last r) marks ≡ false → list_any is_fall (span_of r (marks ++ Event (Failed (device_no d) k) ∷ more)) ≡ true
+fall_in_span : (r d k : ℕ) (marks more : List LogMark) → list_any (is_first_mark r) marks ≡ true → list_any (is_last_mark r) marks ≡ false → list_any is_fall (span_of r (marks ++ Event (Failed (device_no d) k) ∷ more)) ≡ true
 fall_in_span r d k marks more first last =
-    ap (list_any is_fall) (span_more r marks (Event (Failed (device_no d) k) ∷ more) first last ∙ ap (λ l. span_of r marks ++ l) (take_while-cons (λ x. not (is_last r x)) (Event (Failed (device_no d) k)) more))
-    ∙ list_any-append is_fall (span_of r marks) (Event (Failed (device_no d) k) ∷ take_while (λ x. not (is_last r x)) more) ∙ or-true (list_any is_fall (span_of r marks))
+    ap (list_any is_fall) (span_more r marks (Event (Failed (device_no d) k) ∷ more) first last ∙ ap (λ l. span_of r marks ++ l) (take_while-cons (λ x. not (is_last_mark r x)) (Event (Failed (device_no d) k)) more))
+    ∙ list_any-append is_fall (span_of r marks) (Event (Failed (device_no d) k) ∷ take_while (λ x. not (is_last_mark r x)) more) ∙ or-true (list_any is_fall (span_of r marks))
 
 sees_is : (v : Option Bool) → unwrap_or v false ≡ true → is_some v ≡ true
 sees_is None e = absurd (cc)
@@ -146,7 +146,7 @@ died_shows w n r log next unseen = elim (is_doomed n r) as (λ b. IsTrue (along 
     still_up : did n r c.device.0 ≡ true → sees_up later r c.device.0 ≡ true
     still_up met = ap (λ v. unwrap_or v false) view_now ∙ up_view (view_of n r c.device.0) met unseen
 
-    tail : List Mark
+    tail : List LogMark
     tail = if not (touches_from w.runs r c.device.0 (next_of n r + 1)) then Last r ∷ [] else []
 
     log_now : did n r c.device.0 ≡ true → later.log c.device.0 ≡ n.log c.device.0 ++ Event (Failed c.device (n.fell c.device.0 + 1)) ∷ tail

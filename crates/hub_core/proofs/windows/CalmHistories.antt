@@ -4,7 +4,7 @@ use Rattle.history_book.proofs.Searches.{each_found, own_devices}
 use Rattle.history_book.proofs.Shapes.{put_all}
 use Rattle.history_book.proofs.Snoc.{put_keeps}
 use Rattle.history_book.specs.Histories.{answered, entries_of, entry, is_fall_of, more_if, reading}
-use Rattle.history_book.specs.Readings.{First, Last, Event, Mark, OfRun, OnDevice, Reading, events_of, is_access, is_fall, is_last, next_command, nothing_read, put, same_answer, sees_down, sees_up, span_of, view_by}
+use Rattle.history_book.specs.Readings.{First, Last, Event, LogMark, OfRun, OnDevice, Reading, events_of, is_access, is_fall, is_last_mark, next_command, nothing_read, put, same_answer, sees_down, sees_up, span_of, view_by}
 use Rattle.history_book.specs.Settings.{Setting, devices_of, is_device, is_strict}
 use Rattle.history_book.specs.WellFormed.{IsWellFormed, along, each_entry, may_follow}
 use Rattle.history_book.specs.declared.entries.Cause.{Cause}
@@ -94,11 +94,11 @@ view_up kind c doomed register a o up = viewed o.view
     viewed None e = up
     viewed (Some b) e = e
 
-events_append : (xs ys : List Mark) → events_of (xs ++ ys) ≡ events_of xs ++ events_of ys
+events_append : (xs ys : List LogMark) → events_of (xs ++ ys) ≡ events_of xs ++ events_of ys
 events_append xs ys = filter_map-append _ xs ys
 
 -- an answer adds no event to a log
-no_event : (b : Bool) (m : Mark) (ms : List Mark) → events_of (m ∷ []) ≡ [] → events_of (more_if b m ms) ≡ events_of ms
+no_event : (b : Bool) (m : LogMark) (ms : List LogMark) → events_of (m ∷ []) ≡ [] → events_of (more_if b m ms) ≡ events_of ms
 no_event true m ms none = events_append ms (m ∷ []) ∙ ap (λ x. events_of ms ++ x) none ∙ append-nil (events_of ms)
 no_event false m ms none = refl
 
@@ -177,21 +177,21 @@ not_down (Skipped ∷ xs) (suc k) all = not_down xs k all
 not_down (Down ∷ xs) (suc k) all = absurd (cc)
 
 -- no failure stands in a run's span
-none_within : (r : ℕ) (marks : List Mark) → events_of marks ≡ [] → list_any is_fall (take_while (λ x. not (is_last r x)) marks) ≡ false
+none_within : (r : ℕ) (marks : List LogMark) → events_of marks ≡ [] → list_any is_fall (take_while (λ x. not (is_last_mark r x)) marks) ≡ false
 none_within r [] none = refl
-none_within r (First q ∷ ms) none = ap (list_any is_fall) (take_while-cons (λ x. not (is_last r x)) (First q) ms) ∙ none_within r ms none
+none_within r (First q ∷ ms) none = ap (list_any is_fall) (take_while-cons (λ x. not (is_last_mark r x)) (First q) ms) ∙ none_within r ms none
 none_within r (Event i ∷ ms) none = absurd (cc)
-none_within r (Last q ∷ ms) none = ap (list_any is_fall) (take_while-cons (λ x. not (is_last r x)) (Last q) ms) ∙ at_ (none_within r ms none) (q == r)
+none_within r (Last q ∷ ms) none = ap (list_any is_fall) (take_while-cons (λ x. not (is_last_mark r x)) (Last q) ms) ∙ at_ (none_within r ms none) (q == r)
   where
-    at_ : list_any is_fall (take_while (λ x. not (is_last r x)) ms) ≡ false → (b : Bool) → list_any is_fall (cond (not b) (Last q ∷ take_while (λ x. not (is_last r x)) ms) []) ≡ false
+    at_ : list_any is_fall (take_while (λ x. not (is_last_mark r x)) ms) ≡ false → (b : Bool) → list_any is_fall (cond (not b) (Last q ∷ take_while (λ x. not (is_last_mark r x)) ms) []) ≡ false
     at_ rest true = refl
     at_ rest false = rest
 
-none_in_span : (r : ℕ) (marks : List Mark) → events_of marks ≡ [] → list_any is_fall (span_of r marks) ≡ false
+none_in_span : (r : ℕ) (marks : List LogMark) → events_of marks ≡ [] → list_any is_fall (span_of r marks) ≡ false
 none_in_span r [] none = refl
 none_in_span r (First q ∷ ms) none = at_ (none_within r ms none) (none_in_span r ms none) (q == r)
   where
-    at_ : list_any is_fall (take_while (λ x. not (is_last r x)) ms) ≡ false → list_any is_fall (span_of r ms) ≡ false → (b : Bool) → list_any is_fall (if b then take_while (λ x. not (is_last r x)) ms else span_of r ms) ≡ false
+    at_ : list_any is_fall (take_while (λ x. not (is_last_mark r x)) ms) ≡ false → list_any is_fall (span_of r ms) ≡ false → (b : Bool) → list_any is_fall (if b then take_while (λ x. not (is_last_mark r x)) ms else span_of r ms) ≡ false
     at_ within rest true = within
     at_ within rest false = rest
 none_in_span r (Event i ∷ ms) none = absurd (cc)

@@ -39,7 +39,7 @@ use Rattle.legal_days.specs.Orders.{IsOrderFor}
 use Rattle.hub_core.specs.MustChecks.{has_must_check, is_check, is_must_check}
 use Rattle.hub_core.specs.Steps.{not_quiet}
 use Rattle.hub_core.specs.declared.refusals.NotQuiet.TheVariants.{StillLive, StillOut}
-use Rattle.lineage_table.specs.Accesses.{standing_value as accesses_standing}
+use Rattle.lineage_table.specs.Accesses.{value_standing}
 use Rattle.lineage_table.specs.Lineages.{LineageState, lineage_at, no_lineage}
 use Rattle.lineage_table.specs.declared.accesses.Access.{Access}
 use Rattle.lock_leasing.specs.Configurations.{Configuration, Grip, is_out, read_of}
@@ -202,8 +202,8 @@ table_leaves s rounds opened held table last kept quiet fits are =
     left d within =
         let lineage = fits.each d within in
         let none : accesses_read w n s.grips lineage.passed d n.line ≡ [] = none_along (uses w n d) (commits_write n d) (access_read w n s.grips lineage.passed d) n.line (λ r. ap (λ b. b && touches w.runs r d && not (passed_by w n r d)) (over r)) in
-        let stands : accesses_standing (lineage_at table d).committed (lineage_at table d).accesses ≡ standing_value w n s.grips d =
-        ap (accesses_standing (lineage_at table d).committed) (lineage.accesses ∙ none) ∙ lineage.committed ∙ sym (standing_committed w n s.grips held d (read_facts w (entries_of s.history) kept.history.well_formed) kept.order kept.strong over) in
+        let stands : value_standing (lineage_at table d).committed (lineage_at table d).accesses ≡ standing_value w n s.grips d =
+        ap (value_standing (lineage_at table d).committed) (lineage.accesses ∙ none) ∙ lineage.committed ∙ sym (standing_committed w n s.grips held d (read_facts w (entries_of s.history) kept.history.well_formed) kept.order kept.strong over) in
         (λ i. record { value = stands i; up = lineage.up i })
 
 each_ended : (s : Configuration) (a k : ℕ) → ((r : ℕ) → a ≤ r → r < a + k → is_some ((read_of s).run r).ended ≡ true) → IsTrue (list_all (λ r. is_some ((read_of s).run r).ended) (range_with_len a k))

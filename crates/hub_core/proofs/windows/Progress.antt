@@ -28,7 +28,7 @@ use Rattle.hub_core.proofs.steps.Takes.{live_run}
 use Rattle.hub_core.specs.Decisions.{skipped_command, strong_command, unbarred_command}
 use Rattle.hub_core.specs.BlockedRuns.{is_wait}
 use Rattle.hub_core.specs.HubKept.{ConfigurationIsKept}
-use Rattle.hub_core.specs.Steps.{Absent, Choice, HandsOut, Moves, Over, Waits, aborts, answers_down, busy_case, choice_of, command_cases, decide, decide_answered, decide_arrived, decide_command, decide_doomed, down_case, down_entries, first_case, only_if, place_choice, skip_entries, undo_cases, undo_on}
+use Rattle.hub_core.specs.Steps.{Absent, Choice, HandsOut, Moves, Over, Waits, aborts, answers_down, busy_case, choice_of, command_cases, decide, decide_answered, decide_arrived, decide_command, decide_doomed, down_case, down_entries, first_case, only_if, place_choice, skip_entries, undo_cases, undo_choice}
 use Rattle.hub_core.specs.declared.waits.Why.TheVariants.{Behind, Busy, Dirty, Follow, Strict}
 use Rattle.lock_leasing.proofs.FirstRuns.{first_live, waits_for_none}
 use Rattle.lock_leasing.specs.Configurations.{Commands, Configuration, Grips, Undoes, has_grip, is_out, read_of}
@@ -153,9 +153,9 @@ doomed_goes w n g r cause home = by_model (is_weak w.mode)
     driven_or_dropped d true = refl
     driven_or_dropped d false = refl
 
-    by_next : (o : Option ℕ) → is_wait (first_case (option_map (λ d. Waits (Busy (device_no d))) (while_out o) ∷ option_map (undo_on w n g r) o ∷ []) (aborts r cause)) ≡ false
+    by_next : (o : Option ℕ) → is_wait (first_case (option_map (λ d. Waits (Busy (device_no d))) (while_out o) ∷ option_map (undo_choice w n g r) o ∷ []) (aborts r cause)) ≡ false
     by_next None = refl
-    by_next (Some d) = ap (λ b. is_wait (first_case (option_map (λ e. Waits (Busy (device_no e))) (if b then Some d else None) ∷ Some (undo_on w n g r d) ∷ []) (aborts r cause))) (ap (λ o. is_some o) (home d)) ∙ driven_or_dropped d (n.up d)
+    by_next (Some d) = ap (λ b. is_wait (first_case (option_map (λ e. Waits (Busy (device_no e))) (if b then Some d else None) ∷ Some (undo_choice w n g r d) ∷ []) (aborts r cause))) (ap (λ o. is_some o) (home d)) ∙ driven_or_dropped d (n.up d)
 
     by_model : (b : Bool) → is_wait (first_case (if b then [] else undo_cases w n g r) (aborts r cause)) ≡ false
     by_model true = refl

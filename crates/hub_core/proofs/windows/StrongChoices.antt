@@ -20,7 +20,7 @@ use Rattle.home_types.specs.declared.items.Item.{Item}
 use Rattle.home_types.specs.declared.items.Item.TheVariants.{Back, Failed, Ran}
 use Rattle.home_types.specs.declared.modes.Scheduler.TheVariants.{Fcfs}
 use Rattle.hub_core.proofs.steps.Causes.{each_is}
-use Rattle.hub_core.specs.HubKept.{ConfigurationIsKept, is_later, placed_in_order}
+use Rattle.hub_core.specs.HubKept.{ConfigurationIsKept, is_placed_later, placed_in_order}
 use Rattle.hub_core.specs.Openings.{names_values_of}
 use Rattle.hub_core.specs.Decisions.{current_command, skipped_command, strong_command, strong_doomed}
 use Rattle.hub_core.specs.Steps.{HandsOut, Moves, aborts, command_cases, decide_command, decide_doomed, first_case, undo_cases}
@@ -62,7 +62,7 @@ find_none p [] none = refl
 find_none p (x ∷ xs) none = rw none.0 (find_none p xs none.1)
 
 -- a run behind this place was placed after this number of entries
-pub placed_after : (n : Reading) (r stamp : ℕ) (line : List Item) → IsTrue (list_all (is_later n stamp) line) → list_any (is_ran r) line ≡ true → nat_lt stamp (stamp_of n r) ≡ true
+pub placed_after : (n : Reading) (r stamp : ℕ) (line : List Item) → IsTrue (list_all (is_placed_later n stamp) line) → list_any (is_ran r) line ≡ true → nat_lt stamp (stamp_of n r) ≡ true
 placed_after n r stamp [] later there = absurd (cc)
 placed_after n r stamp (Ran x ∷ is) later there = elim (x.0 == r) as (λ b. (x.0 == r) ≡ b → nat_lt stamp (stamp_of n r) ≡ true) [
   | true ↦ (λ e. let same : x.0 ≡ r = grind (arith, common_steps) in subst (λ q. nat_lt stamp (stamp_of n q) ≡ true) same (grind (arith, common_steps)))

@@ -1,7 +1,7 @@
 use Rattle.abort_rollback.proofs.NextUndos.{nothing_effective}
 use Rattle.abort_rollback.proofs.withdrawals.withdraw.Goals as goal
 use Rattle.lineage_table.proofs.Sweeps.{changed_all, changed_more, changed_none, removes_nothing}
-use Rattle.lineage_table.specs.Lineages.{accesses_at, lineage_at, removed, stand_of}
+use Rattle.lineage_table.specs.Lineages.{accesses_at, lineage_at, removed, stand_of_lineage}
 use Rattle.lineage_table.proofs.Standing.{not_writer, without_stands}
 use Rattle.lineage_table.specs.Accesses.{effective_writer}
 use Rattle.std.proofs.Common.{ap, ◌∙◌}
@@ -20,5 +20,5 @@ returns-clause-exact c = λ d within. changed_all c.args.r.0 (λ d. removed c.ar
 
 pub returns-clause-stands : goal.returns-clause-stands
 returns-clause-stands c = λ d within.
-    ap stand_of (changed_all c.args.r.0 (λ d. removed c.args.r.0) (λ d. removes_nothing c.args.r.0) c.args.table.now c.devices.table c.devices.from.0 c.devices.invariant c.in_default.ensures.next d)
+    ap stand_of_lineage (changed_all c.args.r.0 (λ d. removed c.args.r.0) (λ d. removes_nothing c.args.r.0) c.args.table.now c.devices.table c.devices.from.0 c.devices.invariant c.in_default.ensures.next d)
     ∙ without_stands c.args.r.0 (lineage_at c.args.table.now d).committed (accesses_at c.args.table.now d) (not_writer c.args.r (effective_writer (accesses_at c.args.table.now d)) (nothing_effective c.args.table.now c.args.r c.requires d within))

@@ -1,7 +1,7 @@
 use Rattle.commit_compaction.proofs.Keeping.{commit_stands}
 use Rattle.commit_compaction.proofs.commits.commit.Goals as goal
 use Rattle.lineage_table.proofs.Sweeps.{changed_all, changed_more, changed_none, commits_nothing}
-use Rattle.lineage_table.specs.Lineages.{committed_lineage, lineage_at, stand_of}
+use Rattle.lineage_table.specs.Lineages.{committed_lineage, lineage_at, stand_of_lineage}
 use Rattle.std.proofs.Common.{ap, ◌-◌, ◌∙◌}
 
 pub devices-init : goal.devices-init
@@ -18,5 +18,5 @@ returns-clause-exact c = λ d within. changed_all c.args.r.0 (λ d. committed_li
 
 pub returns-clause-stands : goal.returns-clause-stands
 returns-clause-stands c = λ d within.
-    ap stand_of (changed_all c.args.r.0 (λ d. committed_lineage c.args.r.0) (λ d. commits_nothing c.args.r.0) c.args.table.now c.devices.table c.devices.from.0 c.devices.invariant c.in_default.ensures.next d)
+    ap stand_of_lineage (changed_all c.args.r.0 (λ d. committed_lineage c.args.r.0) (λ d. commits_nothing c.args.r.0) c.args.table.now c.devices.table c.devices.from.0 c.devices.invariant c.in_default.ensures.next d)
     ∙ commit_stands c.args.r (lineage_at c.args.table.now d) (c.kept.ensures d)

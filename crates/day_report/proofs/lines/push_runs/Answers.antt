@@ -1,7 +1,7 @@
 use Rattle.day_report.proofs.Growing.{one_numbered_piece_more}
 use Rattle.day_report.proofs.RunParts.{run_line-of_part}
 use Rattle.day_report.proofs.lines.push_runs.Goals as goal
-use Rattle.day_report.specs.Lines.{run_line}
+use Rattle.day_report.specs.Lines.{line_of_run}
 use Rattle.std.proofs.Common.{None, ap, arith, get_or, string_bytes, ◌++◌, ◌+◌, ◌∙◌}
 use Rattle.std.proofs.lemmas.List.{get_or_default}
 
@@ -15,6 +15,6 @@ runs-preserved c =
     let run = get_or runs i (record { routine = 0; follows = None }) in
     c.in_ok-push_run.ensures
     ∙ ap (λ line. string_bytes c.runs.text ++ line) (run_line-of_part script window history c.in_ok-parts.parts.items i run.routine c.index.result.now c.as_slice.result.now (omega (arith, c.runs-test.true, c.in_ok-parts.ensures.runs)) c.in_ok-parts.ensures.apart c.index.ensures c.as_slice.ensures)
-    ∙ ap (λ text. text ++ run_line script window history (i + 1) run.routine) c.runs.invariant
-    ∙ one_numbered_piece_more (λ (r, run). run_line script window history r run.routine)
+    ∙ ap (λ text. text ++ line_of_run script window history (i + 1) run.routine) c.runs.invariant
+    ∙ one_numbered_piece_more (λ (r, run). line_of_run script window history r run.routine)
     (string_bytes c.args.text.now) 1 runs i (i + 1) run c.runs-test.true (omega arith) (get_or_default runs i (record { routine = 0; follows = None }) run c.runs-test.true)

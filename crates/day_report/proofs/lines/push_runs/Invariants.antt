@@ -1,5 +1,5 @@
 use Rattle.day_report.proofs.lines.push_runs.Given as goal
-use Rattle.day_report.specs.Lines.{run_line}
+use Rattle.day_report.specs.Lines.{line_of_run}
 use Rattle.std.proofs.Common.{string_bytes, take, ◌++◌, ◌≡◌}
 use Rattle.std.specs.List.{enumerate_from, flat_map}
 
@@ -8,4 +8,4 @@ abbrev pub invariant-runs : goal.invariant-runs
 invariant-runs l =
     string_bytes l.text
     ≡ string_bytes l.initial.text
-    ++ flat_map (λ (r, run). run_line l.script l.window l.history r run.routine) (enumerate_from 1 (take l.i l.all))
+    ++ flat_map (λ (r, run). line_of_run l.script l.window l.history r run.routine) (enumerate_from 1 (take l.i l.all))

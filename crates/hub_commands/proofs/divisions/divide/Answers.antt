@@ -1,6 +1,6 @@
 use Rattle.hub_commands.proofs.Dividing.{divides_here, divides_more, divides_none, fits_within, rest_all}
 use Rattle.hub_commands.proofs.divisions.divide.Goals as goal
-use Rattle.hub_commands.specs.Divisions.{is_divider, lines_of}
+use Rattle.hub_commands.specs.Divisions.{is_divider, lines_with_feeds}
 use Rattle.std.proofs.lemmas.List.{drop_all}
 use Rattle.std.proofs.Common.{ap, append-nil, arith, drop, length, subst, sym, take, ◌-◌, ◌∙◌, ◌≡◌, ◌≤◌, ◌∷◌}
 
@@ -9,7 +9,7 @@ returns-then-is_divider c =
     let text = c.args.text.now in
     let all = rest_all c.lines.at text in
     let end = c.line_length-end.result in
-    let first = subst (λ r. lines_of r ≡ take end r ∷ lines_of (drop end r)) all c.line_length-end.ensures.first in
+    let first = subst (λ r. lines_with_feeds r ≡ take end r ∷ lines_with_feeds (drop end r)) all c.line_length-end.ensures.first in
     let here = divides_here text c.lines.at end c.lines.invariant.so_far first (ap (λ r. is_divider (take end r)) (sym all) ∙ sym c.if-is_divider.ensures) in
     record {
       script = sym (ap (λ d. d.script) here ∙ append-nil (take c.lines.at text));
@@ -21,7 +21,7 @@ lines-preserved c =
     let text = c.args.text.now in
     let all = rest_all c.lines.at text in
     let end = c.line_length-end.result in
-    let first = subst (λ r. lines_of r ≡ take end r ∷ lines_of (drop end r)) all c.line_length-end.ensures.first in
+    let first = subst (λ r. lines_with_feeds r ≡ take end r ∷ lines_with_feeds (drop end r)) all c.line_length-end.ensures.first in
     let fits : end ≤ length (drop c.lines.at text) = subst (λ r. end ≤ length r) all c.line_length-end.ensures.within in
     record {
       within = fits_within c.lines.at end text fits c.lines.invariant.within;

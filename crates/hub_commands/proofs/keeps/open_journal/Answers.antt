@@ -1,4 +1,4 @@
-use Rattle.home_journal.specs.Journals.{KnowsKept, LeavesOldOrSame, kept_by}
+use Rattle.home_journal.specs.Journals.{KnowsKept, LeavesOldOrSame, states_kept}
 use Rattle.home_journal.specs.KeptStates.{kept_states}
 use Rattle.home_types.specs.declared.kinds.Kind.{Kind}
 use Rattle.hub_commands.proofs.KeptCalls.{not_opened}
@@ -17,7 +17,7 @@ returns-in-Ok-open g c =
       kinds = c.in-Ok-open.ensures.home.0 ∙ kinds;
       most = c.in-Ok-open.ensures.home.1 ∙ most;
       knows = λ told. subst (λ (q : List Kind × ℕ). KnowsKept q.0 q.1 (Q.seen c.args.disk) journal.kept journal.last) (λ i. (kinds i, most i)) (c.in-Ok-open.ensures.knows told);
-      same = λ told. subst (λ (q : List Kind × ℕ). kept_by Q.seen journal ≡ kept_states q.0 q.1 (Q.seen c.args.disk)) (λ i. (kinds i, most i)) (c.in-Ok-open.ensures.same told);
+      same = λ told. subst (λ (q : List Kind × ℕ). states_kept Q.seen journal ≡ kept_states q.0 q.1 (Q.seen c.args.disk)) (λ i. (kinds i, most i)) (c.in-Ok-open.ensures.same told);
       later = c.in-Ok-open.ensures.later;
       any_moment = λ told. subst (λ (q : List Kind × ℕ). LeavesOldOrSame Q.seen Q.images Q.moment Q.images_since q.0 q.1 c.args.disk journal.disk) (λ i. (kinds i, most i)) (c.in-Ok-open.ensures.any_moment told);
     }

@@ -1,9 +1,9 @@
 use Rattle.hub_table.proofs.hands.drop_empty.Given as goal
-use Rattle.hub_table.specs.Tables.{HoldNothing}
+use Rattle.hub_table.specs.Tables.{PlacesAreEmpty}
 use Rattle.std.specs.Prelude.{vec_len}
 
 abbrev pub invariant-hands : goal.invariant-hands
-invariant-hands g l = HoldNothing l.hands.items
+invariant-hands g l = PlacesAreEmpty l.hands.items
 
 abbrev pub decreases-hands : goal.decreases-hands
 decreases-hands g l = vec_len l.hands

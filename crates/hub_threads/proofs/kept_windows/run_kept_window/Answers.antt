@@ -1,4 +1,4 @@
-use Rattle.home_journal.specs.Journals.{AddsStates, IsStateOf, LeavesFirst, kept_by}
+use Rattle.home_journal.specs.Journals.{AddsStates, IsStateOf, LeavesFirst, states_kept}
 use Rattle.hub_threads.proofs.kept_windows.run_kept_window.Goals as goal
 use Rattle.std.proofs.Common.{Some, [], ap, refl, subst, sym, ◌∙◌, ◌∷◌}
 
@@ -16,7 +16,7 @@ returns-in-Ok-keep-clause-last g c = record {
 
 pub returns-in-Ok-keep-clause-kept : goal.returns-in-Ok-keep-clause-kept
 returns-in-Ok-keep-clause-kept g c told =
-    subst (λ h. AddsStates (kept_by g.Q.Disk.seen c.args.journal) (kept_by g.Q.Disk.seen c.in-Ok-keep.journal) (h ∷ [])) (c.world.ensures.world ∙ c.in-Ok.ensures.worked.last) (c.in-Ok-keep.ensures.kept told)
+    subst (λ h. AddsStates (states_kept g.Q.Disk.seen c.args.journal) (states_kept g.Q.Disk.seen c.in-Ok-keep.journal) (h ∷ [])) (c.world.ensures.world ∙ c.in-Ok.ensures.worked.last) (c.in-Ok-keep.ensures.kept told)
 
 pub returns-in-Ok-keep-clause-any_moment : goal.returns-in-Ok-keep-clause-any_moment
 returns-in-Ok-keep-clause-any_moment g c told =

@@ -4,14 +4,14 @@ use Rattle.hub_core.specs.OpenHubs.{configuration_of}
 use Rattle.hub_threads.proofs.RunWords.{blocked_noted, noted, word_noted}
 use Rattle.hub_threads.proofs.sleepers.still_blocked.Goals as goal
 use Rattle.hub_threads.proofs.sleepers.still_blocked.Goals.{else-has, then-has+then-is_blocked}
-use Rattle.hub_threads.specs.Sleepers.{SleepersAreBlocked, has_bit}
+use Rattle.hub_threads.specs.Sleepers.{SleepersAreBlocked, has_run_bit}
 use Rattle.std.proofs.Common.{ap, rules, subst, sym, ◌∙◌}
 use Rattle.std.specs.Prelude.{true, ℕ, ◌&&◌, ◌==◌, ◌||◌, ◌≡◌}
 
 pub runs-preserved : goal.runs-preserved
 runs-preserved g c = elim c.if-has.branch [
   | then-has+then-is_blocked w ↦ (
-      let more : (q : ℕ) → has_run c.if-has.left q ≡ (has_run c.runs.left q || (has_bit c.lowest-r.result.0 && (q == c.lowest-r.result.0))) = λ q. ap (λ word. has_run word q) w.left-is ∙ noted c.runs.left w.bit_of-left.result c.lowest-r.result.0 w.bit_of-left.ensures q in
+      let more : (q : ℕ) → has_run c.if-has.left q ≡ (has_run c.runs.left q || (has_run_bit c.lowest-r.result.0 && (q == c.lowest-r.result.0))) = λ q. ap (λ word. has_run word q) w.left-is ∙ noted c.runs.left w.bit_of-left.result c.lowest-r.result.0 w.bit_of-left.ensures q in
       let own : IsBlocked (configuration_of c.args.hub.now) c.lowest-r.result.0 = search rules in
       let within : has_run c.args.word c.lowest-r.result.0 ≡ true = search rules in
       (blocked_noted (configuration_of c.args.hub.now) c.runs.left c.if-has.left c.lowest-r.result.0 more own c.runs.invariant.0, word_noted c.args.word c.runs.left c.if-has.left c.lowest-r.result.0 more within c.runs.invariant.1))

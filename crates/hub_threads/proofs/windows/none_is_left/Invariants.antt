@@ -1,6 +1,6 @@
-use Rattle.hub_core.specs.OpenHubs.{device_at}
+use Rattle.hub_core.specs.OpenHubs.{progress_at}
 use Rattle.hub_threads.proofs.windows.none_is_left.Given as goal
 use Rattle.std.proofs.Common.{ℕ, ◌<◌, ◌≡◌}
 
 abbrev pub invariant-devices : goal.invariant-devices
-invariant-devices g l = (d : ℕ) → d < l.d → (device_at l.hub.devices d).probes_left ≡ 0
+invariant-devices g l = (d : ℕ) → d < l.d → (progress_at l.hub.devices d).probes_left ≡ 0

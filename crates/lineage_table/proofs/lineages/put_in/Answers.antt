@@ -2,7 +2,7 @@ use Rattle.chain_arena.proofs.Cuts.{values_join}
 use Rattle.chain_arena.specs.Chains.{values_of}
 use Rattle.lineage_table.proofs.Knots.{put_there, there}
 use Rattle.lineage_table.proofs.lineages.put_in.Goals as goal
-use Rattle.lineage_table.specs.Accesses.{put_before}
+use Rattle.lineage_table.specs.Accesses.{put_access_before}
 use Rattle.std.proofs.Common.{[], ap, sym, ◌∙◌, ◌∷◌}
 
 pub knot-k-requires : goal.knot-k-requires
@@ -12,9 +12,9 @@ pub returns-in-Some-clause-items : goal.returns-in-Some-clause-items
 returns-in-Some-clause-items c =
     ap values_of c.insert_before.ensures.pairs
     ∙ put_there c.in-Some.r.0 c.knot-k.result c.args.accesses.now.pairs c.knot-k.ensures c.kept.ensures (c.insert_before.result, c.args.access)
-    ∙ ap (λ b. put_before b c.args.access (values_of c.args.accesses.now.pairs)) (sym c.in-Some.is)
+    ∙ ap (λ b. put_access_before b c.args.access (values_of c.args.accesses.now.pairs)) (sym c.in-Some.is)
 
 pub returns-in-None-clause-items : goal.returns-in-None-clause-items
 returns-in-None-clause-items c =
     ap values_of c.push_back.ensures.pairs ∙ values_join c.args.accesses.now.pairs ((c.push_back.result, c.args.access) ∷ [])
-    ∙ ap (λ b. put_before b c.args.access (values_of c.args.accesses.now.pairs)) (sym c.in-None.is)
+    ∙ ap (λ b. put_access_before b c.args.access (values_of c.args.accesses.now.pairs)) (sym c.in-None.is)

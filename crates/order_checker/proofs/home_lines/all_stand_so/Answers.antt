@@ -1,7 +1,7 @@
 use Rattle.order_checker.proofs.Passing.{device-off, device-so}
 use Rattle.order_checker.proofs.Walking.{walk-end}
 use Rattle.order_checker.proofs.home_lines.all_stand_so.Goals as goal
-use Rattle.order_checker.specs.HomeLines.{next_device}
+use Rattle.order_checker.specs.HomeLines.{next_device_told}
 use Rattle.std.proofs.Common.{Ok, ap, arith, sym, ◌∙◌}
 
 pub returns-then-not-is_told : goal.returns-then-not-is_told
@@ -14,5 +14,5 @@ stands-preserved c =
 
 pub returns : goal.returns
 returns c =
-    c.stands.invariant ∙ walk-end (next_device c.args.told.now) c.stands.i c.args.home.now c.stands.i c.stands-test.false
+    c.stands.invariant ∙ walk-end (next_device_told c.args.told.now) c.stands.i c.args.home.now c.stands.i c.stands-test.false
     ∙ ap Ok (omega (arith, c.stands-test.false, c.stands.auto.i-end))

@@ -1,7 +1,7 @@
 use Rattle.home_types.specs.Limits.{most_runs}
 use Rattle.order_checker.proofs.records.read_windows.Given as goal
-use Rattle.order_checker.specs.Readers.{progress_of}
-use Rattle.order_checker.specs.Records.{next_window}
+use Rattle.order_checker.specs.Readers.{progress_told}
+use Rattle.order_checker.specs.Records.{next_window_told}
 use Rattle.order_checker.specs.Steps.{walk}
 use Rattle.std.proofs.Common.{drop, length, ◌*◌, ◌≡◌, ◌≤◌}
 
@@ -9,7 +9,7 @@ use Rattle.std.proofs.Common.{drop, length, ◌*◌, ◌≡◌, ◌≤◌}
 abbrev pub invariant-windows : goal.invariant-windows
 invariant-windows l =
     record {
-      walk : walk (next_window l.script) (progress_of l.fn.first) l.windows ≡ walk (next_window l.script) (progress_of l.so_far) (drop l.window-index l.windows);
+      walk : walk (next_window_told l.script) (progress_told l.fn.first) l.windows ≡ walk (next_window_told l.script) (progress_told l.so_far) (drop l.window-index l.windows);
       number : l.so_far.windows ≡ l.window-index;
       home : length l.so_far.home.items ≡ length l.script.devices.items;
       runs : l.so_far.runs ≤ l.so_far.windows * most_runs;

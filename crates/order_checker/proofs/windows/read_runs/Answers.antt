@@ -4,7 +4,7 @@ use Rattle.order_checker.proofs.windows.read_runs.Goals as goal
 use Rattle.order_checker.specs.Ends.{plain_end, plain_ends}
 use Rattle.order_checker.specs.Lines.{lines_of}
 use Rattle.order_checker.specs.Readers.{runs_told}
-use Rattle.order_checker.specs.Windows.{next_run}
+use Rattle.order_checker.specs.Windows.{next_run_told}
 use Rattle.order_checker.specs.declared.windows.RunLine.{RunLine}
 use Rattle.std.proofs.Common.{arith, length, length-append, ◌∙◌}
 
@@ -28,4 +28,4 @@ runs-preserved c =
 pub returns-clause-told : goal.returns-clause-told
 returns-clause-told c =
     c.runs.invariant.walk
-    ∙ walk-end (next_run c.args.script.now (length c.args.runs.now)) (record { ends = plain_ends c.runs.ends.items; lines = lines_of c.runs.rest.now }) c.args.runs.now c.runs.i c.runs-test.false
+    ∙ walk-end (next_run_told c.args.script.now (length c.args.runs.now)) (record { ends = plain_ends c.runs.ends.items; lines = lines_of c.runs.rest.now }) c.args.runs.now c.runs.i c.runs-test.false

@@ -2,7 +2,7 @@ use Rattle.order_checker.proofs.windows.read_runs.Given as goal
 use Rattle.order_checker.specs.Ends.{plain_ends}
 use Rattle.order_checker.specs.Lines.{lines_of}
 use Rattle.order_checker.specs.Steps.{walk}
-use Rattle.order_checker.specs.Windows.{next_run}
+use Rattle.order_checker.specs.Windows.{next_run_told}
 use Rattle.std.proofs.Common.{[], drop, length, ◌≡◌}
 
 -- how the runs so far ended, and what is left of the record
@@ -10,7 +10,7 @@ abbrev pub invariant-runs : goal.invariant-runs
 invariant-runs l =
     record {
       walk :
-          walk (next_run l.script (length l.runs)) (record { ends = []; lines = lines_of l.text }) l.runs
-          ≡ walk (next_run l.script (length l.runs)) (record { ends = plain_ends l.ends.items; lines = lines_of l.rest }) (drop l.i l.runs);
+          walk (next_run_told l.script (length l.runs)) (record { ends = []; lines = lines_of l.text }) l.runs
+          ≡ walk (next_run_told l.script (length l.runs)) (record { ends = plain_ends l.ends.items; lines = lines_of l.rest }) (drop l.i l.runs);
       count : length l.ends.items ≡ l.i;
     }

@@ -1,7 +1,7 @@
 use Rattle.home_types.specs.declared.numbers.DeviceNo.{DeviceNo}
 use Rattle.room_hubs.proofs.Loops.{all_mapped, map_map}
 use Rattle.room_hubs.proofs.scripts.copy_devices.Goals as goal
-use Rattle.room_hubs.specs.RoomScripts.{no_device}
+use Rattle.room_hubs.specs.RoomScripts.{no_device_text}
 use Rattle.routine_reader.specs.Scripts.{plain_device}
 use Rattle.routine_reader.specs.declared.scripts.DeviceText.{DeviceText}
 use Rattle.std.proofs.Common.{List, ap, arith, map, sym, ℕ, ◌∙◌}
@@ -11,7 +11,7 @@ pub returns : goal.returns
 returns c =
     let devices : List DeviceText = c.args.devices.now in
     let numbers : List DeviceNo = c.args.numbers.now in
-    let at : ℕ → DeviceText = λ d. slice_index_or devices d no_device in
+    let at : ℕ → DeviceText = λ d. slice_index_or devices d no_device_text in
     c.numbers.invariant ∙ all_mapped (λ (n : DeviceNo). plain_device (at n.0)) numbers c.numbers.number-index (omega (arith, c.numbers-test.false))
     ∙ sym (map_map plain_device (λ (n : DeviceNo). at n.0) numbers)
     ∙ ap (map plain_device) (sym (map_map at (λ (n : DeviceNo). n.0) numbers))

@@ -4,7 +4,7 @@ use Rattle.room_hubs.proofs.scripts.room_script.Goals as goal
 use Rattle.room_hubs.specs.Rooms.{PlainRooms}
 use Rattle.room_hubs.specs.Splits.{devices_in}
 use Rattle.room_hubs.specs.RoomScripts.{devices_at, plain_devices}
-use Rattle.room_hubs.specs.Numbers.{device_numbers}
+use Rattle.room_hubs.specs.Numbers.{numbers_of_devices}
 use Rattle.std.proofs.Common.{ap, arith, length, subst, sym, ◌<◌, ◌∙◌}
 use Rattle.std.specs.Prelude.{slice_index_or}
 
@@ -25,5 +25,5 @@ pub returns-clause-sound : goal.returns-clause-sound
 returns-clause-sound c =
     let numbers = c.in_ok-numbers.ensures ∙ ap (λ l. devices_in l c.args.room) (c.as_slice.ensures ∙ ap (λ (r : PlainRooms). r.room_of) c.requires.rooms) in
     own_sound c.args.script.now c.requires.sound c.args.room c.in_ok-devices.devices c.new.result c.new-2.result
-    (c.in_ok-devices.ensures ∙ (λ i. plain_devices (devices_at (c.as_slice-2.ensures i) ((ap (λ l. device_numbers l) c.as_slice-3.ensures ∙ numbers) i))))
+    (c.in_ok-devices.ensures ∙ (λ i. plain_devices (devices_at (c.as_slice-2.ensures i) ((ap (λ l. numbers_of_devices l) c.as_slice-3.ensures ∙ numbers) i))))
     c.new.ensures.empty c.new-2.ensures.empty

@@ -2,7 +2,7 @@ use Rattle.command_rules.specs.Rosters.{device_no}
 use Rattle.room_hubs.proofs.Loops.{all_numbers, next_number}
 use Rattle.room_hubs.proofs.splits.devices_in.Goals as goal
 use Rattle.room_hubs.proofs.splits.devices_in.Goals.{else-room_of-d, then-room_of-d+in_ok-push}
-use Rattle.room_hubs.specs.Numbers.{device_numbers}
+use Rattle.room_hubs.specs.Numbers.{numbers_of_devices}
 use Rattle.room_hubs.specs.Splits.{device_room}
 use Rattle.std.proofs.Common.{Bool, [], ap, arith, false, length, rules, sym, take, true, ℕ, ◌+◌, ◌++◌, ◌<◌, ◌==◌, ◌∙◌, ◌≡◌, ◌∷◌}
 use Rattle.std.proofs.lemmas.List.{append-nil, map-append}
@@ -18,12 +18,12 @@ devices-preserved c =
     elim c.if-room_of-d.branch [
       | then-room_of-d+in_ok-push w ↦
           let is : p c.devices.d ≡ true = search rules in
-          ap (λ v. device_numbers v.items) w.devices-is ∙ ap device_numbers w.in_ok-push.ensures.ok
+          ap (λ v. numbers_of_devices v.items) w.devices-is ∙ ap numbers_of_devices w.in_ok-push.ensures.ok
           ∙ map-append (λ d. d.0) c.devices.devices.items (device_no c.devices.d ∷ [])
           ∙ (λ i. c.devices.invariant i ++ c.devices.d ∷ []) ∙ sym (next_number p 0 n c.devices.d c.devices.d true within same is)
       | else-room_of-d w ↦
           let is : p c.devices.d ≡ false = search rules in
-          ap (λ v. device_numbers v.items) w.devices-is ∙ c.devices.invariant ∙ sym (next_number p 0 n c.devices.d c.devices.d false within same is ∙ append-nil _)
+          ap (λ v. numbers_of_devices v.items) w.devices-is ∙ c.devices.invariant ∙ sym (next_number p 0 n c.devices.d c.devices.d false within same is ∙ append-nil _)
     ]
 
 pub returns : goal.returns

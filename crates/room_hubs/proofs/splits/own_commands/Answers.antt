@@ -1,10 +1,10 @@
 use Rattle.room_hubs.proofs.Loops.{next_mapped}
 use Rattle.room_hubs.proofs.splits.own_commands.Goals as goal
-use Rattle.room_hubs.specs.Numbers.{device_numbers, own_command}
+use Rattle.room_hubs.specs.Numbers.{numbers_of_devices, own_command}
 use Rattle.std.proofs.Common.{[], arith, length, sym, ◌++◌, ◌<◌, ◌∙◌, ◌∷◌}
 
 pub commands-preserved : goal.commands-preserved
 commands-preserved c =
     let within : c.commands.command-index < length c.args.commands.now = omega (arith, c.commands-test.true) in
     c.in_ok-push.ensures.ok ∙ (λ i. c.commands.invariant i ++ c.own_command.ensures i ∷ [])
-    ∙ sym (next_mapped (own_command (device_numbers c.args.devices.now)) c.args.commands.now c.commands.command-index _ within)
+    ∙ sym (next_mapped (own_command (numbers_of_devices c.args.devices.now)) c.args.commands.now c.commands.command-index _ within)

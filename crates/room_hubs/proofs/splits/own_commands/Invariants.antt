@@ -1,6 +1,6 @@
 use Rattle.room_hubs.proofs.splits.own_commands.Given as goal
-use Rattle.room_hubs.specs.Numbers.{device_numbers, own_command}
+use Rattle.room_hubs.specs.Numbers.{numbers_of_devices, own_command}
 use Rattle.std.proofs.Common.{map, take, ◌≡◌}
 
 abbrev pub invariant-commands : goal.invariant-commands
-invariant-commands l = l.own.items ≡ map (own_command (device_numbers l.devices)) (take l.command-index l.commands)
+invariant-commands l = l.own.items ≡ map (own_command (numbers_of_devices l.devices)) (take l.command-index l.commands)

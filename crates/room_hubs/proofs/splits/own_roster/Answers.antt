@@ -3,7 +3,7 @@ use Rattle.home_types.specs.declared.numbers.RunNo.{RunNo}
 use Rattle.room_hubs.proofs.Loops.{all_mapped, map_map, next_mapped}
 use Rattle.room_hubs.proofs.Sizes.{run_there}
 use Rattle.room_hubs.proofs.splits.own_roster.Goals as goal
-use Rattle.room_hubs.specs.Numbers.{device_numbers, own_run, run_numbers}
+use Rattle.room_hubs.specs.Numbers.{numbers_of_devices, numbers_of_runs, own_run}
 use Rattle.room_hubs.specs.Splits.{run_with}
 use Rattle.std.proofs.Common.{List, [], ap, arith, get_or, length, map, sym, ◌++◌, ◌<◌, ◌∙◌, ◌≡◌, ◌∷◌}
 use Rattle.std.proofs.lemmas.List.{map-append}
@@ -11,7 +11,7 @@ use Rattle.std.proofs.lemmas.List.{map-append}
 pub mine-preserved : goal.mine-preserved
 mine-preserved c =
     let runs : List Run = map plain_run c.args.runs.now in
-    let owned : Run → Run = own_run (device_numbers c.args.devices.now) (run_numbers c.args.mine.now) in
+    let owned : Run → Run = own_run (numbers_of_devices c.args.devices.now) (numbers_of_runs c.args.mine.now) in
     let i = c.mine.number-index in
     let within : i < length c.args.mine.now = omega (arith, c.mine-test.true) in
     let number = get_or c.args.mine.now i (run_no 0) in
@@ -27,6 +27,6 @@ mine-preserved c =
 pub returns : goal.returns
 returns c =
     let runs : List Run = map plain_run c.args.runs.now in
-    let owned : Run → Run = own_run (device_numbers c.args.devices.now) (run_numbers c.args.mine.now) in
+    let owned : Run → Run = own_run (numbers_of_devices c.args.devices.now) (numbers_of_runs c.args.mine.now) in
     c.mine.invariant ∙ all_mapped (λ (n : RunNo). owned (run_with runs n.0)) c.args.mine.now c.mine.number-index (omega (arith, c.mine-test.false))
     ∙ sym (map_map (λ r. owned (run_with runs r)) (λ (n : RunNo). n.0) c.args.mine.now)

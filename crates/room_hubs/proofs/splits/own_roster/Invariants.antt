@@ -1,10 +1,10 @@
 use Rattle.command_rules.specs.Rosters.{plain_run}
 use Rattle.room_hubs.proofs.splits.own_roster.Given as goal
-use Rattle.room_hubs.specs.Numbers.{device_numbers, own_run, run_numbers}
+use Rattle.room_hubs.specs.Numbers.{numbers_of_devices, numbers_of_runs, own_run}
 use Rattle.room_hubs.specs.Splits.{run_with}
 use Rattle.std.proofs.Common.{map, take, ◌≡◌}
 
 abbrev pub invariant-mine : goal.invariant-mine
 invariant-mine l =
     map plain_run l.own.items
-    ≡ map (λ run. own_run (device_numbers l.devices) (run_numbers l.mine) (run_with (map plain_run l.runs) run.0)) (take l.number-index l.mine)
+    ≡ map (λ run. own_run (numbers_of_devices l.devices) (numbers_of_runs l.mine) (run_with (map plain_run l.runs) run.0)) (take l.number-index l.mine)

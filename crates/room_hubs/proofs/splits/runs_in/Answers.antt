@@ -2,7 +2,7 @@ use Rattle.command_rules.specs.Rosters.{Run, commands_of, plain_run, run_no}
 use Rattle.room_hubs.proofs.Loops.{all_numbers, next_number}
 use Rattle.room_hubs.proofs.splits.runs_in.Goals as goal
 use Rattle.room_hubs.proofs.splits.runs_in.Goals.{else-here-room, then-here-room+in_ok-push}
-use Rattle.room_hubs.specs.Numbers.{run_numbers}
+use Rattle.room_hubs.specs.Numbers.{numbers_of_runs}
 use Rattle.room_hubs.specs.Splits.{run_room}
 use Rattle.std.proofs.Common.{Bool, List, [], ap, arith, false, length, map, rules, sym, take, true, ℕ, ◌+◌, ◌++◌, ◌<◌, ◌==◌, ◌∙◌, ◌≡◌, ◌∷◌}
 use Rattle.std.proofs.lemmas.List.{append-nil, length-map, map-append}
@@ -23,13 +23,13 @@ runs-preserved c =
       | then-here-room+in_ok-push w ↦
           let test : (c.run_room-here.result == c.args.room) ≡ true = search rules in
           let is : p (i + 1) ≡ true = ap (λ k. k == c.args.room) here ∙ test in
-          ap (λ v. run_numbers v.items) w.runs-is ∙ ap run_numbers w.in_ok-push.ensures.ok
+          ap (λ v. numbers_of_runs v.items) w.runs-is ∙ ap numbers_of_runs w.in_ok-push.ensures.ok
           ∙ map-append (λ r. r.0) c.runs.runs.items (run_no (i + 1) ∷ [])
           ∙ (λ j. c.runs.invariant j ++ (i + 1) ∷ []) ∙ sym (next_number p 1 n i (i + 1) true within same is)
       | else-here-room w ↦
           let test : (c.run_room-here.result == c.args.room) ≡ false = search rules in
           let is : p (i + 1) ≡ false = ap (λ k. k == c.args.room) here ∙ test in
-          ap (λ v. run_numbers v.items) w.runs-is ∙ c.runs.invariant ∙ sym (next_number p 1 n i (i + 1) false within same is ∙ append-nil _)
+          ap (λ v. numbers_of_runs v.items) w.runs-is ∙ c.runs.invariant ∙ sym (next_number p 1 n i (i + 1) false within same is ∙ append-nil _)
     ]
 
 pub returns : goal.returns

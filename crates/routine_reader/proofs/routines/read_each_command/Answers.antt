@@ -1,6 +1,6 @@
 use Rattle.routine_reader.proofs.WalkLemmas.{each-end, each-read, each-refused, walk-refused}
 use Rattle.routine_reader.proofs.routines.read_each_command.Goals as goal
-use Rattle.routine_reader.specs.Commands.{next_command}
+use Rattle.routine_reader.specs.Commands.{next_command_read}
 use Rattle.routine_reader.specs.Scripts.{plain_device}
 use Rattle.routine_reader.specs.Walks.{read_each}
 use Rattle.serde_json.specs.View.{view}
@@ -9,14 +9,14 @@ use Rattle.std.proofs.Common.{Err, Ok, ap, arith, drop, length-append, map, rule
 pub returns-in_err-command : goal.returns-in_err-command
 returns-in_err-command c =
     let fault = c.in_err-command.field-0.0 in
-    let R = next_command c.args.version (map plain_device c.args.devices.now.texts.items) c.args.routine in
+    let R = next_command_read c.args.version (map plain_device c.args.devices.now.texts.items) c.args.routine in
     let refused : R c.values.commands.items (view c.value-item.result) ≡ Err fault = search rules in
     walk-refused _ c.from_residual-in_err-command.result fault _ c.from_residual-in_err-command.ensures.1
     (λ _. c.values.invariant.walk ∙ each-refused R c.values.commands.items c.args.values.now c.values.value-index c.value-item.result (omega arith) c.value-item.is fault refused)
 
 pub values-preserved : goal.values-preserved
 values-preserved c =
-    let R = next_command c.args.version (map plain_device c.args.devices.now.texts.items) c.args.routine in
+    let R = next_command_read c.args.version (map plain_device c.args.devices.now.texts.items) c.args.routine in
     let command = c.in_ok-command.command in
     let read : R c.values.commands.items (view c.value-item.result) ≡ Ok command = search rules in
     let pushed = c.in_ok-push.ensures.ok in
@@ -31,4 +31,4 @@ values-preserved c =
 pub returns : goal.returns
 returns c =
     c.values.invariant.walk
-    ∙ each-end (next_command c.args.version (map plain_device c.args.devices.now.texts.items) c.args.routine) c.values.commands.items c.args.values.now c.values.value-index c.values-test.false
+    ∙ each-end (next_command_read c.args.version (map plain_device c.args.devices.now.texts.items) c.args.routine) c.values.commands.items c.args.values.now c.values.value-index c.values-test.false

@@ -1,5 +1,5 @@
 use Rattle.routine_reader.proofs.routines.read_each_command.Given as goal
-use Rattle.routine_reader.specs.Commands.{next_command}
+use Rattle.routine_reader.specs.Commands.{next_command_read}
 use Rattle.routine_reader.specs.Scripts.{plain_device}
 use Rattle.routine_reader.specs.Walks.{read_each}
 use Rattle.serde_json.specs.View.{view}
@@ -9,7 +9,7 @@ abbrev pub invariant-values : goal.invariant-values
 invariant-values l =
     record {
       walk :
-          read_each (next_command l.version (map plain_device l.devices.texts.items) l.routine) [] (map view l.values)
-          ≡ read_each (next_command l.version (map plain_device l.devices.texts.items) l.routine) l.commands.items (map view (drop l.value-index l.values));
+          read_each (next_command_read l.version (map plain_device l.devices.texts.items) l.routine) [] (map view l.values)
+          ≡ read_each (next_command_read l.version (map plain_device l.devices.texts.items) l.routine) l.commands.items (map view (drop l.value-index l.values));
       count : length l.commands.items ≡ l.value-index;
     }

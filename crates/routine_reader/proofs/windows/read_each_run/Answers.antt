@@ -1,21 +1,21 @@
 use Rattle.routine_reader.proofs.WalkLemmas.{each-end, each-read, each-refused, walk-refused}
 use Rattle.routine_reader.proofs.windows.read_each_run.Goals as goal
 use Rattle.routine_reader.specs.Walks.{read_each}
-use Rattle.routine_reader.specs.Windows.{next_run}
+use Rattle.routine_reader.specs.Windows.{next_run_read}
 use Rattle.serde_json.specs.View.{view}
 use Rattle.std.proofs.Common.{Err, Ok, ap, arith, drop, length-append, map, rules, sym, ◌+◌, ◌∙◌, ◌≡◌}
 
 pub returns-in_err-run : goal.returns-in_err-run
 returns-in_err-run c =
     let fault = c.in_err-run.field-0.0 in
-    let R = next_run c.args.routines.now c.args.window in
+    let R = next_run_read c.args.routines.now c.args.window in
     let refused : R c.values.runs.items (view c.value-item.result) ≡ Err fault = search rules in
     walk-refused _ c.from_residual-in_err-run.result fault _ c.from_residual-in_err-run.ensures.1
     (λ _. c.values.invariant.walk ∙ each-refused R c.values.runs.items c.args.values.now c.values.value-index c.value-item.result (omega arith) c.value-item.is fault refused)
 
 pub values-preserved : goal.values-preserved
 values-preserved c =
-    let R = next_run c.args.routines.now c.args.window in
+    let R = next_run_read c.args.routines.now c.args.window in
     let run = c.in_ok-run.run' in
     let read : R c.values.runs.items (view c.value-item.result) ≡ Ok run = search rules in
     let pushed = c.in_ok-push.ensures.ok in
@@ -30,4 +30,4 @@ values-preserved c =
 pub returns : goal.returns
 returns c =
     c.values.invariant.walk
-    ∙ each-end (next_run c.args.routines.now c.args.window) c.values.runs.items c.args.values.now c.values.value-index c.values-test.false
+    ∙ each-end (next_run_read c.args.routines.now c.args.window) c.values.runs.items c.args.values.now c.values.value-index c.values-test.false

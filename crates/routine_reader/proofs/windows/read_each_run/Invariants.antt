@@ -1,5 +1,5 @@
 use Rattle.routine_reader.proofs.windows.read_each_run.Given as goal
-use Rattle.routine_reader.specs.Windows.{next_run}
+use Rattle.routine_reader.specs.Windows.{next_run_read}
 use Rattle.routine_reader.specs.Walks.{read_each}
 use Rattle.serde_json.specs.View.{view}
 use Rattle.std.proofs.Common.{[], drop, length, map, ◌≡◌}
@@ -8,7 +8,7 @@ abbrev pub invariant-values : goal.invariant-values
 invariant-values l =
     record {
       walk :
-          read_each (next_run l.routines l.window) [] (map view l.values)
-          ≡ read_each (next_run l.routines l.window) l.runs.items (map view (drop l.value-index l.values));
+          read_each (next_run_read l.routines l.window) [] (map view l.values)
+          ≡ read_each (next_run_read l.routines l.window) l.runs.items (map view (drop l.value-index l.values));
       count : length l.runs.items ≡ l.value-index;
     }

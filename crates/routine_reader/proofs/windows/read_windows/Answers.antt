@@ -5,7 +5,7 @@ use Rattle.routine_reader.proofs.windows.read_windows.Goals as goal
 use Rattle.routine_reader.specs.Scripts.{plain_window}
 use Rattle.routine_reader.specs.Spots.{is_memory}
 use Rattle.routine_reader.specs.Walks.{read_each}
-use Rattle.routine_reader.specs.Windows.{last_time, next_window, window_reading}
+use Rattle.routine_reader.specs.Windows.{last_time, next_window_read, window_reading}
 use Rattle.serde_json.specs.View.{view}
 use Rattle.std.proofs.Common.{Err, Ok, [], ap, arith, drop, false, length, length-append, map, rules, subst, sym, ◌+◌, ◌++◌, ◌∙◌, ◌≡◌, ◌∷◌}
 use Rattle.std.proofs.lemmas.List.Elements.{All-append, All-cons, All-nil}
@@ -14,7 +14,7 @@ use Rattle.std.proofs.lemmas.List.{length-map, map-append}
 pub returns-in_err-window-clause-reading : goal.returns-in_err-window-clause-reading
 returns-in_err-window-clause-reading c =
     let fault = c.in_err-window.field-0.0 in
-    let R = next_window c.args.routines.now in
+    let R = next_window_read c.args.routines.now in
     let earlier = map plain_window c.values.windows.items in
     let refused : is_memory fault ≡ false → R earlier (view c.value-item.result) ≡ Err fault =
     λ named. (let told : window_reading c.args.routines.now (length c.values.windows.items + 1) c.values.before (view c.value-item.result) ≡ Err fault = search rules in
@@ -26,7 +26,7 @@ returns-in_err-window-clause-reading c =
 pub values-preserved : goal.values-preserved
 values-preserved c =
     let windows = c.values.windows.items in
-    let R = next_window c.args.routines.now in
+    let R = next_window_read c.args.routines.now in
     let earlier = map plain_window windows in
     let window = c.in_ok-window.window in
     let told : window_reading c.args.routines.now (length windows + 1) c.values.before (view c.value-item.result) ≡ Ok (plain_window window) = search rules in
@@ -51,4 +51,4 @@ values-preserved c =
 pub returns-clause-reading : goal.returns-clause-reading
 returns-clause-reading c =
     c.values.invariant.walk
-    ∙ each-end (next_window c.args.routines.now) (map plain_window c.values.windows.items) c.args.values.now c.values.value-index c.values-test.false
+    ∙ each-end (next_window_read c.args.routines.now) (map plain_window c.values.windows.items) c.args.values.now c.values.value-index c.values-test.false

@@ -1,6 +1,6 @@
 use Rattle.failure_serialization.proofs.FirstAccesses.{some_found, some_run}
 use Rattle.rule_tests.proofs.failures.some_scheduled_before.Goals as goal
-use Rattle.lineage_table.specs.Accesses.{before, first_before, is_scheduled}
+use Rattle.lineage_table.specs.Accesses.{accesses_before, first_before, is_scheduled}
 use Rattle.lineage_table.specs.Lineages.{accesses_at}
 use Rattle.lineage_table.specs.declared.accesses.Access.{Access}
 use Rattle.std.proofs.Common.{ap, rules, ◌∙◌, ◌≡◌}
@@ -11,5 +11,5 @@ returns c =
     let found : c.first_before.result ≡ first_before (λ (x : Access). is_scheduled x.status) 1 (accesses_at c.args.table.now c.args.d.0) = search rules in
     c.is_some.ensures
     ∙ ap is_some found
-    ∙ some_run (find (λ (x : Access). is_scheduled x.status) (before 1 (accesses_at c.args.table.now c.args.d.0)))
-    ∙ some_found (λ (x : Access). is_scheduled x.status) (before 1 (accesses_at c.args.table.now c.args.d.0))
+    ∙ some_run (find (λ (x : Access). is_scheduled x.status) (accesses_before 1 (accesses_at c.args.table.now c.args.d.0)))
+    ∙ some_found (λ (x : Access). is_scheduled x.status) (accesses_before 1 (accesses_at c.args.table.now c.args.d.0))

@@ -1,5 +1,5 @@
 use Rattle.command_rules.specs.Rosters.{runs_of}
-use Rattle.lock_leasing.specs.Waits.{bars}
+use Rattle.lock_leasing.specs.Waits.{model_bars}
 use Rattle.serial_line.specs.Marks.{items_of}
 use Rattle.std.proofs.Common.{drop, length, ◌≡◌}
 use Rattle.visibility_models.proofs.waits.find_unended.Given as goal
@@ -9,6 +9,6 @@ use Rattle.visibility_models.specs.Searches.{first_unended_before}
 abbrev pub invariant-items : goal.invariant-items
 invariant-items l = record {
   size : l.at-end ≡ length l.s.line.now.marks;
-  left : first_unended_before (bars l.model (runs_of l.s.roster.now) l.r.0) l.s.book.now.items l.r.0 (items_of l.s.line.now.marks)
-      ≡ first_unended_before (bars l.model (runs_of l.s.roster.now) l.r.0) l.s.book.now.items l.r.0 (drop l.at (items_of l.s.line.now.marks));
+  left : first_unended_before (model_bars l.model (runs_of l.s.roster.now) l.r.0) l.s.book.now.items l.r.0 (items_of l.s.line.now.marks)
+      ≡ first_unended_before (model_bars l.model (runs_of l.s.roster.now) l.r.0) l.s.book.now.items l.r.0 (drop l.at (items_of l.s.line.now.marks));
 }

@@ -43,7 +43,7 @@ use types.Logic.{Logic}
 use types.Part.{look_in, sub, whole}
 use types.Run.{bin, blocks, enter, exec, first, fld, load, of_opd, returns, size_lit, stop}
 use Rattle.chain_arena.proofs.Opened.{made, word}
-use Rattle.chain_arena.specs.MemoryLends.{with_value}
+use Rattle.chain_arena.specs.MemoryLends.{with_written_value}
 use Rattle.core.proofs.alloc.Calls.{token}
 use Rattle.core.proofs.slice.Lists.{hd}
 use Rattle.std.proofs.lemmas.Option.{slice_get-get_or}
@@ -73,15 +73,15 @@ module _ (E : El) {M : Type 1} {𝓤 : Ura M} (𝓛 : Logic 𝓤) (rb ro b o : �
       (fsep (token E.al m.alloc (bare (ty_array (elτ E) m.room)) (block_ptr b o)) (cell_at full_share (Mr E).mir (word (block_ptr b o) ∷ []) rb ro)))
 
   whole_again : m.base ≡ block_ptr b o → count E m < m.room + 1 → m.room * sz E < 2 ^ 63 → i < count E m → (x : el_x E)
-      → ent 𝓤 (sep 𝓤 (sem 𝓛 ((mem (R E)).own_at x b (i * sz E + o))) (sem 𝓛 Rest)) (sem 𝓛 ((mem (Mr E)).own_at (with_value m i x) rb ro))
+      → ent 𝓤 (sep 𝓤 (sem 𝓛 ((mem (R E)).own_at x b (i * sz E + o))) (sem 𝓛 Rest)) (sem 𝓛 ((mem (Mr E)).own_at (with_written_value m i x) rb ro))
   unfolding part_of
   whole_again at few fit within x =
-      let same : count E m ≡ count E (with_value m i x) = sym (length-set m.items i x) in
+      let same : count E m ≡ count E (with_written_value m i x) = sym (length-set m.items i x) in
       qed 𝓛 (‵ (part_at (R E) full_share x b (i * sz E + o)) ∷ ‵ Rest ∷ []) ∵ move ! (1 ∷ []) $ fsplit ! $ move ! (2 ∷ 0 ∷ []) $
       use2 𝓛 (‵ (part_at (Array (R E) (count E m)) full_share (set m.items i x) b o)) (put_in E 𝓛 (count E m) m.items i x b o within refl) $ move ! (1 ∷ []) $ fsplit3 ! $ move ! (3 ∷ 0 ∷ 1 ∷ 2 ∷ []) $
       rewrite ! 0 (λ (k : ℕ). ‵ (part_at (Array (R E) k) full_share (set m.items i x) b o)) same refl $ rewrite ! 1 (λ (k : ℕ). ‵ (froom (ty_array (elτ E) (m.room - k)) b (o + k * sz E))) same refl $
-      made E ! (with_value m i x) b o at (omega (arith, few, same)) fit $ move ! (1 ∷ 0 ∷ []) $ fjoin ! $
-      fpack ! (List Val) (λ us. fsep (cell_at full_share (Mr E).mir us rb ro) ((Mr E).own_val (with_value m i x) us)) (word (block_ptr b o) ∷ []) $ done !
+      made E ! (with_written_value m i x) b o at (omega (arith, few, same)) fit $ move ! (1 ∷ 0 ∷ []) $ fjoin ! $
+      fpack ! (List Val) (λ us. fsep (cell_at full_share (Mr E).mir us rb ro) ((Mr E).own_val (with_written_value m i x) us)) (word (block_ptr b o) ∷ []) $ done !
 
 module _ (E : El) where
   abbrev here : Fn
@@ -135,8 +135,8 @@ module _ (E : El) where
         use1 𝓛 (given (length m.items ≡ count E m) (‵ (part_at (R E) full_share x b (i * s + o)) ⊛ ‵ (others (shares (R E)) full_share m.items i b o))) (take_out E 𝓛 (count E m) m.items i d b o asked) $ learn ! (λ _. split ! $
         -- [the value; the other values; the room; the right to give it back; the pointer; the open borrow, in three entries; ..]
         move ! (3 ∷ 4 ∷ []) $ fjoin ! $ move ! (3 ∷ 0 ∷ []) $ fjoin ! $ move ! (2 ∷ 0 ∷ []) $ fjoin ! $ move ! (2 ∷ 3 ∷ 4 ∷ 1 ∷ 0 ∷ []) $ group ! 5 $
-        use1 𝓛 (later (some (λ (δ : GName). ‵ ((MutRef (named 0) κ (R E)).own_val (record { ref_ptr = (b, i * s + o); ghost_name = δ; now = x }) (vptr b (i * s + o) ∷ [])) ⊛ ‵ (flft κ q) ⊛ ‵ (follows (Mr E) (R E) γ δ (with_value m i)))))
-        (lends_Part 𝓛 (Mr E) (R E) (with_value m i) (named 0) κ q rb ro b (i * s + o) γ (sem 𝓛 (Rest E 𝓛 rb ro b o m i)) (whole_again E 𝓛 rb ro b o m i at few fit asked) ((Mr E).coded.code m) ((Mr E).coded.code m) x) $
+        use1 𝓛 (later (some (λ (δ : GName). ‵ ((MutRef (named 0) κ (R E)).own_val (record { ref_ptr = (b, i * s + o); ghost_name = δ; now = x }) (vptr b (i * s + o) ∷ [])) ⊛ ‵ (flft κ q) ⊛ ‵ (follows (Mr E) (R E) γ δ (with_written_value m i)))))
+        (lends_Part 𝓛 (Mr E) (R E) (with_written_value m i) (named 0) κ q rb ro b (i * s + o) γ (sem 𝓛 (Rest E 𝓛 rb ro b o m i)) (whole_again E 𝓛 rb ro b o m i at few fit asked) ((Mr E).coded.code m) ((Mr E).coded.code m) x) $
         await ! tt $ pick ! (λ δ. split3 ! $ returns ! (look_at ! 0 refl) $ free_all ! refl $
         suffices ! _ (ends_at 𝓛 ended stayed clauses z (vptr b (i * s + o)) (record { ref_ptr = (b, i * s + o); ghost_name = δ; now = x }) (tt, (tt, tt)) (tt, (tt, tt))) $
         nothing ! $ nothing ! $ fjoin ! $ nothing ! $ fjoin ! $ join ! $ move ! (1 ∷ 3 ∷ []) $ join ! $ join ! $ frame ! $ says ! (slice_get-get_or m.items i d asked) $ keep ! (0 ∷ []) $ done !))))))))

@@ -2,7 +2,7 @@ use Rattle.home_journal.proofs.Keeping.{IsNextState, keeps_first, keeps_next, kn
 use Rattle.home_journal.proofs.Moments.{weaker}
 use Rattle.home_journal.proofs.journals.Journal.keep.Goals as goal
 use Rattle.home_journal.specs.Disks.{LeavesOnly}
-use Rattle.home_journal.specs.Journals.{IsStateOf, JournalState, KeepsFirst, KnowsKept, LeavesFirst, kept_by, last_kept}
+use Rattle.home_journal.specs.Journals.{IsStateOf, JournalState, KeepsFirst, KnowsKept, LeavesFirst, last_kept, states_kept}
 use Rattle.home_journal.specs.KeptStates.{kept_states}
 use Rattle.home_journal.specs.SlotFiles.{IsBeforeOrAfter}
 use Rattle.home_journal.specs.Slots.{body_size, open_slots, state_bytes, with_slot}
@@ -55,7 +55,7 @@ returns-in-Ok-clause-kept g c =
     let next : count < most = subst (λ (s : JournalState _). s.kept < s.most) (sym is) c.requires.next in
     let of_kinds : IsStateOf kinds home = subst (λ (s : JournalState _). IsStateOf s.kinds home) (sym is) c.requires.home in
     let small = subst (All (λ s. s.value < 2 ^ 32)) e c.write_slot.ensures.small in
-    subst (λ (s : JournalState _). g.Q.Disk.told ≡ true → (homes : List (List Stand)) → kept_by g.Q.Disk.seen s ≡ Ok homes → kept_states kinds most (g.Q.Disk.seen c.write_slot.new.disk) ≡ Ok (homes ++ home ∷ [])) is
+    subst (λ (s : JournalState _). g.Q.Disk.told ≡ true → (homes : List (List Stand)) → states_kept g.Q.Disk.seen s ≡ Ok homes → kept_states kinds most (g.Q.Disk.seen c.write_slot.new.disk) ≡ Ok (homes ++ home ∷ [])) is
     (λ told homes kept.
     let state : IsNextState kinds size most count seen home = record { sized = inv.sized; devices = inv.devices; windows = inv.windows; next = next; of_kinds = of_kinds; small = small; counts = (inv.settled told).counts } in
     let same = c.in-Ok.ensures.kept told ∙ ap (λ h. open_slots size most seen ++ state_bytes (count + 1) h ∷ []) e in

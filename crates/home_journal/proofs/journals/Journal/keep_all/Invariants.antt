@@ -1,6 +1,6 @@
 use Rattle.home_journal.proofs.journals.Journal.keep_all.Given as goal
 use Rattle.home_journal.specs.Disks.{LeavesOnly}
-use Rattle.home_journal.specs.Journals.{KeepsFirst, kept_by}
+use Rattle.home_journal.specs.Journals.{KeepsFirst, states_kept}
 use Rattle.home_types.specs.declared.worlds.Stand.{Stand}
 use Rattle.std.proofs.Common.{List, map, take, true, ◌++◌, ◌+◌, ◌≡◌, ◌≤◌}
 use Rattle.std.specs.Prelude.{Ok}
@@ -15,6 +15,6 @@ invariant-worlds g l =
     × (g.Q.Disk.faults first.disk ≤ g.Q.Disk.faults l.journal.disk)
     × (g.Q.Disk.told ≡ true
     → (homes : List (List Stand))
-    → kept_by g.Q.Disk.seen first ≡ Ok homes
-    → (kept_by g.Q.Disk.seen l.journal ≡ Ok (homes ++ take l.world-index new))
+    → states_kept g.Q.Disk.seen first ≡ Ok homes
+    → (states_kept g.Q.Disk.seen l.journal ≡ Ok (homes ++ take l.world-index new))
     × LeavesOnly g.Q.Disk.moment g.Q.Disk.images_since first.disk l.journal.disk (KeepsFirst first.kinds first.most homes new))

@@ -4,7 +4,7 @@ use Rattle.history_book.specs.declared.records.WindowRecord.{WindowRecord}
 use Rattle.hub_core.proofs.calls.HubCloses.{Closes, Tells, all_are_home, faults_fell, home_left, hub_leaves, items_fit, turns_fell, window_closed}
 use Rattle.hub_core.proofs.open_windows.OpenWindow.closed.Goals as goal
 use Rattle.hub_core.proofs.windows.Closings.{IsLastState}
-use Rattle.hub_core.specs.HubCalls.{IsClosed}
+use Rattle.hub_core.specs.HubCalls.{WindowIsClosed}
 use Rattle.hub_core.specs.HubsKept.{open_of}
 use Rattle.hub_core.specs.OpenHubs.{OpenHub, configuration_of}
 use Rattle.hub_core.specs.ReadHistories.{HistoryState}
@@ -64,5 +64,5 @@ returns g c =
       turns_rose = c.rises_in-turns.ensures.turns;
       faults_rose = c.rises_in-turns.ensures.faults;
     } in
-    subst (λ (t : OpenHub g.row.D.Denot). IsClosed g.D.Device.turns g.D.Device.probes g.D.Device.faults t (record { kinds = c.history.inside.kinds.items; world = c.copied-world.result.items; devices = c.close-devices.result.items; opened = c.self.inside.opened + 1 }) closed) c.self.view_is
+    subst (λ (t : OpenHub g.row.D.Denot). WindowIsClosed g.D.Device.turns g.D.Device.probes g.D.Device.faults t (record { kinds = c.history.inside.kinds.items; world = c.copied-world.result.items; devices = c.close-devices.result.items; opened = c.self.inside.opened + 1 }) closed) c.self.view_is
     (window_closed _ _ _ _ _ _ _ c.history.inside.kinds.items c.copied-world.result.items closed closes tells (ap (λ (h : HistoryState). h.setting.kinds) c.history.view_is) c.copied-world.ensures)

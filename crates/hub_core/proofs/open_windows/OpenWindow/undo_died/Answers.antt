@@ -4,7 +4,7 @@ use Rattle.hub_core.proofs.calls.Homecomings.{CameHome, back_given, grip_back, m
 use Rattle.hub_core.proofs.calls.HubReturns.{undo_run, undone_value}
 use Rattle.hub_core.proofs.calls.PackedEntries.{two_packed}
 use Rattle.hub_core.proofs.open_windows.OpenWindow.undo_died.Goals as goal
-use Rattle.hub_core.specs.OpenHubs.{device_at}
+use Rattle.hub_core.specs.OpenHubs.{progress_at}
 use Rattle.hub_core.specs.ReadHistories.{with_entry}
 use Rattle.hub_core.specs.declared.open_windows.OpenWindow.TheInside.{Inside}
 use Rattle.window_order.specs.declared.purposes.Purpose.TheVariants.{Undo as ForUndo}
@@ -16,22 +16,22 @@ come_home-came-requires g c = record { may = may_come c.self.inside c.args.self.
 
 pub note_fall-fell-requires : goal.note_fall-fell-requires
 note_fall-fell-requires g c =
-    let value = undone_value (device_at c.args.self.now.devices c.args.grip.slip.device.0).purpose c.requires.purpose in
+    let value = undone_value (progress_at c.args.self.now.devices c.args.grip.slip.device.0).purpose c.requires.purpose in
     record { may = drop_may c.self.inside value.0 _ c.args.grip c.slip-slip.result c.come_home-came.result.events (grip_back c.self.inside c.args.self.now (ForUndo value.0) _ c.args.grip c.self.view_is c.requires.kept value.1 c.come_home-came.ensures.called) (record { same = c.slip-slip.ensures; up = refl; died = c.requires.died; events_are = c.come_home-came.ensures.events }) c.self.invariant }
 
 pub undo-entry-requires-clause-run : goal.undo-entry-requires-clause-run
 undo-entry-requires-clause-run g c =
-    let value = undone_value (device_at c.args.self.now.devices c.args.grip.slip.device.0).purpose c.requires.purpose in
+    let value = undone_value (progress_at c.args.self.now.devices c.args.grip.slip.device.0).purpose c.requires.purpose in
     ap (λ s. is_run s.setting.runs c.slip-slip.result.maker) c.note_fall-fell.ensures.history ∙ rw c.slip-slip.ensures (undo_run c.self.inside value.0 _ c.args.grip (grip_back c.self.inside c.args.self.now (ForUndo value.0) _ c.args.grip c.self.view_is c.requires.kept value.1 c.come_home-came.ensures.called) c.self.invariant)
 
 pub undo-entry-requires-clause-room : goal.undo-entry-requires-clause-room
 undo-entry-requires-clause-room g c =
-    let value = undone_value (device_at c.args.self.now.devices c.args.grip.slip.device.0).purpose c.requires.purpose in
+    let value = undone_value (progress_at c.args.self.now.devices c.args.grip.slip.device.0).purpose c.requires.purpose in
     drop_place c.self.inside value.0 _ c.args.grip c.slip-slip.result c.note_fall-fell.new.history (grip_back c.self.inside c.args.self.now (ForUndo value.0) _ c.args.grip c.self.view_is c.requires.kept value.1 c.come_home-came.ensures.called) c.requires.died c.note_fall-fell.ensures.history c.self.invariant
 
 pub invariant_of-self : goal.invariant_of-self
 invariant_of-self g c =
-    let value = undone_value (device_at c.args.self.now.devices c.args.grip.slip.device.0).purpose c.requires.purpose in
+    let value = undone_value (progress_at c.args.self.now.devices c.args.grip.slip.device.0).purpose c.requires.purpose in
     dropped_whole c.self.inside _ value.0 _ c.args.grip c.slip-slip.result c.come_home-came.result.events c.note_fall-fell.new.history (grip_back c.self.inside c.args.self.now (ForUndo value.0) _ c.args.grip c.self.view_is c.requires.kept value.1 c.come_home-came.ensures.called)
     (record { later = omega (arith, c.max-self-inside.ensures); home = c.come_home-came.ensures.home; new = refl })
     (record {
@@ -43,7 +43,7 @@ invariant_of-self g c =
 
 pub returns : goal.returns
 returns g c =
-    let value = undone_value (device_at c.args.self.now.devices c.args.grip.slip.device.0).purpose c.requires.purpose in
+    let value = undone_value (progress_at c.args.self.now.devices c.args.grip.slip.device.0).purpose c.requires.purpose in
     let t : Inside g.row.D.Denot = record c.self.inside { history = c.undo-entry.new.self; moment = c.max-self-inside.result; away = c.come_home-came.new.self; order = c.note_fall-fell.new.order } in
     let back : CameHome g.D.Device.stands g.D.Device.turns g.D.Device.probes g.D.Device.faults c.self.inside t (ForUndo value.0) _ c.args.grip (dropped_entries c.slip-slip.result) =
     dropped_back c.self.inside t value.0 _ c.args.grip c.slip-slip.result c.come_home-came.result.events c.note_fall-fell.new.history (grip_back c.self.inside c.args.self.now (ForUndo value.0) _ c.args.grip c.self.view_is c.requires.kept value.1 c.come_home-came.ensures.called)

@@ -4,7 +4,7 @@ use Rattle.lineage_table.proofs.Knots.{at_now, read_in_place, set_in_place}
 use Rattle.lineage_table.proofs.Writers.{keeps_changed, keeps_written}
 use Rattle.lineage_table.proofs.lineages.Lineage.note.Goals as goal
 use Rattle.lineage_table.proofs.lineages.Lineage.note.Goals.{in-None, in-Some}
-use Rattle.lineage_table.specs.Accesses.{IsDisciplined, before, effective_writer, has_access, some_scheduled}
+use Rattle.lineage_table.specs.Accesses.{IsDisciplined, accesses_before, effective_writer, has_access, some_scheduled}
 use Rattle.lineage_table.specs.Answers.{answered_access}
 use Rattle.lineage_table.specs.declared.accesses.Access.{Access}
 use Rattle.std.proofs.Common.{ap, length, refl, subst, sym, ◌∙◌}
@@ -16,7 +16,7 @@ knot_in_turn-waits-requires c = ap (λ v. has_access c.args.r.0 v.accesses) c.se
 
 pub returns-then-waits-clause-turn : goal.returns-then-waits-clause-turn
 returns-then-waits-clause-turn c =
-    ap not (sym c.if-waits.true ∙ c.knot_in_turn-waits.ensures.waits ∙ ap (λ v. some_scheduled (before c.args.r.0 v.accesses)) c.self.view_is)
+    ap not (sym c.if-waits.true ∙ c.knot_in_turn-waits.ensures.waits ∙ ap (λ v. some_scheduled (accesses_before c.args.r.0 v.accesses)) c.self.view_is)
 
 pub writer_with-self-inside-requires : goal.writer_with-self-inside-requires
 writer_with-self-inside-requires c = λ only.
@@ -42,7 +42,7 @@ invariant_of-self c =
     let set = set_in_place r c.knot_in_turn-waits.result.0 ps cut c.kept.ensures c.answered.result in
     record {
       turns = subst IsDisciplined (sym set) (answers _ c.args.self.now r i x c.answered.result c.self.view_is c.self.invariant.turns at is c.requires
-          (sym (sym c.if-waits.false ∙ c.knot_in_turn-waits.ensures.waits ∙ ap (λ v. some_scheduled (before r v.accesses)) c.self.view_is)) (ap (λ (z : Access). z.run.0) c.answered.ensures));
+          (sym (sym c.if-waits.false ∙ c.knot_in_turn-waits.ensures.waits ∙ ap (λ v. some_scheduled (accesses_before r v.accesses)) c.self.view_is)) (ap (λ (z : Access). z.run.0) c.answered.ensures));
       last = (
           elim c.match-wrote.branch [
             | in-Some w ↦ w.self-is ∙ w.writer_with-self-inside.ensures
@@ -55,7 +55,7 @@ invariant_of-self c =
 
 pub returns-clause-turn : goal.returns-clause-turn
 returns-clause-turn c =
-    ap not (sym c.if-waits.false ∙ c.knot_in_turn-waits.ensures.waits ∙ ap (λ v. some_scheduled (before c.args.r.0 v.accesses)) c.self.view_is)
+    ap not (sym c.if-waits.false ∙ c.knot_in_turn-waits.ensures.waits ∙ ap (λ v. some_scheduled (accesses_before c.args.r.0 v.accesses)) c.self.view_is)
 
 pub returns-clause-noted : goal.returns-clause-noted
 returns-clause-noted c =

@@ -1,12 +1,12 @@
 use Rattle.command_rules.specs.Rosters.{runs_of}
 use Rattle.home_types.specs.HomeStates.{stand_at}
 use Rattle.lineage_table.proofs.tables.Table.open.Given as goal
-use Rattle.lineage_table.specs.Lineages.{IsNew, lineage_at, runs_on}
+use Rattle.lineage_table.specs.Lineages.{IsNewLineage, lineage_at, runs_on}
 use Rattle.std.proofs.Common.{length, ℕ, ◌<◌, ◌≡◌, ◌≤◌}
 
 abbrev pub invariant-devices : goal.invariant-devices
 invariant-devices l = record {
   size : length l.lineages.items ≡ l.d;
   room : length l.stands ≤ l.lineages.cap;
-  each : (d : ℕ) → d < l.d → IsNew (stand_at l.stands d) (runs_on (runs_of l.roster) d) (lineage_at l.lineages.items d);
+  each : (d : ℕ) → d < l.d → IsNewLineage (stand_at l.stands d) (runs_on (runs_of l.roster) d) (lineage_at l.lineages.items d);
 }

@@ -2,8 +2,8 @@ use Rattle.order_checker.proofs.Passing.{item-passed, item-refused}
 use Rattle.order_checker.proofs.Events.{length-event}
 use Rattle.order_checker.proofs.Walking.{walk-end}
 use Rattle.order_checker.proofs.order_lines.OrderReader.read_each_item.Goals as goal
-use Rattle.order_checker.specs.OrderLines.{next_item, with_event}
-use Rattle.order_checker.specs.Readers.{setting_of}
+use Rattle.order_checker.specs.OrderLines.{home_with_event, next_item}
+use Rattle.order_checker.specs.Readers.{setting_for_order}
 use Rattle.order_checker.specs.Steps.{walk}
 use Rattle.order_checker.specs.Words.{texts}
 use Rattle.serial_meaning.specs.Conditions.{IsItemOf}
@@ -15,7 +15,7 @@ use Rattle.std.proofs.lemmas.List.Elements.{All-append, All-cons, All-nil}
 pub returns-in_default-clause-items : goal.returns-in_default-clause-items
 returns-in_default-clause-items c =
     c.words.invariant.walk
-    ∙ item-refused (setting_of c.args.self.now) c.words.items.items c.args.words.now c.words.i _ c.words-test.true c.words.invariant.count
+    ∙ item-refused (setting_for_order c.args.self.now) c.words.items.items c.args.words.now c.words.i _ c.words-test.true c.words.invariant.count
     (sym c.in_default.ensures.item)
     ∙ ap Err (sym c.order_place.ensures)
 
@@ -24,11 +24,11 @@ words-preserved c =
     record {
       walk =
           c.words.invariant.walk
-          ∙ item-passed (setting_of c.args.self.now) c.words.items.items c.args.words.now c.words.i _ c.in-Some.item c.words-test.true
+          ∙ item-passed (setting_for_order c.args.self.now) c.words.items.items c.args.words.now c.words.i _ c.in-Some.item c.words-test.true
           (sym c.in-Some.ensures.item)
-          ∙ ap (λ items. walk (next_item (setting_of c.args.self.now)) items (drop (c.words.i + 1) (texts c.args.words.now))) (sym c.in_ok-push.ensures.ok);
+          ∙ ap (λ items. walk (next_item (setting_for_order c.args.self.now)) items (drop (c.words.i + 1) (texts c.args.words.now))) (sym c.in_ok-push.ensures.ok);
       count = rw c.in_ok-push.ensures.ok (rw length-append (omega (arith, c.words.invariant.count)));
-      home = c.turn.ensures ∙ ap (λ home. with_event home c.in-Some.item) c.words.invariant.home ∙ sym (ap (fold with_event c.args.self.now.home.now.items) c.in_ok-push.ensures.ok ∙ fold-append with_event c.args.self.now.home.now.items c.words.items.items (c.in-Some.item ∷ []));
+      home = c.turn.ensures ∙ ap (λ home. home_with_event home c.in-Some.item) c.words.invariant.home ∙ sym (ap (fold home_with_event c.args.self.now.home.now.items) c.in_ok-push.ensures.ok ∙ fold-append home_with_event c.args.self.now.home.now.items c.words.items.items (c.in-Some.item ∷ []));
       size = ap length c.turn.ensures ∙ length-event c.words.home.items c.in-Some.item ∙ c.words.invariant.size;
       of_roster =
           rw c.in_ok-push.ensures.ok
@@ -38,4 +38,4 @@ words-preserved c =
 
 pub returns-clause-items : goal.returns-clause-items
 returns-clause-items c =
-    c.words.invariant.walk ∙ walk-end (next_item (setting_of c.args.self.now)) c.words.items.items (texts c.args.words.now) c.words.i (rw length-map c.words-test.false)
+    c.words.invariant.walk ∙ walk-end (next_item (setting_for_order c.args.self.now)) c.words.items.items (texts c.args.words.now) c.words.i (rw length-map c.words-test.false)

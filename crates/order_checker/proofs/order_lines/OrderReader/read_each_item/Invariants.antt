@@ -1,6 +1,6 @@
 use Rattle.order_checker.proofs.order_lines.OrderReader.read_each_item.Given as goal
-use Rattle.order_checker.specs.OrderLines.{next_item, with_event}
-use Rattle.order_checker.specs.Readers.{setting_of}
+use Rattle.order_checker.specs.OrderLines.{home_with_event, next_item}
+use Rattle.order_checker.specs.Readers.{setting_for_order}
 use Rattle.order_checker.specs.Steps.{walk}
 use Rattle.order_checker.specs.Words.{texts}
 use Rattle.serial_meaning.specs.Conditions.{IsItemOf}
@@ -11,9 +11,9 @@ use Rattle.std.specs.Prelude.{All}
 abbrev pub invariant-words : goal.invariant-words
 invariant-words l =
     record {
-      walk : walk (next_item (setting_of l.self)) [] (texts l.words) ≡ walk (next_item (setting_of l.self)) l.items.items (drop l.i (texts l.words));
+      walk : walk (next_item (setting_for_order l.self)) [] (texts l.words) ≡ walk (next_item (setting_for_order l.self)) l.items.items (drop l.i (texts l.words));
       count : length l.items.items ≡ l.i;
-      home : l.home.items ≡ fold with_event l.self.home.now.items l.items.items;
+      home : l.home.items ≡ fold home_with_event l.self.home.now.items l.items.items;
       size : length l.home.items ≡ length l.self.home.now.items;
       of_roster : All (IsItemOf l.self.home.now.items l.self.roster.now) l.items.items;
     }

@@ -1,5 +1,5 @@
 use Rattle.hub_core.specs.HubCalls.{grip_takes}
-use Rattle.hub_core.specs.OpenHubs.{device_at, grip_in}
+use Rattle.hub_core.specs.OpenHubs.{grip_in, progress_at}
 use Rattle.run_replay.proofs.Acting.{done_of, full_now, given_fewer_now, given_keeps, given_stepped_now, given_plans_now, hand_by, hand_never, not_refused_now}
 use Rattle.run_replay.proofs.Leaving.{given_ends}
 use Rattle.run_replay.proofs.hands.Hands.act.Goals as goal
@@ -13,16 +13,16 @@ pub unreachable-requires-in-None : goal.unreachable-requires-in-None
 unreachable-requires-in-None g c = hand_never (record { hub = c.self.inside.hub; grips = c.self.inside.grips.items; rounds = c.self.inside.rounds; place = c.self.inside.place; moves = c.self.inside.moves }) c.args.actor c.index_mut.result.now (full_now c.args.self.now (record { hub = c.self.inside.hub; grips = c.self.inside.grips.items; rounds = c.self.inside.rounds; place = c.self.inside.place; moves = c.self.inside.moves }) c.args.actor c.self.view_is c.requires.holds) c.index_mut.ensures.value (sym c.replace.ensures.value ∙ c.in-None.is)
 
 pub invariant_of-self : goal.invariant_of-self
-invariant_of-self g c = given_keeps (record { hub = c.self.inside.hub; grips = c.self.inside.grips.items; rounds = c.self.inside.rounds; place = c.self.inside.place; moves = c.self.inside.moves }) _ c.args.actor c.in-Some.grip c.act.result _ (record { is = done_of c.args.self.now (record { hub = c.self.inside.hub; grips = c.self.inside.grips.items; rounds = c.self.inside.rounds; place = c.self.inside.place; moves = c.self.inside.moves }) c.args.actor c.in-Some.grip c.act.result c.self.view_is c.self.invariant c.requires.run c.requires.going (hand_by (record { hub = c.self.inside.hub; grips = c.self.inside.grips.items; rounds = c.self.inside.rounds; place = c.self.inside.place; moves = c.self.inside.moves }) c.args.actor c.index_mut.result.now c.in-Some.grip (full_now c.args.self.now (record { hub = c.self.inside.hub; grips = c.self.inside.grips.items; rounds = c.self.inside.rounds; place = c.self.inside.place; moves = c.self.inside.moves }) c.args.actor c.self.view_is c.requires.holds) c.index_mut.ensures.value (sym c.replace.ensures.value ∙ c.in-Some.is)) c.kept.ensures.size c.kept.ensures.grips c.act.ensures.slip c.act.ensures.task; at = c.moment-now.result + c.from.result; step = c.in-Ok.ensures.given.0; places = c.in-Ok.ensures.given.1; window = c.in-Ok.ensures.window; grips = ap (λ x. slice_set c.self.inside.grips.items c.args.actor x) c.replace.ensures.after; rounds = refl; place = refl; moves = refl; low = subst (λ n. n < 2 ^ 32) (c.takes.ensures ∙ ap (λ x. grip_takes c.self.inside.hub.setting (grip_in (slice_get c.self.inside.hub.places x.device.0) (device_at c.self.inside.hub.devices x.device.0).purpose)) c.slip.ensures) c.takes.type_inv; moment = (λ i. c.moment-now.ensures i + c.from.result) ∙ ap (λ n. c.self.inside.hub.moment + n) (c.from.ensures ∙ c.takes.ensures ∙ ap (λ x. grip_takes c.self.inside.hub.setting (grip_in (slice_get c.self.inside.hub.places x.device.0) (device_at c.self.inside.hub.devices x.device.0).purpose)) c.slip.ensures) })
+invariant_of-self g c = given_keeps (record { hub = c.self.inside.hub; grips = c.self.inside.grips.items; rounds = c.self.inside.rounds; place = c.self.inside.place; moves = c.self.inside.moves }) _ c.args.actor c.in-Some.grip c.act.result _ (record { is = done_of c.args.self.now (record { hub = c.self.inside.hub; grips = c.self.inside.grips.items; rounds = c.self.inside.rounds; place = c.self.inside.place; moves = c.self.inside.moves }) c.args.actor c.in-Some.grip c.act.result c.self.view_is c.self.invariant c.requires.run c.requires.going (hand_by (record { hub = c.self.inside.hub; grips = c.self.inside.grips.items; rounds = c.self.inside.rounds; place = c.self.inside.place; moves = c.self.inside.moves }) c.args.actor c.index_mut.result.now c.in-Some.grip (full_now c.args.self.now (record { hub = c.self.inside.hub; grips = c.self.inside.grips.items; rounds = c.self.inside.rounds; place = c.self.inside.place; moves = c.self.inside.moves }) c.args.actor c.self.view_is c.requires.holds) c.index_mut.ensures.value (sym c.replace.ensures.value ∙ c.in-Some.is)) c.kept.ensures.size c.kept.ensures.grips c.act.ensures.slip c.act.ensures.task; at = c.moment-now.result + c.from.result; step = c.in-Ok.ensures.given.0; places = c.in-Ok.ensures.given.1; window = c.in-Ok.ensures.window; grips = ap (λ x. slice_set c.self.inside.grips.items c.args.actor x) c.replace.ensures.after; rounds = refl; place = refl; moves = refl; low = subst (λ n. n < 2 ^ 32) (c.takes.ensures ∙ ap (λ x. grip_takes c.self.inside.hub.setting (grip_in (slice_get c.self.inside.hub.places x.device.0) (progress_at c.self.inside.hub.devices x.device.0).purpose)) c.slip.ensures) c.takes.type_inv; moment = (λ i. c.moment-now.ensures i + c.from.result) ∙ ap (λ n. c.self.inside.hub.moment + n) (c.from.ensures ∙ c.takes.ensures ∙ ap (λ x. grip_takes c.self.inside.hub.setting (grip_in (slice_get c.self.inside.hub.places x.device.0) (progress_at c.self.inside.hub.devices x.device.0).purpose)) c.slip.ensures) })
 
 pub returns-clause-stepped : goal.returns-clause-stepped
-returns-clause-stepped g c = given_stepped_now c.args.self.now (record { hub = c.self.inside.hub; grips = c.self.inside.grips.items; rounds = c.self.inside.rounds; place = c.self.inside.place; moves = c.self.inside.moves }) _ c.args.actor c.in-Some.grip c.act.result _ c.self.view_is (record { is = done_of c.args.self.now (record { hub = c.self.inside.hub; grips = c.self.inside.grips.items; rounds = c.self.inside.rounds; place = c.self.inside.place; moves = c.self.inside.moves }) c.args.actor c.in-Some.grip c.act.result c.self.view_is c.self.invariant c.requires.run c.requires.going (hand_by (record { hub = c.self.inside.hub; grips = c.self.inside.grips.items; rounds = c.self.inside.rounds; place = c.self.inside.place; moves = c.self.inside.moves }) c.args.actor c.index_mut.result.now c.in-Some.grip (full_now c.args.self.now (record { hub = c.self.inside.hub; grips = c.self.inside.grips.items; rounds = c.self.inside.rounds; place = c.self.inside.place; moves = c.self.inside.moves }) c.args.actor c.self.view_is c.requires.holds) c.index_mut.ensures.value (sym c.replace.ensures.value ∙ c.in-Some.is)) c.kept.ensures.size c.kept.ensures.grips c.act.ensures.slip c.act.ensures.task; at = c.moment-now.result + c.from.result; step = c.in-Ok.ensures.given.0; places = c.in-Ok.ensures.given.1; window = c.in-Ok.ensures.window; grips = ap (λ x. slice_set c.self.inside.grips.items c.args.actor x) c.replace.ensures.after; rounds = refl; place = refl; moves = refl; low = subst (λ n. n < 2 ^ 32) (c.takes.ensures ∙ ap (λ x. grip_takes c.self.inside.hub.setting (grip_in (slice_get c.self.inside.hub.places x.device.0) (device_at c.self.inside.hub.devices x.device.0).purpose)) c.slip.ensures) c.takes.type_inv; moment = (λ i. c.moment-now.ensures i + c.from.result) ∙ ap (λ n. c.self.inside.hub.moment + n) (c.from.ensures ∙ c.takes.ensures ∙ ap (λ x. grip_takes c.self.inside.hub.setting (grip_in (slice_get c.self.inside.hub.places x.device.0) (device_at c.self.inside.hub.devices x.device.0).purpose)) c.slip.ensures) })
+returns-clause-stepped g c = given_stepped_now c.args.self.now (record { hub = c.self.inside.hub; grips = c.self.inside.grips.items; rounds = c.self.inside.rounds; place = c.self.inside.place; moves = c.self.inside.moves }) _ c.args.actor c.in-Some.grip c.act.result _ c.self.view_is (record { is = done_of c.args.self.now (record { hub = c.self.inside.hub; grips = c.self.inside.grips.items; rounds = c.self.inside.rounds; place = c.self.inside.place; moves = c.self.inside.moves }) c.args.actor c.in-Some.grip c.act.result c.self.view_is c.self.invariant c.requires.run c.requires.going (hand_by (record { hub = c.self.inside.hub; grips = c.self.inside.grips.items; rounds = c.self.inside.rounds; place = c.self.inside.place; moves = c.self.inside.moves }) c.args.actor c.index_mut.result.now c.in-Some.grip (full_now c.args.self.now (record { hub = c.self.inside.hub; grips = c.self.inside.grips.items; rounds = c.self.inside.rounds; place = c.self.inside.place; moves = c.self.inside.moves }) c.args.actor c.self.view_is c.requires.holds) c.index_mut.ensures.value (sym c.replace.ensures.value ∙ c.in-Some.is)) c.kept.ensures.size c.kept.ensures.grips c.act.ensures.slip c.act.ensures.task; at = c.moment-now.result + c.from.result; step = c.in-Ok.ensures.given.0; places = c.in-Ok.ensures.given.1; window = c.in-Ok.ensures.window; grips = ap (λ x. slice_set c.self.inside.grips.items c.args.actor x) c.replace.ensures.after; rounds = refl; place = refl; moves = refl; low = subst (λ n. n < 2 ^ 32) (c.takes.ensures ∙ ap (λ x. grip_takes c.self.inside.hub.setting (grip_in (slice_get c.self.inside.hub.places x.device.0) (progress_at c.self.inside.hub.devices x.device.0).purpose)) c.slip.ensures) c.takes.type_inv; moment = (λ i. c.moment-now.ensures i + c.from.result) ∙ ap (λ n. c.self.inside.hub.moment + n) (c.from.ensures ∙ c.takes.ensures ∙ ap (λ x. grip_takes c.self.inside.hub.setting (grip_in (slice_get c.self.inside.hub.places x.device.0) (progress_at c.self.inside.hub.devices x.device.0).purpose)) c.slip.ensures) })
 
 pub returns-clause-plans : goal.returns-clause-plans
-returns-clause-plans g c = given_plans_now g.D.Device.plan c.args.self.now (record { hub = c.self.inside.hub; grips = c.self.inside.grips.items; rounds = c.self.inside.rounds; place = c.self.inside.place; moves = c.self.inside.moves }) _ c.args.actor c.in-Some.grip c.act.result _ c.self.view_is (record { is = done_of c.args.self.now (record { hub = c.self.inside.hub; grips = c.self.inside.grips.items; rounds = c.self.inside.rounds; place = c.self.inside.place; moves = c.self.inside.moves }) c.args.actor c.in-Some.grip c.act.result c.self.view_is c.self.invariant c.requires.run c.requires.going (hand_by (record { hub = c.self.inside.hub; grips = c.self.inside.grips.items; rounds = c.self.inside.rounds; place = c.self.inside.place; moves = c.self.inside.moves }) c.args.actor c.index_mut.result.now c.in-Some.grip (full_now c.args.self.now (record { hub = c.self.inside.hub; grips = c.self.inside.grips.items; rounds = c.self.inside.rounds; place = c.self.inside.place; moves = c.self.inside.moves }) c.args.actor c.self.view_is c.requires.holds) c.index_mut.ensures.value (sym c.replace.ensures.value ∙ c.in-Some.is)) c.kept.ensures.size c.kept.ensures.grips c.act.ensures.slip c.act.ensures.task; at = c.moment-now.result + c.from.result; step = c.in-Ok.ensures.given.0; places = c.in-Ok.ensures.given.1; window = c.in-Ok.ensures.window; grips = ap (λ x. slice_set c.self.inside.grips.items c.args.actor x) c.replace.ensures.after; rounds = refl; place = refl; moves = refl; low = subst (λ n. n < 2 ^ 32) (c.takes.ensures ∙ ap (λ x. grip_takes c.self.inside.hub.setting (grip_in (slice_get c.self.inside.hub.places x.device.0) (device_at c.self.inside.hub.devices x.device.0).purpose)) c.slip.ensures) c.takes.type_inv; moment = (λ i. c.moment-now.ensures i + c.from.result) ∙ ap (λ n. c.self.inside.hub.moment + n) (c.from.ensures ∙ c.takes.ensures ∙ ap (λ x. grip_takes c.self.inside.hub.setting (grip_in (slice_get c.self.inside.hub.places x.device.0) (device_at c.self.inside.hub.devices x.device.0).purpose)) c.slip.ensures) }) c.act.ensures.plan
+returns-clause-plans g c = given_plans_now g.D.Device.plan c.args.self.now (record { hub = c.self.inside.hub; grips = c.self.inside.grips.items; rounds = c.self.inside.rounds; place = c.self.inside.place; moves = c.self.inside.moves }) _ c.args.actor c.in-Some.grip c.act.result _ c.self.view_is (record { is = done_of c.args.self.now (record { hub = c.self.inside.hub; grips = c.self.inside.grips.items; rounds = c.self.inside.rounds; place = c.self.inside.place; moves = c.self.inside.moves }) c.args.actor c.in-Some.grip c.act.result c.self.view_is c.self.invariant c.requires.run c.requires.going (hand_by (record { hub = c.self.inside.hub; grips = c.self.inside.grips.items; rounds = c.self.inside.rounds; place = c.self.inside.place; moves = c.self.inside.moves }) c.args.actor c.index_mut.result.now c.in-Some.grip (full_now c.args.self.now (record { hub = c.self.inside.hub; grips = c.self.inside.grips.items; rounds = c.self.inside.rounds; place = c.self.inside.place; moves = c.self.inside.moves }) c.args.actor c.self.view_is c.requires.holds) c.index_mut.ensures.value (sym c.replace.ensures.value ∙ c.in-Some.is)) c.kept.ensures.size c.kept.ensures.grips c.act.ensures.slip c.act.ensures.task; at = c.moment-now.result + c.from.result; step = c.in-Ok.ensures.given.0; places = c.in-Ok.ensures.given.1; window = c.in-Ok.ensures.window; grips = ap (λ x. slice_set c.self.inside.grips.items c.args.actor x) c.replace.ensures.after; rounds = refl; place = refl; moves = refl; low = subst (λ n. n < 2 ^ 32) (c.takes.ensures ∙ ap (λ x. grip_takes c.self.inside.hub.setting (grip_in (slice_get c.self.inside.hub.places x.device.0) (progress_at c.self.inside.hub.devices x.device.0).purpose)) c.slip.ensures) c.takes.type_inv; moment = (λ i. c.moment-now.ensures i + c.from.result) ∙ ap (λ n. c.self.inside.hub.moment + n) (c.from.ensures ∙ c.takes.ensures ∙ ap (λ x. grip_takes c.self.inside.hub.setting (grip_in (slice_get c.self.inside.hub.places x.device.0) (progress_at c.self.inside.hub.devices x.device.0).purpose)) c.slip.ensures) }) c.act.ensures.plan
 
 pub returns-clause-fewer : goal.returns-clause-fewer
-returns-clause-fewer g c = given_fewer_now c.args.self.now (record { hub = c.self.inside.hub; grips = c.self.inside.grips.items; rounds = c.self.inside.rounds; place = c.self.inside.place; moves = c.self.inside.moves }) _ c.args.actor c.in-Some.grip c.act.result _ c.self.view_is (record { is = done_of c.args.self.now (record { hub = c.self.inside.hub; grips = c.self.inside.grips.items; rounds = c.self.inside.rounds; place = c.self.inside.place; moves = c.self.inside.moves }) c.args.actor c.in-Some.grip c.act.result c.self.view_is c.self.invariant c.requires.run c.requires.going (hand_by (record { hub = c.self.inside.hub; grips = c.self.inside.grips.items; rounds = c.self.inside.rounds; place = c.self.inside.place; moves = c.self.inside.moves }) c.args.actor c.index_mut.result.now c.in-Some.grip (full_now c.args.self.now (record { hub = c.self.inside.hub; grips = c.self.inside.grips.items; rounds = c.self.inside.rounds; place = c.self.inside.place; moves = c.self.inside.moves }) c.args.actor c.self.view_is c.requires.holds) c.index_mut.ensures.value (sym c.replace.ensures.value ∙ c.in-Some.is)) c.kept.ensures.size c.kept.ensures.grips c.act.ensures.slip c.act.ensures.task; at = c.moment-now.result + c.from.result; step = c.in-Ok.ensures.given.0; places = c.in-Ok.ensures.given.1; window = c.in-Ok.ensures.window; grips = ap (λ x. slice_set c.self.inside.grips.items c.args.actor x) c.replace.ensures.after; rounds = refl; place = refl; moves = refl; low = subst (λ n. n < 2 ^ 32) (c.takes.ensures ∙ ap (λ x. grip_takes c.self.inside.hub.setting (grip_in (slice_get c.self.inside.hub.places x.device.0) (device_at c.self.inside.hub.devices x.device.0).purpose)) c.slip.ensures) c.takes.type_inv; moment = (λ i. c.moment-now.ensures i + c.from.result) ∙ ap (λ n. c.self.inside.hub.moment + n) (c.from.ensures ∙ c.takes.ensures ∙ ap (λ x. grip_takes c.self.inside.hub.setting (grip_in (slice_get c.self.inside.hub.places x.device.0) (device_at c.self.inside.hub.devices x.device.0).purpose)) c.slip.ensures) }) c.bounded-in-Some.ensures.history
+returns-clause-fewer g c = given_fewer_now c.args.self.now (record { hub = c.self.inside.hub; grips = c.self.inside.grips.items; rounds = c.self.inside.rounds; place = c.self.inside.place; moves = c.self.inside.moves }) _ c.args.actor c.in-Some.grip c.act.result _ c.self.view_is (record { is = done_of c.args.self.now (record { hub = c.self.inside.hub; grips = c.self.inside.grips.items; rounds = c.self.inside.rounds; place = c.self.inside.place; moves = c.self.inside.moves }) c.args.actor c.in-Some.grip c.act.result c.self.view_is c.self.invariant c.requires.run c.requires.going (hand_by (record { hub = c.self.inside.hub; grips = c.self.inside.grips.items; rounds = c.self.inside.rounds; place = c.self.inside.place; moves = c.self.inside.moves }) c.args.actor c.index_mut.result.now c.in-Some.grip (full_now c.args.self.now (record { hub = c.self.inside.hub; grips = c.self.inside.grips.items; rounds = c.self.inside.rounds; place = c.self.inside.place; moves = c.self.inside.moves }) c.args.actor c.self.view_is c.requires.holds) c.index_mut.ensures.value (sym c.replace.ensures.value ∙ c.in-Some.is)) c.kept.ensures.size c.kept.ensures.grips c.act.ensures.slip c.act.ensures.task; at = c.moment-now.result + c.from.result; step = c.in-Ok.ensures.given.0; places = c.in-Ok.ensures.given.1; window = c.in-Ok.ensures.window; grips = ap (λ x. slice_set c.self.inside.grips.items c.args.actor x) c.replace.ensures.after; rounds = refl; place = refl; moves = refl; low = subst (λ n. n < 2 ^ 32) (c.takes.ensures ∙ ap (λ x. grip_takes c.self.inside.hub.setting (grip_in (slice_get c.self.inside.hub.places x.device.0) (progress_at c.self.inside.hub.devices x.device.0).purpose)) c.slip.ensures) c.takes.type_inv; moment = (λ i. c.moment-now.ensures i + c.from.result) ∙ ap (λ n. c.self.inside.hub.moment + n) (c.from.ensures ∙ c.takes.ensures ∙ ap (λ x. grip_takes c.self.inside.hub.setting (grip_in (slice_get c.self.inside.hub.places x.device.0) (progress_at c.self.inside.hub.devices x.device.0).purpose)) c.slip.ensures) }) c.bounded-in-Some.ensures.history
 
 pub returns-clause-ended : goal.returns-clause-ended
-returns-clause-ended g c = given_ends c.args.self.now (record { hub = c.self.inside.hub; grips = c.self.inside.grips.items; rounds = c.self.inside.rounds; place = c.self.inside.place; moves = c.self.inside.moves }) _ c.args.actor c.in-Some.grip c.act.result _ c.self.view_is (record { is = done_of c.args.self.now (record { hub = c.self.inside.hub; grips = c.self.inside.grips.items; rounds = c.self.inside.rounds; place = c.self.inside.place; moves = c.self.inside.moves }) c.args.actor c.in-Some.grip c.act.result c.self.view_is c.self.invariant c.requires.run c.requires.going (hand_by (record { hub = c.self.inside.hub; grips = c.self.inside.grips.items; rounds = c.self.inside.rounds; place = c.self.inside.place; moves = c.self.inside.moves }) c.args.actor c.index_mut.result.now c.in-Some.grip (full_now c.args.self.now (record { hub = c.self.inside.hub; grips = c.self.inside.grips.items; rounds = c.self.inside.rounds; place = c.self.inside.place; moves = c.self.inside.moves }) c.args.actor c.self.view_is c.requires.holds) c.index_mut.ensures.value (sym c.replace.ensures.value ∙ c.in-Some.is)) c.kept.ensures.size c.kept.ensures.grips c.act.ensures.slip c.act.ensures.task; at = c.moment-now.result + c.from.result; step = c.in-Ok.ensures.given.0; places = c.in-Ok.ensures.given.1; window = c.in-Ok.ensures.window; grips = ap (λ x. slice_set c.self.inside.grips.items c.args.actor x) c.replace.ensures.after; rounds = refl; place = refl; moves = refl; low = subst (λ n. n < 2 ^ 32) (c.takes.ensures ∙ ap (λ x. grip_takes c.self.inside.hub.setting (grip_in (slice_get c.self.inside.hub.places x.device.0) (device_at c.self.inside.hub.devices x.device.0).purpose)) c.slip.ensures) c.takes.type_inv; moment = (λ i. c.moment-now.ensures i + c.from.result) ∙ ap (λ n. c.self.inside.hub.moment + n) (c.from.ensures ∙ c.takes.ensures ∙ ap (λ x. grip_takes c.self.inside.hub.setting (grip_in (slice_get c.self.inside.hub.places x.device.0) (device_at c.self.inside.hub.devices x.device.0).purpose)) c.slip.ensures) })
+returns-clause-ended g c = given_ends c.args.self.now (record { hub = c.self.inside.hub; grips = c.self.inside.grips.items; rounds = c.self.inside.rounds; place = c.self.inside.place; moves = c.self.inside.moves }) _ c.args.actor c.in-Some.grip c.act.result _ c.self.view_is (record { is = done_of c.args.self.now (record { hub = c.self.inside.hub; grips = c.self.inside.grips.items; rounds = c.self.inside.rounds; place = c.self.inside.place; moves = c.self.inside.moves }) c.args.actor c.in-Some.grip c.act.result c.self.view_is c.self.invariant c.requires.run c.requires.going (hand_by (record { hub = c.self.inside.hub; grips = c.self.inside.grips.items; rounds = c.self.inside.rounds; place = c.self.inside.place; moves = c.self.inside.moves }) c.args.actor c.index_mut.result.now c.in-Some.grip (full_now c.args.self.now (record { hub = c.self.inside.hub; grips = c.self.inside.grips.items; rounds = c.self.inside.rounds; place = c.self.inside.place; moves = c.self.inside.moves }) c.args.actor c.self.view_is c.requires.holds) c.index_mut.ensures.value (sym c.replace.ensures.value ∙ c.in-Some.is)) c.kept.ensures.size c.kept.ensures.grips c.act.ensures.slip c.act.ensures.task; at = c.moment-now.result + c.from.result; step = c.in-Ok.ensures.given.0; places = c.in-Ok.ensures.given.1; window = c.in-Ok.ensures.window; grips = ap (λ x. slice_set c.self.inside.grips.items c.args.actor x) c.replace.ensures.after; rounds = refl; place = refl; moves = refl; low = subst (λ n. n < 2 ^ 32) (c.takes.ensures ∙ ap (λ x. grip_takes c.self.inside.hub.setting (grip_in (slice_get c.self.inside.hub.places x.device.0) (progress_at c.self.inside.hub.devices x.device.0).purpose)) c.slip.ensures) c.takes.type_inv; moment = (λ i. c.moment-now.ensures i + c.from.result) ∙ ap (λ n. c.self.inside.hub.moment + n) (c.from.ensures ∙ c.takes.ensures ∙ ap (λ x. grip_takes c.self.inside.hub.setting (grip_in (slice_get c.self.inside.hub.places x.device.0) (progress_at c.self.inside.hub.devices x.device.0).purpose)) c.slip.ensures) })

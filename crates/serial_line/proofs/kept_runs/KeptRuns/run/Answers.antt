@@ -1,7 +1,7 @@
 use Rattle.serial_line.proofs.KeptRuns.{run_kept}
 use Rattle.serial_line.proofs.kept_runs.KeptRuns.run.Goals as goal
 use Rattle.serial_line.specs.KeptRuns.{kept_run}
-use Rattle.command_rules.specs.Rosters.{run_at}
+use Rattle.command_rules.specs.Rosters.{run_in_roster}
 use Rattle.std.proofs.Common.{ap, arith, ◌∙◌, ◌≢◌}
 use Rattle.std.proofs.lemmas.Grind.{common_steps}
 use Rattle.std.specs.Prelude.{option_map}
@@ -9,4 +9,4 @@ use Rattle.std.specs.Prelude.{option_map}
 pub returns : goal.returns
 returns c =
     let some : c.args.run.0 ≢ 0 = grind (arith, common_steps) in
-    ap (option_map kept_run) c.get.ensures ∙ run_kept c.self.inside.runs.items c.args.run.0 some ∙ ap (λ rs. run_at rs c.args.run.0) c.self.view_is
+    ap (option_map kept_run) c.get.ensures ∙ run_kept c.self.inside.runs.items c.args.run.0 some ∙ ap (λ rs. run_in_roster rs c.args.run.0) c.self.view_is

@@ -3,7 +3,7 @@ use Rattle.serial_line.proofs.Once.{differ_insert}
 use Rattle.serial_line.proofs.RunPlaces.{before_inserted}
 use Rattle.serial_line.proofs.lines.Line.insert.Goals as goal
 use Rattle.serial_line.specs.Marks.{all_differ, front_of, items_of, stands, untouched, with_item}
-use Rattle.serial_line.specs.RunPlaces.{ArePlaces, ArePlacesBefore}
+use Rattle.serial_line.specs.RunPlaces.{ArePlacesBefore, AreRunPlaces}
 use Rattle.std.proofs.Common.{ap, arith, rules, subst, sym, ◌∙◌, ◌≡◌}
 
 -- what the call sees is the line with the item
@@ -38,5 +38,5 @@ invariant_of-self c = record {
   label_room = search rules;
   sealed = search rules;
   front = c.front_from-self-inside.ensures ∙ ap front_of c.as_slice-entries.ensures.value;
-  places = subst (λ ms. ArePlaces ms c.tell_places.new.places) c.as_slice-entries.ensures.value c.tell_places.ensures;
+  places = subst (λ ms. AreRunPlaces ms c.tell_places.new.places) c.as_slice-entries.ensures.value c.tell_places.ensures;
 }

@@ -3,7 +3,7 @@ use Rattle.serial_line.proofs.Once.{differ_changed, old_told, place_told, same_i
 use Rattle.serial_line.proofs.Fronts.{front_stays, stays_open}
 use Rattle.serial_line.proofs.RunPlaces.{places_stay}
 use Rattle.serial_line.proofs.lines.Line.mark.Goals as goal
-use Rattle.serial_line.specs.Marks.{is_open, place_of, stands, touching}
+use Rattle.serial_line.specs.Marks.{is_open_run, place_of, stands, touching}
 use Rattle.std.proofs.Common.{ap, rules, sym, ◌∙◌, ◌≡◌, false}
 use Rattle.std.specs.FinSet as set
 
@@ -23,7 +23,7 @@ invariant_of-self c =
       labels = c.self.invariant.labels;
       label_room = c.self.invariant.label_room;
       sealed = search rules;
-      front = c.self.invariant.front ∙ sym (front_stays c.self.inside.entries.items c.in-Some.at c.touch.new.self c.index_mut.result.now (place_told (Ran c.args.run) c.self.inside.entries.items c.in-Some.at c.index_mut.result.now told).0 (stays_open c.touch.new.self c.index_mut.result.now c.touch.ensures.item c.touch.ensures.ended ∙ ap is_open c.index_mut.ensures.value));
+      front = c.self.invariant.front ∙ sym (front_stays c.self.inside.entries.items c.in-Some.at c.touch.new.self c.index_mut.result.now (place_told (Ran c.args.run) c.self.inside.entries.items c.in-Some.at c.index_mut.result.now told).0 (stays_open c.touch.new.self c.index_mut.result.now c.touch.ensures.item c.touch.ensures.ended ∙ ap is_open_run c.index_mut.ensures.value));
       places = places_stay c.self.inside.entries.items _ c.self.inside.places (same_items c.self.inside.entries.items c.in-Some.at c.touch.new.self c.index_mut.result.now (place_told (Ran c.args.run) c.self.inside.entries.items c.in-Some.at c.index_mut.result.now told).0 (c.touch.ensures.item ∙ ap (λ m. m.item) c.index_mut.ensures.value)) c.self.invariant.places;
     }
 

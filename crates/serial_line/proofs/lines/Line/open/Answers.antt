@@ -1,7 +1,7 @@
 use Rattle.serial_line.proofs.RunPlaces.{no_places}
 use Rattle.serial_line.proofs.lines.Line.open.Goals as goal
 use Rattle.serial_line.specs.Labels.{AreLabels}
-use Rattle.serial_line.specs.RunPlaces.{ArePlaces}
+use Rattle.serial_line.specs.RunPlaces.{AreRunPlaces}
 use Rattle.std.proofs.Common.{None, replicate, rules, subst, sym}
 
 pub invariant_of-result : goal.invariant_of-result
@@ -14,5 +14,5 @@ invariant_of-result c = record {
   labels = subst AreLabels (sym c.new-2.ensures.items) (record { rising = tt; room = tt });
   label_room = search rules;
   sealed = search rules;
-  places = subst (λ ms. ArePlaces ms (replicate 65 None)) (sym c.new.ensures.items) (no_places 65);
+  places = subst (λ ms. AreRunPlaces ms (replicate 65 None)) (sym c.new.ensures.items) (no_places 65);
 }

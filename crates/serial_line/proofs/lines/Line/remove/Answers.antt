@@ -4,8 +4,8 @@ use Rattle.serial_line.proofs.Once.{differ_removed, place_told, removed_told, re
 use Rattle.serial_line.proofs.RunPlaces.{before_removed}
 use Rattle.serial_line.proofs.Sealed.{unsealed_place}
 use Rattle.serial_line.proofs.lines.Line.remove.Goals as goal
-use Rattle.serial_line.specs.Marks.{all_differ, front_of, items_of, place_of, stands, untouched, without}
-use Rattle.serial_line.specs.RunPlaces.{ArePlaces}
+use Rattle.serial_line.specs.Marks.{all_differ, front_of, items_of, marks_without, place_of, stands, untouched}
+use Rattle.serial_line.specs.RunPlaces.{AreRunPlaces}
 use Rattle.std.proofs.Common.{ap, arith, length, vec_len, remove, rules, subst, sym, take, ◌∙◌, ◌≡◌}
 
 -- it is none of those that are sealed
@@ -55,7 +55,7 @@ invariant_of-self c = record {
       let size = c.remove.ensures.len in
       omega (arith, low, within, count, size);
   front = c.front_from-self-inside.ensures ∙ ap front_of c.as_slice-entries.ensures.value;
-  places = subst (λ ms. ArePlaces ms c.tell_places.new.places) c.as_slice-entries.ensures.value c.tell_places.ensures;
+  places = subst (λ ms. AreRunPlaces ms c.tell_places.new.places) c.as_slice-entries.ensures.value c.tell_places.ensures;
 }
 
 pub returns-in-Some-clause-was_there : goal.returns-in-Some-clause-was_there
@@ -64,7 +64,7 @@ returns-in-Some-clause-was_there c = sym (told_stands (Ran c.args.run) c.args.se
 pub returns-in-Some-clause-marks : goal.returns-in-Some-clause-marks
 returns-in-Some-clause-marks c =
     let told = ap (λ s. place_of (Ran c.args.run) s.marks) c.self.view_is ∙ sym c.place_of.ensures.place ∙ c.in-Some.is in
-    c.remove.ensures.items ∙ removed_told (Ran c.args.run) c.self.inside.entries.items c.in-Some.at c.self.invariant.once told ∙ ap (λ s. without c.args.run.0 s.marks) c.self.view_is
+    c.remove.ensures.items ∙ removed_told (Ran c.args.run) c.self.inside.entries.items c.in-Some.at c.self.invariant.once told ∙ ap (λ s. marks_without c.args.run.0 s.marks) c.self.view_is
 
 pub returns-in-None-clause-was_there : goal.returns-in-None-clause-was_there
 returns-in-None-clause-was_there c = sym (untold_stands (Ran c.args.run) c.args.self.now.marks (sym c.place_of.ensures.place ∙ c.in-None.is))

@@ -4,7 +4,7 @@ use Rattle.serial_line.proofs.Neighbours.{neighbours_there}
 use Rattle.serial_line.proofs.RunPlaces.{places_exchanged}
 use Rattle.serial_line.proofs.lines.Line.swap.Goals as goal
 use Rattle.serial_line.specs.Marks.{all_differ, front_of, items_of}
-use Rattle.serial_line.specs.RunPlaces.{ArePlaces, with_place}
+use Rattle.serial_line.specs.RunPlaces.{AreRunPlaces, with_place}
 use Rattle.std.proofs.Common.{Some, ap, arith, get_or, length, rules, suc, subst, sym, ◌+◌, ◌<◌, ◌∙◌, ◌≡◌}
 
 pub front_from-self-inside-requires-clause-from : goal.front_from-self-inside-requires-clause-from
@@ -31,8 +31,8 @@ invariant_of-self c =
       sealed = search rules;
       front = c.front_from-self-inside.ensures ∙ ap front_of c.as_slice-entries.ensures.value;
       places =
-          subst (λ ms. ArePlaces ms c.tell_place-2.new.places) (sym after)
-          (subst (ArePlaces (exchanged c.args.at c.self.inside.entries.items)) (sym (c.tell_place-2.ensures ∙ (λ k. with_place c.item-2.result (Some (next k)) (c.tell_place.ensures k))))
+          subst (λ ms. AreRunPlaces ms c.tell_place-2.new.places) (sym after)
+          (subst (AreRunPlaces (exchanged c.args.at c.self.inside.entries.items)) (sym (c.tell_place-2.ensures ∙ (λ k. with_place c.item-2.result (Some (next k)) (c.tell_place.ensures k))))
           (places_exchanged c.self.inside.entries.items c.args.at c.item.result c.item-2.result c.index-entries-at.result c.index-entries-at-2.result c.self.inside.places c.self.invariant.once (omega (arith, there))
           (c.item.ensures ∙ ap (λ m. m.item) c.index-entries-at.is ∙ ap (λ ms. (get_or ms c.args.at c.index-entries-at.result).item) seen)
           (c.item-2.ensures ∙ ap (λ m. m.item) c.index-entries-at-2.is ∙ (λ k. (get_or (seen k) (next k) c.index-entries-at-2.result).item)) c.self.invariant.places));

@@ -1,5 +1,5 @@
 use Rattle.std.proofs.Common.{rules, sym, ap, ◌∙◌, subst}
-use Rattle.status_board.specs.declared.passes.View.{View}
+use Rattle.status_board.specs.declared.passes.PassView.{PassView}
 use Rattle.status_board.specs.Publishings.{nothing, last_of, IsNotBelow, Rises}
 use Rattle.status_board.specs.Sights.{Sight}
 use Rattle.status_board.specs.Views.{publishing}
@@ -17,9 +17,9 @@ invariant_of-p g c =
     let up = subst (λ (s : Sight). IsNotBelow (last_of s.list) c.args.c) (sym c.p.view_is) c.requires.rises in
     let on = rises_more nothing _ c.args.c c.p.invariant.1 up in
     let now = c.swap_as.ensures.rule in
-    (now ∙ ap (λ (v : View). publishing v.seen) (sym now), subst (λ (v : View). Rises v.seen) (sym now) on)
+    (now ∙ ap (λ (v : PassView). publishing v.seen) (sym now), subst (λ (v : PassView). Rises v.seen) (sym now) on)
 
 pub returns-clause-rises : goal.returns-clause-rises
 returns-clause-rises g c =
     let up = subst (λ (s : Sight). IsNotBelow (last_of s.list) c.args.c) (sym c.p.view_is) c.requires.rises in
-    subst (λ (v : View). Rises v.seen) (sym c.swap_as.ensures.rule) (rises_more nothing _ c.args.c c.p.invariant.1 up)
+    subst (λ (v : PassView). Rises v.seen) (sym c.swap_as.ensures.rule) (rises_more nothing _ c.args.c c.p.invariant.1 up)

@@ -9,7 +9,7 @@ use Rattle.timeline_scheduler.proofs.Closing.{all_closed, chosen_next, closed_ne
 use Rattle.timeline_scheduler.proofs.ItemPlaces.{item_there, told_at}
 use Rattle.timeline_scheduler.proofs.scratches.Scratch.close.Goals as goal
 use Rattle.timeline_scheduler.specs.Gathered.{IsGathered}
-use Rattle.timeline_scheduler.specs.Scratches.{Room}
+use Rattle.timeline_scheduler.specs.Scratches.{ScratchRoom}
 
 -- as many items as marks
 items_length : (marks : List Mark) → length (items_of marks) ≡ length marks
@@ -17,7 +17,7 @@ items_length marks = length-map marks (λ (m : Mark). m.item)
 
 pub items-init : goal.items-init
 items-init c =
-    let size : length c.self.inside.before.items ≡ length c.args.s.now.line.now.marks = ap (λ (s : Room). length s.before) c.self.view_is ∙ c.requires.size in
+    let size : length c.self.inside.before.items ≡ length c.args.s.now.line.now.marks = ap (λ (s : ScratchRoom). length s.before) c.self.view_is ∙ c.requires.size in
     let end = c.len-at.ensures.len in
     let many = items_length c.args.s.now.line.now.marks in
     record {
@@ -36,7 +36,7 @@ unwrap-item-requires c =
 
 pub index-flag-requires : goal.index-flag-requires
 index-flag-requires c =
-    let own = ap (λ (s : Room). length s.before) c.self.view_is ∙ c.requires.size in
+    let own = ap (λ (s : ScratchRoom). length s.before) c.self.view_is ∙ c.requires.size in
     let there = c.items.invariant.within in
     let size = c.items.invariant.closed.size in
     let count : length c.items.self-inside.before.items ≡ vec_len c.items.self-inside.before = search rules in
@@ -44,7 +44,7 @@ index-flag-requires c =
 
 pub index_mut-requires : goal.index_mut-requires
 index_mut-requires c =
-    let own = ap (λ (s : Room). length s.before) c.self.view_is ∙ c.requires.size in
+    let own = ap (λ (s : ScratchRoom). length s.before) c.self.view_is ∙ c.requires.size in
     let there = c.items.invariant.within in
     let size = c.items.invariant.closed.size in
     let count : length c.items.self-inside.before.items ≡ vec_len c.items.self-inside.before = search rules in
@@ -56,7 +56,7 @@ items-preserved c =
     let items : List Item = items_of c.args.s.now.line.now.marks in
     let flags = c.items.self-inside.before.items in
     let start = c.self.inside.before.items in
-    let own : length start ≡ length c.args.s.now.line.now.marks = ap (λ (s : Room). length s.before) c.self.view_is ∙ c.requires.size in
+    let own : length start ≡ length c.args.s.now.line.now.marks = ap (λ (s : ScratchRoom). length s.before) c.self.view_is ∙ c.requires.size in
     let there = c.items.invariant.within in
     let size = c.items.invariant.closed.size in
     let many = items_length c.args.s.now.line.now.marks in
@@ -80,4 +80,4 @@ pub returns : goal.returns
 returns c =
     let done = all_closed (meet (runs_of c.args.s.now.roster.now)) c.self.inside.before.items (items_of c.args.s.now.line.now.marks) c.items.self-inside.before.items c.items.at (omega (arith, c.items-test.false)) c.items.invariant.closed in
     (λ i. record { slots = c.items.invariant.slots i; before = done i; items = c.items.invariant.items i })
-    ∙ ap (λ (s : Room). record s { before = closure (meet (runs_of c.args.s.now.roster.now)) s.before (items_of c.args.s.now.line.now.marks) }) c.self.view_is
+    ∙ ap (λ (s : ScratchRoom). record s { before = closure (meet (runs_of c.args.s.now.roster.now)) s.before (items_of c.args.s.now.line.now.marks) }) c.self.view_is

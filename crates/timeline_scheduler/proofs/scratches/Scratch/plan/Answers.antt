@@ -10,7 +10,7 @@ use Rattle.timeline_scheduler.proofs.Closing.{chosen_more, chosen_same, first_ch
 use Rattle.timeline_scheduler.proofs.ItemPlaces.{item_there, told_at}
 use Rattle.timeline_scheduler.proofs.Passes.{walk_done, walk_length, walk_planned}
 use Rattle.timeline_scheduler.proofs.scratches.Scratch.plan.Goals as goal
-use Rattle.timeline_scheduler.specs.Scratches.{HoldsTimes, Room}
+use Rattle.timeline_scheduler.specs.Scratches.{HoldsTimes, ScratchRoom}
 use Rattle.timeline_scheduler.specs.Slots.{passed_item, passed_set, plan_behind}
 use Rattle.timeline_scheduler.specs.declared.slots.Slot.{Slot}
 
@@ -28,7 +28,7 @@ items-init c = record {
 pub items-preserved-then-not-index : goal.items-preserved-then-not-index
 items-preserved-then-not-index c =
     let start = c.self.inside.before.items in
-    let own : length start ≡ length c.args.s.now.line.now.marks = ap (λ (s : Room). length s.before) c.self.view_is ∙ c.requires.flags in
+    let own : length start ≡ length c.args.s.now.line.now.marks = ap (λ (s : ScratchRoom). length s.before) c.self.view_is ∙ c.requires.flags in
     let end = c.len-at-end.ensures.len in
     let within : c.items.at < length start = omega (arith, own, end, c.items-test.true) in
     let same : length c.items.self-inside.before.items ≡ length start = ap (λ v. length v.items) c.items.invariant.before in
@@ -51,13 +51,13 @@ pass-requires-clause-size c =
     walk_length c.args.s.now.table.now c.args.s.now.book.now.items (runs_of c.args.s.now.roster.now) c.args.r.0 c.self.inside.before.items (items_of c.args.s.now.line.now.marks) c.self.inside.slots c.items.self-inside.slots c.items.at
     (c.items.invariant.slots
     ∙ ap (λ (start : List Slot). fold (λ ss i. passed_item c.args.s.now.table.now c.args.s.now.book.now.items (runs_of c.args.s.now.roster.now) c.args.r.0 i ss) start (chosen (take c.items.at c.self.inside.before.items) (take c.items.at (items_of c.args.s.now.line.now.marks)))) c.clear.ensures)
-    ∙ ap (λ (s : Room). length s.slots) c.self.view_is ∙ c.requires.size
+    ∙ ap (λ (s : ScratchRoom). length s.slots) c.self.view_is ∙ c.requires.size
 
 pub items-preserved : goal.items-preserved
 items-preserved c =
     let start = c.self.inside.before.items in
     let items : List Item = items_of c.args.s.now.line.now.marks in
-    let own : length start ≡ length c.args.s.now.line.now.marks = ap (λ (s : Room). length s.before) c.self.view_is ∙ c.requires.flags in
+    let own : length start ≡ length c.args.s.now.line.now.marks = ap (λ (s : ScratchRoom). length s.before) c.self.view_is ∙ c.requires.flags in
     let many = items_length c.args.s.now.line.now.marks in
     let end = c.len-at-end.ensures.len in
     let within : c.items.at < length start = omega (arith, own, end, c.items-test.true) in
@@ -78,7 +78,7 @@ plan-requires-clause-homed c = λ x d on.
     let size = walk_length c.args.s.now.table.now c.args.s.now.book.now.items (runs_of c.args.s.now.roster.now) c.args.r.0 c.self.inside.before.items (items_of c.args.s.now.line.now.marks) c.self.inside.slots c.items.self-inside.slots c.items.at
     (c.items.invariant.slots
     ∙ ap (λ (start : List Slot). fold (λ ss i. passed_item c.args.s.now.table.now c.args.s.now.book.now.items (runs_of c.args.s.now.roster.now) c.args.r.0 i ss) start (chosen (take c.items.at c.self.inside.before.items) (take c.items.at (items_of c.args.s.now.line.now.marks)))) c.clear.ensures) in
-    let own = ap (λ (s : Room). length s.slots) c.self.view_is in
+    let own = ap (λ (s : ScratchRoom). length s.slots) c.self.view_is in
     let table = c.requires.size in
     let below = c.requires.homed x d on in
     omega (arith, size, own, table, below)
@@ -91,7 +91,7 @@ plan-requires-clause-none c =
 
 pub returns-clause-times : goal.returns-clause-times
 returns-clause-times c =
-    let own : length c.self.inside.before.items ≡ length c.args.s.now.line.now.marks = ap (λ (s : Room). length s.before) c.self.view_is ∙ c.requires.flags in
+    let own : length c.self.inside.before.items ≡ length c.args.s.now.line.now.marks = ap (λ (s : ScratchRoom). length s.before) c.self.view_is ∙ c.requires.flags in
     let many = items_length c.args.s.now.line.now.marks in
     let end = c.len-at-end.ensures.len in
     let done = walk_done c.args.s.now.table.now c.args.s.now.book.now.items (runs_of c.args.s.now.roster.now) c.args.r.0 c.self.inside.before.items (items_of c.args.s.now.line.now.marks) c.self.inside.slots c.items.self-inside.slots c.items.at
@@ -99,12 +99,12 @@ returns-clause-times c =
     ∙ ap (λ (start : List Slot). fold (λ ss i. passed_item c.args.s.now.table.now c.args.s.now.book.now.items (runs_of c.args.s.now.roster.now) c.args.r.0 i ss) start (chosen (take c.items.at c.self.inside.before.items) (take c.items.at (items_of c.args.s.now.line.now.marks)))) c.clear.ensures)
     (omega (arith, own, end, c.items-test.false)) (omega (arith, many, end, c.items-test.false)) in
     subst (λ (ss : List Slot). HoldsTimes c.plan.new.self (plan_behind ss (commands_of (runs_of c.args.s.now.roster.now) c.args.r.0) c.args.moment))
-    (done ∙ ap (λ (s : Room). passed_set c.args.s.now.table.now c.args.s.now.book.now.items (runs_of c.args.s.now.roster.now) c.args.r.0 (chosen s.before (items_of c.args.s.now.line.now.marks)) s.slots) c.self.view_is)
+    (done ∙ ap (λ (s : ScratchRoom). passed_set c.args.s.now.table.now c.args.s.now.book.now.items (runs_of c.args.s.now.roster.now) c.args.r.0 (chosen s.before (items_of c.args.s.now.line.now.marks)) s.slots) c.self.view_is)
     c.plan.ensures.times
 
 pub returns-clause-rest : goal.returns-clause-rest
 returns-clause-rest c =
-    (λ i. record { slots = c.plan.new.self; before = (c.items.invariant.before i).items; items = c.items.invariant.items i }) ∙ ap (λ (s : Room). record s { slots = c.plan.new.self }) c.self.view_is
+    (λ i. record { slots = c.plan.new.self; before = (c.items.invariant.before i).items; items = c.items.invariant.items i }) ∙ ap (λ (s : ScratchRoom). record s { slots = c.plan.new.self }) c.self.view_is
 
 pub returns-clause-size : goal.returns-clause-size
 returns-clause-size c =
@@ -112,4 +112,4 @@ returns-clause-size c =
     ∙ walk_length c.args.s.now.table.now c.args.s.now.book.now.items (runs_of c.args.s.now.roster.now) c.args.r.0 c.self.inside.before.items (items_of c.args.s.now.line.now.marks) c.self.inside.slots c.items.self-inside.slots c.items.at
     (c.items.invariant.slots
     ∙ ap (λ (start : List Slot). fold (λ ss i. passed_item c.args.s.now.table.now c.args.s.now.book.now.items (runs_of c.args.s.now.roster.now) c.args.r.0 i ss) start (chosen (take c.items.at c.self.inside.before.items) (take c.items.at (items_of c.args.s.now.line.now.marks)))) c.clear.ensures)
-    ∙ ap (λ (s : Room). length s.slots) c.self.view_is
+    ∙ ap (λ (s : ScratchRoom). length s.slots) c.self.view_is

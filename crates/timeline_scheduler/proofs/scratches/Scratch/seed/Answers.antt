@@ -5,7 +5,7 @@ use Rattle.timeline_scheduler.proofs.ItemPlaces.{take_next}
 use Rattle.timeline_scheduler.proofs.Needs.{seeds_length}
 use Rattle.timeline_scheduler.proofs.scratches.Scratch.seed.Goals as goal
 use Rattle.timeline_scheduler.specs.Bases.{seeds}
-use Rattle.timeline_scheduler.specs.Scratches.{Room}
+use Rattle.timeline_scheduler.specs.Scratches.{ScratchRoom}
 
 pub items-preserved : goal.items-preserved
 items-preserved c = record {
@@ -22,7 +22,7 @@ returns-clause-flags c =
     let end = c.len-at-end.ensures.len in
     let flags = c.items.invariant.flags ∙ take_all c.items.at (seeds c.args.s.now.book.now.items (runs_of c.args.s.now.roster.now) c.args.r.0 c.args.s.now.line.now.marks) (omega (arith, all, end, c.items-test.false)) in
     (λ i. record { slots = c.items.invariant.slots i; before = flags i; items = c.items.invariant.items i })
-    ∙ ap (λ (s : Room). record s { before = seeds c.args.s.now.book.now.items (runs_of c.args.s.now.roster.now) c.args.r.0 c.args.s.now.line.now.marks }) c.self.view_is
+    ∙ ap (λ (s : ScratchRoom). record s { before = seeds c.args.s.now.book.now.items (runs_of c.args.s.now.roster.now) c.args.r.0 c.args.s.now.line.now.marks }) c.self.view_is
 
 pub returns-clause-few : goal.returns-clause-few
 returns-clause-few c = let few = c.len-at-end.ensures.few in omega (arith, few)

@@ -9,7 +9,7 @@ use Rattle.std.specs.Prelude.{map}
 use Rattle.timeline_scheduler.proofs.ItemPlaces.{item_there, told_at}
 use Rattle.timeline_scheduler.proofs.Taking.{all_taken, taken_in, taken_not, taken_too}
 use Rattle.timeline_scheduler.proofs.scratches.Scratch.take_misfits.Goals as goal
-use Rattle.timeline_scheduler.specs.Scratches.{Room}
+use Rattle.timeline_scheduler.specs.Scratches.{ScratchRoom}
 use Rattle.timeline_scheduler.specs.Slots.{is_misfit}
 
 -- as many items as marks
@@ -20,7 +20,7 @@ pub items-preserved-then-index : goal.items-preserved-then-index
 items-preserved-then-index c =
     let test : Item → Bool = of_run (is_misfit c.args.s.now.table.now (runs_of c.args.s.now.roster.now) c.args.r.0 c.self.inside.slots) in
     let flags = c.items.self-inside.before.items in
-    let own : length c.self.inside.before.items ≡ length c.args.s.now.line.now.marks = ap (λ (s : Room). length s.before) c.self.view_is ∙ c.requires.flags in
+    let own : length c.self.inside.before.items ≡ length c.args.s.now.line.now.marks = ap (λ (s : ScratchRoom). length s.before) c.self.view_is ∙ c.requires.flags in
     let many = items_length c.args.s.now.line.now.marks in
     let size = c.items.invariant.taken.size in
     let end = c.len-at-end.ensures.len in
@@ -43,7 +43,7 @@ items-preserved-then-not-is_misfit c =
     let test : Item → Bool = of_run (is_misfit c.args.s.now.table.now (runs_of c.args.s.now.roster.now) c.args.r.0 c.self.inside.slots) in
     let items : List Item = items_of c.args.s.now.line.now.marks in
     let flags = c.items.self-inside.before.items in
-    let own : length c.self.inside.before.items ≡ length c.args.s.now.line.now.marks = ap (λ (s : Room). length s.before) c.self.view_is ∙ c.requires.flags in
+    let own : length c.self.inside.before.items ≡ length c.args.s.now.line.now.marks = ap (λ (s : ScratchRoom). length s.before) c.self.view_is ∙ c.requires.flags in
     let many = items_length c.args.s.now.line.now.marks in
     let size = c.items.invariant.taken.size in
     let end = c.len-at-end.ensures.len in
@@ -62,7 +62,7 @@ items-preserved c =
     let test : Item → Bool = of_run (is_misfit c.args.s.now.table.now (runs_of c.args.s.now.roster.now) c.args.r.0 c.self.inside.slots) in
     let items : List Item = items_of c.args.s.now.line.now.marks in
     let flags = c.items.self-inside.before.items in
-    let own : length c.self.inside.before.items ≡ length c.args.s.now.line.now.marks = ap (λ (s : Room). length s.before) c.self.view_is ∙ c.requires.flags in
+    let own : length c.self.inside.before.items ≡ length c.args.s.now.line.now.marks = ap (λ (s : ScratchRoom). length s.before) c.self.view_is ∙ c.requires.flags in
     let many = items_length c.args.s.now.line.now.marks in
     let size = c.items.invariant.taken.size in
     let end = c.len-at-end.ensures.len in
@@ -79,10 +79,10 @@ items-preserved c =
 pub returns-clause-flags : goal.returns-clause-flags
 returns-clause-flags c =
     let test : Item → Bool = of_run (is_misfit c.args.s.now.table.now (runs_of c.args.s.now.roster.now) c.args.r.0 c.self.inside.slots) in
-    let own : length c.self.inside.before.items ≡ length c.args.s.now.line.now.marks = ap (λ (s : Room). length s.before) c.self.view_is ∙ c.requires.flags in
+    let own : length c.self.inside.before.items ≡ length c.args.s.now.line.now.marks = ap (λ (s : ScratchRoom). length s.before) c.self.view_is ∙ c.requires.flags in
     let many = items_length c.args.s.now.line.now.marks in
     let size = c.items.invariant.taken.size in
     let end = c.len-at-end.ensures.len in
     let all = all_taken test (items_of c.args.s.now.line.now.marks) c.self.inside.before.items c.items.self-inside.before.items c.items.at c.items.some (omega (arith, own, many)) c.items.invariant.taken (omega (arith, own, size, end, c.items-test.false)) in
     (λ i. record { slots = c.items.invariant.slots i; before = all i; items = c.items.invariant.items i })
-    ∙ ap (λ (s : Room). record s { before = either_of s.before (map (of_run (is_misfit c.args.s.now.table.now (runs_of c.args.s.now.roster.now) c.args.r.0 s.slots)) (items_of c.args.s.now.line.now.marks)) }) c.self.view_is
+    ∙ ap (λ (s : ScratchRoom). record s { before = either_of s.before (map (of_run (is_misfit c.args.s.now.table.now (runs_of c.args.s.now.roster.now) c.args.r.0 s.slots)) (items_of c.args.s.now.line.now.marks)) }) c.self.view_is

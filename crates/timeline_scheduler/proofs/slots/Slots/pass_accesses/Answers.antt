@@ -9,11 +9,11 @@ use Rattle.std.specs.Prelude.{max, ◌&&◌}
 use Rattle.timeline_scheduler.proofs.DeviceWalks.{fold_done, fold_next, next_alike, none_alike}
 use Rattle.timeline_scheduler.proofs.SlotSets.{changed_is}
 use Rattle.timeline_scheduler.proofs.slots.Slots.pass_accesses.Goals as goal
-use Rattle.timeline_scheduler.specs.Slots.{changed, changed_on, devices_passed, end_of_access, is_among, is_passed, is_with_access, slot_behind, slot_passed, whole_passed}
+use Rattle.timeline_scheduler.specs.Slots.{changed, changed_on, devices_passed, end_of_access, is_device_followed, is_passed, is_with_access, slot_behind, slot_passed, whole_passed}
 
 pub find-access-requires-clause-there : goal.find-access-requires-clause-there
 find-access-requires-clause-there c =
-    first (has_access c.args.x.0 (accesses_at c.args.s.now.table.now c.in-Some.d.0)) (is_among (option_map (λ b. b.now) c.args.followed) c.in-Some.d.0) (sym (c.devices_to_pass-devices.ensures.devices c.in-Some.d.0) ∙ c.in-Some.ensures.next.1)
+    first (has_access c.args.x.0 (accesses_at c.args.s.now.table.now c.in-Some.d.0)) (is_device_followed (option_map (λ b. b.now) c.args.followed) c.in-Some.d.0) (sym (c.devices_to_pass-devices.ensures.devices c.in-Some.d.0) ∙ c.in-Some.ensures.next.1)
   where
     first : (a b : Bool) → (a && b) ≡ true → a ≡ true
     first a b e = grind (arith, common_steps)

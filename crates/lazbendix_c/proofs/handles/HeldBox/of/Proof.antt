@@ -35,10 +35,10 @@ use Rattle.std.proofs.raw_atomic.Walks.{proved_at, leaves}
 use Rattle.lazbendix_c.proofs.Grasps.{both, held_good, held_in}
 use Rattle.std_alloc.specs.contracts.boxed.Box.into_raw_with_allocator as callee
 use Rattle.std_alloc.proofs.boxed.Box.into_raw_with_allocator.Met.{met}
-use Rattle.lazbendix_c.specs.contracts.handles.Held.of.{ended, clauses}
-use Rattle.lazbendix_c.specs.contracts.handles.Held.of.Key.{name as #self}
-use Rattle.lazbendix_c.proofs.handles.Held.of.Statement.{statement}
-use Rattle.lazbendix_c.proofs.handles.Held.of.Code as code
+use Rattle.lazbendix_c.specs.contracts.handles.HeldBox.of.{ended, clauses}
+use Rattle.lazbendix_c.specs.contracts.handles.HeldBox.of.Key.{name as #self}
+use Rattle.lazbendix_c.proofs.handles.HeldBox.of.Statement.{statement}
+use Rattle.lazbendix_c.proofs.handles.HeldBox.of.Code as code
 
 pub of_spec : {M : Type 1} → statement M
 of_spec 𝓤 𝓛 𝓜 𝓡 wired T A L LA g d dx dd allocator glue glued =

@@ -1,5 +1,5 @@
 use Rattle.serial_line.proofs.Meetings.{meets_one, meets_told}
-use Rattle.serial_line.proofs.entries.Entry.meets.Goals as goal
+use Rattle.serial_line.proofs.entries.MarkedItem.meets.Goals as goal
 
 pub returns-in-Ran : goal.returns-in-Ran
 returns-in-Ran c = rw (← c.self.view_is, c.in-Ran.is) (meets_told c.args.devices.now c.self.inside.touches c.meets.result c.meets.ensures)

@@ -1,5 +1,5 @@
 use Rattle.home_types.proofs.DeviceBits.{contains_one}
-use Rattle.serial_line.proofs.entries.Entry.has_touched.Goals as goal
+use Rattle.serial_line.proofs.entries.MarkedItem.has_touched.Goals as goal
 
 pub returns-in-Failed : goal.returns-in-Failed
 returns-in-Failed c = rw (c.eq.ensures, ← c.self.view_is, c.in-Failed.is) (contains_one c.in-Failed.failed.0 c.args.device.0)

@@ -34,10 +34,10 @@ use Rattle.std.proofs.raw_atomic.Walks.{proved_at, leaves}
 use Rattle.lazbendix_c.proofs.Grasps.{both, Held, held_good, held_out}
 use Rattle.std_alloc.specs.contracts.boxed.Box.from_raw as callee
 use Rattle.std_alloc.proofs.boxed.Box.from_raw.Met.{met}
-use Rattle.lazbendix_c.specs.contracts.handles.Held.into_box.{ended, clauses}
-use Rattle.lazbendix_c.specs.contracts.handles.Held.into_box.Key.{name as #self}
-use Rattle.lazbendix_c.proofs.handles.Held.into_box.Statement.{statement}
-use Rattle.lazbendix_c.proofs.handles.Held.into_box.Code as code
+use Rattle.lazbendix_c.specs.contracts.handles.HeldBox.into_box.{ended, clauses}
+use Rattle.lazbendix_c.specs.contracts.handles.HeldBox.into_box.Key.{name as #self}
+use Rattle.lazbendix_c.proofs.handles.HeldBox.into_box.Statement.{statement}
+use Rattle.lazbendix_c.proofs.handles.HeldBox.into_box.Code as code
 
 pub into_box_spec : {M : Type 1} → statement M
 into_box_spec 𝓤 𝓛 𝓜 𝓡 wired T A L LA g d dx dd allocator glue glued =
