@@ -1,4 +1,5 @@
-//! The next undo of a run: on which device, and whether the device is driven back or its write is dropped.
+//! The next undo of a run: on which device, and whether the device is driven back or its write is
+//! dropped.
 ghost use Rattle.std.specs.Prelude.{◌≡◌, ◌<◌, length};
 ghost use Rattle.abort_rollback.specs.Undos.{next_undo, undo_on};
 
@@ -16,7 +17,8 @@ pub enum Undo {
     Finished,
 }
 
-/// The next undo of the run: on the smallest device of the home on which it has the effective write.
+/// The next undo of the run: on the smallest device of the home on which it has the effective
+/// write.
 ///
 /// A write of the run that another has overwritten is not undone. Takes no memory.
 pub fn next_undo(table: &Table, r: RunNo) -> Undo

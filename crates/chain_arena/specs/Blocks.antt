@@ -23,7 +23,8 @@ module _ {X : Type 0} where
   IsFrom alloc (Some m) = alloc ≡ m.alloc
 
   -- the numbers and the allocator beside the memory are its own
-  pub record IsBlock (memory : Option (Memory X Global)) (len room : ℕ) (alloc : Global) : Type 0 where
+  pub record IsBlock (memory : Option (Memory X Global)) (len room : ℕ)
+      (alloc : Global) : Type 0 where
     pub counts : len ≡ length (items_of memory)
     pub holds : room ≡ room_of memory
     pub from : IsFrom alloc memory

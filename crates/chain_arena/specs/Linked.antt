@@ -99,7 +99,11 @@ module _ {T : Type 0} where
   abbrev pub with_free : Links T → Links T
   with_free s =
       let more = s.block.items ++ node nil s.free None ∷ [] in
-      record s { block = record s.block { items = more }; free = length s.block.items; spare = s.spare + 1 }
+      record s {
+        block = record s.block { items = more };
+        free = length s.block.items;
+        spare = s.spare + 1;
+      }
 
   -- the value at the place is x
   abbrev pub with_value : Links T → ℕ → T → Links T

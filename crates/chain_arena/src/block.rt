@@ -8,8 +8,8 @@ use std::marker::Model;
 use std::mem;
 use std_alloc::room::may_hold;
 
-/// A block with a value in each of its first places, and memory for so many more. There is none as long as it has room
-/// for no value.
+/// A block with a value in each of its first places, and memory for so many more. There is none as
+/// long as it has room for no value.
 pub struct Block<T> {
     memory: Option<Memory<T, Global>>,
     len: usize,
@@ -42,8 +42,9 @@ impl<T> Block<T> {
         }
     }
 
-    /// Makes room for `room` values in all. What lies in the places stays there. `AllocError` where there is no memory
-    /// for so many, or where they would have 2^63 bytes or more; nothing has changed then.
+    /// Makes room for `room` values in all. What lies in the places stays there. `AllocError` where
+    /// there is no memory for so many, or where they would have 2^63 bytes or more; nothing has
+    /// changed then.
     pub(crate) fn grow(&mut self, room: usize) -> Result<(), AllocError>
         ensures items { self.new.items ≡ self.old.items }
         ensures ok { OnOk result (room ≤ self.new.room) }
@@ -115,7 +116,8 @@ impl<T> Block<T> {
         }
     }
 
-    /// Gives the block back. What lies in its places is forgotten: the caller sees that nothing is lost with it.
+    /// Gives the block back. What lies in its places is forgotten: the caller sees that nothing is
+    /// lost with it.
     pub(crate) unsafe fn free(self) {
         let Block {
             memory,

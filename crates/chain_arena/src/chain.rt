@@ -12,8 +12,9 @@ use home_types::NoMemory;
 use std::alloc::Global;
 use std::marker::Model;
 
-/// A list of values, each under a knot that names it until it leaves. Contracts see its pairs of a knot and a value, in
-/// their order, and beside them how many more it takes with no memory (`spare`).
+/// A list of values, each under a knot that names it until it leaves. Contracts see its pairs of a
+/// knot and a value, in their order, and beside them how many more it takes with no memory
+/// (`spare`).
 pub struct Chain<T> {
     links: Links<T>,
 }
@@ -42,9 +43,9 @@ impl<T> Chain<T> {
         }
     }
 
-    /// Makes room for `n` more pairs and for no more than these, or answers `NoMemory`: where there is no memory for the
-    /// greater block, or where it would have more than 4,294,967,295 places. The pairs keep their order and their knots in
-    /// both cases, and the room that there was stays.
+    /// Makes room for `n` more pairs and for no more than these, or answers `NoMemory`: where there
+    /// is no memory for the greater block, or where it would have more than 4,294,967,295 places.
+    /// The pairs keep their order and their knots in both cases, and the room that there was stays.
     pub fn reserve(&mut self, n: u32) -> Result<(), NoMemory>
         ensures pairs { self.new.pairs ≡ self.old.pairs }
         ensures room { OnOk result (self.new.spare ≡ max self.old.spare n) }
@@ -69,8 +70,8 @@ impl<T> Chain<T> {
         self.links.has(k.0)
     }
 
-    /// Puts the value last, and answers its knot, which is that of no other pair. Takes no memory, and one place of the
-    /// room, for which it asks.
+    /// Puts the value last, and answers its knot, which is that of no other pair. Takes no memory,
+    /// and one place of the room, for which it asks.
     pub fn push_back(&mut self, t: T) -> Knot
         requires room { 0 < self.old.spare }
         ensures new { has_knot result.0 self.old.pairs ≡ false }
@@ -80,8 +81,8 @@ impl<T> Chain<T> {
         Knot(self.links.put(NONE, t))
     }
 
-    /// Puts the value immediately before that of the knot, and answers its own knot, which is that of no other pair. Takes
-    /// no memory, and one place of the room, for which it asks.
+    /// Puts the value immediately before that of the knot, and answers its own knot, which is that
+    /// of no other pair. Takes no memory, and one place of the room, for which it asks.
     pub fn insert_before(&mut self, k: Knot, t: T) -> Knot
         requires there { IsTrue (has_knot k.0 self.old.pairs) }
         requires room { 0 < self.old.spare }
@@ -92,7 +93,8 @@ impl<T> Chain<T> {
         Knot(self.links.put(k.0, t))
     }
 
-    /// Takes the pair of the knot out, and answers its value. The others keep their order, and the room is greater by one.
+    /// Takes the pair of the knot out, and answers its value. The others keep their order, and the
+    /// room is greater by one.
     pub fn unlink(&mut self, k: Knot) -> T
         requires there { IsTrue (has_knot k.0 self.old.pairs) }
         ensures value { value_at k.0 self.old.pairs ≡ Some result }
@@ -147,7 +149,8 @@ impl<T> Chain<T> {
         knot_at(self.place_after(k))
     }
 
-    /// The place of the pair immediately behind that of the knot. `NONE` where that is the last one.
+    /// The place of the pair immediately behind that of the knot. `NONE` where that is the last
+    /// one.
     pub(crate) fn place_after(&self, k: Knot) -> u32
         requires there { IsTrue (has_knot k.0 self.now.pairs) }
         ensures cursor { IsCursor (knot_at result) self.now.pairs }

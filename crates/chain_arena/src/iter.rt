@@ -9,7 +9,8 @@ use crate::knots::Knot;
 use crate::links::NONE;
 use std::marker::Model;
 
-/// An iterator over the pairs of a chain, in order: the place of the next one, `NONE` behind the last one.
+/// An iterator over the pairs of a chain, in order: the place of the next one, `NONE` behind the
+/// last one.
 #[derive(Drop)]
 pub struct Iter<'a, T> {
     pub(crate) chain: &'a Chain<T>,

@@ -1,4 +1,5 @@
-//! A doubly linked list in one raw block. Its links are numbers of places, so a block that grows keeps them all.
+//! A doubly linked list in one raw block. Its links are numbers of places, so a block that grows
+//! keeps them all.
 #![tactic(auto)]
 
 mod block;

@@ -1,5 +1,5 @@
-//! The places of a chain and the links between them. The first place of the list, its last one and the first free one
-//! are kept beside the block.
+//! The places of a chain and the links between them. The first place of the list, its last one and
+//! the first free one are kept beside the block.
 ghost use Rattle.std.specs.Prelude.{◌≡◌, ◌+◌, ◌<◌, ◌≤◌, ◌^◌, [], None, Some, IsSome, IsTrue, OnErr, OnOk, false, is_some, length, slice_get, ℕ};
 ghost use Rattle.chain_arena.specs.Linked.{Empties, Fills, IsChain, IsFree, IsLink, IsLinked, IsOn, Joins, SetsLeft, SetsRight, knot, left, nil, pairs_of, right, right_in, room_of, value, with_free};
 ghost use Rattle.chain_arena.specs.Places.{IsPlace};
@@ -11,11 +11,12 @@ use home_types::NoMemory;
 use std::alloc::Global;
 use std::mem;
 
-/// Stands for no place: to the right of the last one, to the left of the first one, behind the last free one.
+/// Stands for no place: to the right of the last one, to the left of the first one, behind the last
+/// free one.
 pub(crate) const NONE: u32 = u32::MAX;
 
-/// What a place of the block holds: the places of the neighbours of its pair, and the pair's value. A free place has no
-/// value, and its right link is the next free place.
+/// What a place of the block holds: the places of the neighbours of its pair, and the pair's value.
+/// A free place has no value, and its right link is the next free place.
 #[derive(Drop)]
 pub struct Node<T> {
     left: u32,
@@ -49,15 +50,17 @@ impl<T> Links<T> {
         }
     }
 
-    /// Makes the places `len` in all. Those that there are keep their numbers and what lies in them, so the links stay.
-    /// The new ones are free. `NoMemory` where there is no memory for so many; nothing has changed then.
+    /// Makes the places `len` in all. Those that there are keep their numbers and what lies in
+    /// them, so the links stay. The new ones are free. `NoMemory` where there is no memory for so
+    /// many; nothing has changed then.
     pub(crate) fn grow(&mut self, len: usize) -> Result<(), NoMemory>
         requires linked { IsLinked self.old }
         requires more { length self.old.block.items ≤ len }
         requires few { len ≤ nil }
         ensures linked { IsLinked self.new }
         ensures pairs { pairs_of self.new ≡ pairs_of self.old }
-        ensures ok { OnOk result (self.new.spare + length self.old.block.items ≡ self.old.spare + len) }
+        ensures ok { OnOk result
+            (self.new.spare + length self.old.block.items ≡ self.old.spare + len) }
         ensures err { OnErr result (self.new ≡ self.old) }
     {
         let Ok(()) = self.block.grow(len) else {
@@ -168,7 +171,8 @@ impl<T> Links<T> {
         }
     }
 
-    /// The place to the right of this one. To the right of `NONE` it is the first one, and of the last one it is `NONE`.
+    /// The place to the right of this one. To the right of `NONE` it is the first one, and of the
+    /// last one it is `NONE`.
     fn right_of(&self, place: u32) -> u32
         requires { IsLink self.now place }
         ensures { result ≡ right self.now place }
@@ -188,7 +192,8 @@ impl<T> Links<T> {
         self.block.get(place as usize).right
     }
 
-    /// The place to the left of this one. To the left of `NONE` it is the last one, and of the first one it is `NONE`.
+    /// The place to the left of this one. To the left of `NONE` it is the last one, and of the
+    /// first one it is `NONE`.
     fn left_of(&self, place: u32) -> u32
         requires { IsLink self.now place }
         ensures { result ≡ left self.now place }
@@ -224,8 +229,8 @@ impl<T> Links<T> {
         }
     }
 
-    /// Puts the value into a free place, whose number is the result, immediately before the pair of the place `at`, or
-    /// last where that is `NONE`.
+    /// Puts the value into a free place, whose number is the result, immediately before the pair of
+    /// the place `at`, or last where that is `NONE`.
     pub(crate) fn put(&mut self, at: u32, item: T) -> u32
         requires linked { IsLinked self.old }
         requires room { 0 < self.old.spare }

@@ -8,8 +8,8 @@ use std::alloc::Allocator;
 use std::marker::{Model, PhantomData};
 use std::mem::{align_of, size_of};
 
-/// A block for so many values (`room`), of which the first ones are there (`items`), in order. It keeps its pointer and no
-/// number: who calls tells it what it asks.
+/// A block for so many values (`room`), of which the first ones are there (`items`), in order. It
+/// keeps its pointer and no number: who calls tells it what it asks.
 pub struct Memory<T, A: Allocator> {
     base: *mut T,
     by: PhantomData<A>,
@@ -46,10 +46,11 @@ impl<T, A: Allocator> Memory<T, A> {
         }
     }
 
-    /// Makes the block one for `more` values, in another place where that must be, and answers whether there was memory
-    /// for it. The values that are there stay.
+    /// Makes the block one for `more` values, in another place where that must be, and answers
+    /// whether there was memory for it. The values that are there stay.
     pub(crate) fn grow(&mut self, alloc: &A, len: usize, room: usize, more: usize) -> bool
-        requires counts { (len ≡ length self.old.items) × (room ≡ self.old.room) × (alloc.now ≡ self.old.alloc) }
+        requires counts { (len ≡ length self.old.items) × (room ≡ self.old.room)
+            × (alloc.now ≡ self.old.alloc) }
         requires grows { (len ≤ room) × (room ≤ more) × FitsBlock T.row more }
         ensures items { self.new.items ≡ self.old.items }
         ensures room { self.new.room ≡ (if result then more else self.old.room) }
@@ -90,7 +91,8 @@ impl<T, A: Allocator> Memory<T, A> {
         unsafe { &mut *self.base.add(i) }
     }
 
-    /// Gives the block back. Values that are there are forgotten, so the caller sees that nothing is lost with them.
+    /// Gives the block back. Values that are there are forgotten, so the caller sees that nothing
+    /// is lost with them.
     pub(crate) unsafe fn free(self, alloc: &A, room: usize)
         requires { (room ≡ self.room) × (alloc.now ≡ self.alloc) }
     {

@@ -10,8 +10,8 @@ use std::alloc::{AllocError, Global};
 use std::fmt::Write as _;
 use std::io::{self, Write};
 
-/// Judges the record of a case, and writes a line: the name of the case, and that the record agrees, or the window and the
-/// place where it does not.
+/// Judges the record of a case, and writes a line: the name of the case, and that the record
+/// agrees, or the window and the place where it does not.
 pub fn write_verdict<W: Write>(alloc: Global, case: &Case, out: &mut W) -> io::Result<()> {
     let Ok(script) = read_script(alloc, case.script.as_bytes()) else {
         return Err(io::Error::from(io::ErrorKind::InvalidData));

@@ -352,4 +352,7 @@ grown_holds {A = A} meets base bars line size = along line (closure meets base l
   where
     along : (turns : List A) (bs : List Bool) → IsPart base bs → IsPart base (widened meets base bars line bs turns)
     along [] bs p = p
-    along (t ∷ ts) bs p = along ts (wider meets base bars line bs) (part_of_part base (either_of base (map (bars bs) line)) (wider meets base bars line bs) (either_first base (map (bars bs) line) (size ∙ sym (length-map line (bars bs)))) (closure_holds meets (either_of base (map (bars bs) line)) line (told_size base bars line bs size)))
+    along (t ∷ ts) bs p =
+        along ts (wider meets base bars line bs) (part_of_part base (either_of base (map (bars bs) line)) (wider meets base bars line bs)
+        (either_first base (map (bars bs) line) (size ∙ sym (length-map line (bars bs))))
+        (closure_holds meets (either_of base (map (bars bs) line)) line (told_size base bars line bs size)))

@@ -29,7 +29,9 @@ pub found : (cs others : List Command) → list_any (λ (c : Command). list_any 
 found [] others any = absurd (grind (arith, common_steps))
 found (c ∷ cs) others any = at (λ rest. found cs others rest) (list_any (is_on c.device.0) others) refl
   where
-    at : (list_any (λ (e : Command). list_any (is_on e.device.0) others) cs ≡ true → (d : ℕ) × (list_any (is_on d) cs ≡ true) × (list_any (is_on d) others ≡ true)) → (b : Bool) → list_any (is_on c.device.0) others ≡ b → (d : ℕ) × (list_any (is_on d) (c ∷ cs) ≡ true) × (list_any (is_on d) others ≡ true)
+    at : (list_any (λ (e : Command). list_any (is_on e.device.0) others) cs ≡ true
+        → (d : ℕ) × (list_any (is_on d) cs ≡ true) × (list_any (is_on d) others ≡ true)) → (b : Bool) → list_any (is_on c.device.0) others ≡ b
+        → (d : ℕ) × (list_any (is_on d) (c ∷ cs) ≡ true) × (list_any (is_on d) others ≡ true)
     at later true e = (c.device.0, grind (arith, common_steps), e)
     at later false e =
         let rest : list_any (λ (e : Command). list_any (is_on e.device.0) others) cs ≡ true = grind (arith, common_steps) in

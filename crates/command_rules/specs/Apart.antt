@@ -1,4 +1,5 @@
--- Which items of a line may not be exchanged: those that share a device, and a run and the one that it follows.
+-- Which items of a line may not be exchanged: those that share a device, and a run and the one that
+-- it follows.
 use Rattle.command_rules.specs.Rosters.{Run, follows, shares, touches}
 use Rattle.home_types.specs.declared.items.Item.TheVariants.{Back, Failed, Ran}
 use Rattle.home_types.specs.declared.items.Item.{Item}

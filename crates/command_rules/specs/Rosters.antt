@@ -41,7 +41,8 @@ abbrev pub commands_of : List Run → RunId → List Command
 commands_of runs r = unwrap_or (option_map (λ run. run.commands) (run_in_roster runs r)) []
 
 abbrev pub no_command : Command
-no_command = record { device = device_no 0; job = Load; when = Always; must = false; ms = 0; takes = 0 }
+no_command =
+    record { device = device_no 0; job = Load; when = Always; must = false; ms = 0; takes = 0 }
 
 abbrev pub command_at : List Run → RunId → CommandIndex → Command
 command_at runs r c = slice_index_or (commands_of runs r) c no_command
@@ -78,13 +79,16 @@ is_last runs r k = not (touches_from runs r (command_at runs r k).device.0 (suc 
 -- one of these commands reads, and no command with the guard Always before it writes
 abbrev pub reads_unwritten : List Command → Bool
 reads_unwritten [] = false
-reads_unwritten (c ∷ cs) = reads c.job || (not (is_always c.when && writes c.job) && reads_unwritten cs)
+reads_unwritten (c ∷ cs) =
+    reads c.job || (not (is_always c.when && writes c.job) && reads_unwritten cs)
 
--- a command of it on the device reads, and no command on the device with the guard Always before it writes
+-- a command of it on the device reads, and no command on the device with the guard Always before it
+-- writes
 abbrev pub reads_first : List Run → RunId → DeviceId → Bool
 reads_first runs r d = reads_unwritten (filter (is_on d) (commands_of runs r))
 
--- the command decides whether the device is read first: it is on the device, and reads or is not skipped
+-- the command decides whether the device is read first: it is on the device, and reads or is not
+-- skipped
 abbrev pub settles : DeviceId → Command → Bool
 settles d c = is_on d c && (reads c.job || is_always c.when)
 
@@ -99,4 +103,5 @@ shares runs a b = list_any (λ c. touches runs b c.device.0) (commands_of runs a
 -- the sum of the estimates up to and with the last command on the device, 0 where there is none
 abbrev pub estimate_to_last : DeviceId → List Command → ℕ
 estimate_to_last d [] = 0
-estimate_to_last d (c ∷ cs) = if list_any (is_on d) (c ∷ cs) then c.ms + estimate_to_last d cs else 0
+estimate_to_last d (c ∷ cs) =
+    if list_any (is_on d) (c ∷ cs) then c.ms + estimate_to_last d cs else 0

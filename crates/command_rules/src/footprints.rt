@@ -31,7 +31,8 @@ pub fn last_command_on(commands: &[Command], d: DeviceNo) -> Option<usize>
 
 /// Whether the first command that decides how the device `d` is used first is one that reads it.
 pub fn settled_by_read(commands: &[Command], d: DeviceNo) -> bool
-    ensures { result ≡ unwrap_or (option_map (λ c. reads_job c.job) (find (settles d.0) commands.now)) false }
+    ensures { result
+        ≡ unwrap_or (option_map (λ c. reads_job c.job) (find (settles d.0) commands.now)) false }
 {
     let first = commands.iter().find(|command| command.device == d
         && (reads(command.job) || is_always(command.when)));
@@ -41,7 +42,8 @@ pub fn settled_by_read(commands: &[Command], d: DeviceNo) -> bool
     }
 }
 
-/// The sum of the estimates, in ms, up to and with the last command on the device `d`: 0 where no command is on it.
+/// The sum of the estimates, in ms, up to and with the last command on the device `d`: 0 where no
+/// command is on it.
 pub fn sum_to_last(commands: &[Command], d: DeviceNo) -> u64
     requires { length commands.now < 2 ^ 32 }
     ensures { result ≡ estimate_to_last d.0 commands.now }

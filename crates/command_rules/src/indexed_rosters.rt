@@ -1,4 +1,5 @@
-//! A roster with the footprint of each run, made once: its devices as bits, and which commands are the last ones there.
+//! A roster with the footprint of each run, made once: its devices as bits, and which commands are
+//! the last ones there.
 ghost use Rattle.std.specs.Prelude.{◌≡◌, ◌<◌, ◌≤◌, ◌&&◌, IfOk, IsTrue, Some, length, option_map, slice_get, ℕ};
 ghost use Rattle.command_rules.specs.Footprints.{FitsIndex, IsFootprint};
 ghost use Rattle.command_rules.specs.Rosters.{commands_of, is_last, is_run, reads_first, runs_of, shares, touches, writes_on};
@@ -12,8 +13,8 @@ use home_types::{Command, DeviceNo, DeviceSet, List, NoMemory, RunNo};
 use std::alloc::Global;
 use std::marker::Model;
 
-/// The devices of a run's commands, which of its commands are the last ones on their devices, and which of its devices it
-/// reads first and writes.
+/// The devices of a run's commands, which of its commands are the last ones on their devices, and
+/// which of its devices it reads first and writes.
 #[derive(Drop)]
 pub(crate) struct Footprint {
     devices: DeviceSet,
@@ -25,8 +26,8 @@ pub(crate) struct Footprint {
     written: DeviceSet,
 }
 
-/// The runs of an open window, with the footprint of each, made once and never changed: no call goes over the commands
-/// of a run.
+/// The runs of an open window, with the footprint of each, made once and never changed: no call
+/// goes over the commands of a run.
 ///
 /// Contracts see the roster.
 #[derive(Drop)]
@@ -45,7 +46,8 @@ impl Model for IndexedRoster {
 
     ghost view = { λ i. i.roster };
 
-    ghost invariant = { λ i. FitsIndex (runs_of i.roster) × AreFootprints (length i.roster.runs.items) (runs_of i.roster) i.footprints.items };
+    ghost invariant = { λ i. FitsIndex (runs_of i.roster)
+        × AreFootprints (length i.roster.runs.items) (runs_of i.roster) i.footprints.items };
 }
 
 impl IndexedRoster {
@@ -125,7 +127,8 @@ impl IndexedRoster {
     /// The smallest device from `from` on that `r` touches. `None` where it touches none there.
     pub fn next_device(&self, r: RunNo, from: DeviceNo) -> Option<DeviceNo>
         requires { IsTrue (is_run (runs_of self.now) r.0) }
-        ensures { IsFirstFrom (touches (runs_of self.now) r.0) from.0 (option_map (λ d. d.0) result) }
+        ensures { IsFirstFrom (touches (runs_of self.now) r.0) from.0
+            (option_map (λ d. d.0) result) }
     {
         self.footprint(r).devices.next(from)
     }
@@ -142,7 +145,8 @@ impl IndexedRoster {
     pub fn first_reads_of(&self, r: RunNo, x: RunNo) -> DeviceSet
         requires reader { IsTrue (is_run (runs_of self.now) r.0) }
         requires writer { IsTrue (is_run (runs_of self.now) x.0) }
-        ensures { (d : ℕ) → set.contains result d ≡ (reads_first (runs_of self.now) r.0 d && writes_on (runs_of self.now) x.0 d) }
+        ensures { (d : ℕ) → set.contains result d
+            ≡ (reads_first (runs_of self.now) r.0 d && writes_on (runs_of self.now) x.0 d) }
     {
         let written = &self.footprint(x).written;
         self.footprint(r).first_reads.both(written)
@@ -158,11 +162,13 @@ impl IndexedRoster {
     }
 }
 
-/// The footprint of a run with these commands. Goes over them from the last one on: a command is the last one on its
-/// device where no later one is there, and the first one where no earlier one is.
+/// The footprint of a run with these commands. Goes over them from the last one on: a command is
+/// the last one on its device where no later one is there, and the first one where no earlier one
+/// is.
 fn footprint_of(commands: &[Command]) -> Footprint
     requires few { length commands.now ≤ most_commands }
-    requires low { (k : ℕ) (c : Command) → slice_get commands.now k ≡ Some c → c.device.0 < most_devices }
+    requires low { (k : ℕ) (c : Command) → slice_get commands.now k ≡ Some c
+        → c.device.0 < most_devices }
     ensures { IsFootprint commands.now result }
 {
     let mut devices = DeviceSet::none();

@@ -24,8 +24,8 @@ pub fn is_always(guard: Guard) -> bool
     matches!(guard, Guard::Always)
 }
 
-/// The value to which the job drives a device of this kind, where the run's register is `register`. 0 for a job that
-/// senses.
+/// The value to which the job drives a device of this kind, where the run's register is `register`.
+/// 0 for a job that senses.
 pub fn driven(kind: Kind, job: Job, register: Value) -> Value
     ensures { result ≡ value_driven kind job register }
 {
@@ -46,8 +46,8 @@ pub fn register_after(job: Job, answer: Answer, register: Value) -> Value
     }
 }
 
-/// Whether the command fails its run with this answer: it is a must, and was told `Down` or found another value than
-/// it checks.
+/// Whether the command fails its run with this answer: it is a must, and was told `Down` or found
+/// another value than it checks.
 pub fn fails(command: Command, answer: Answer) -> bool
     ensures { result ≡ command_fails command answer }
 {

@@ -40,7 +40,8 @@ impl Roster {
         has_command_on(self.commands(r), d)
     }
 
-    /// The number, from 0, of the first command of `r` on the device `d`. `None` where no command is on it.
+    /// The number, from 0, of the first command of `r` on the device `d`. `None` where no command
+    /// is on it.
     pub fn first(&self, r: RunNo, d: DeviceNo) -> Option<u32>
         requires run { IsTrue (is_run (runs_of self.now) r.0) }
         requires few { length (commands_of (runs_of self.now) r.0) < 2 ^ 32 }
@@ -49,7 +50,8 @@ impl Roster {
         first_command_on(self.commands(r), d).map(|place| place as u32)
     }
 
-    /// The number, from 0, of the last command of `r` on the device `d`. `None` where no command is on it.
+    /// The number, from 0, of the last command of `r` on the device `d`. `None` where no command is
+    /// on it.
     pub fn last(&self, r: RunNo, d: DeviceNo) -> Option<u32>
         requires run { IsTrue (is_run (runs_of self.now) r.0) }
         requires few { length (commands_of (runs_of self.now) r.0) < 2 ^ 32 }
@@ -58,8 +60,8 @@ impl Roster {
         last_command_on(self.commands(r), d).map(|place| place as u32)
     }
 
-    /// Whether a command of `r` on the device `d` reads it, and no command on it with the guard `Always` before that
-    /// writes it.
+    /// Whether a command of `r` on the device `d` reads it, and no command on it with the guard
+    /// `Always` before that writes it.
     pub fn reads_first(&self, r: RunNo, d: DeviceNo) -> bool
         requires { IsTrue (is_run (runs_of self.now) r.0) }
         ensures { result ≡ reads_first (runs_of self.now) r.0 d.0 }
@@ -78,8 +80,8 @@ impl Roster {
             .any(|command| command.device == d && writes(command.job))
     }
 
-    /// The sum of the estimates of `r`, in ms, up to and with its last command on the device `d`: 0 where no command
-    /// is on it.
+    /// The sum of the estimates of `r`, in ms, up to and with its last command on the device `d`: 0
+    /// where no command is on it.
     pub fn estimate_to_last(&self, r: RunNo, d: DeviceNo) -> u64
         requires run { IsTrue (is_run (runs_of self.now) r.0) }
         requires few { length (commands_of (runs_of self.now) r.0) < 2 ^ 32 }

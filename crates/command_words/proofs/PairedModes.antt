@@ -79,7 +79,10 @@ trial_goes (word ∷ []) line is = by_number (trial_number word) is
 trial_goes (word ∷ next ∷ words) line is = absurd (cc)
 
 command_goes : (run replay watch keep check trial : Bool) (words : List (List ℕ)) (line : CommandLine)
-    → (if run then option_map Run (options_by_words words) else (if replay then option_map Replay (options_by_words words) else (if watch then option_map Watch (options_by_words words) else (if keep then option_map Keep (options_by_words words) else (if check then check_of words else (if trial then trial_of words else None)))))) ≡ Some line → IsPaired line
+    → (if run then option_map Run (options_by_words words)
+    else (if replay then option_map Replay (options_by_words words) else (if watch then option_map Watch (options_by_words words)
+    else (if keep then option_map Keep (options_by_words words) else (if check then check_of words else (if trial then trial_of words else None))))))
+    ≡ Some line → IsPaired line
 command_goes true replay watch keep check trial words line is = read_goes Run words line (λ options goes. goes) is
 command_goes false true watch keep check trial words line is = read_goes Replay words line (λ options goes. goes) is
 command_goes false false true keep check trial words line is = read_goes Watch words line (λ options goes. goes) is

@@ -35,4 +35,6 @@ command_line_of (command ∷ words) = command_of command words
 -- the first word is a command that has options
 abbrev pub has_options : List (List ℕ) → Bool
 has_options [] = false
-has_options (command ∷ words) = bytes_eq command (codes "run") || (bytes_eq command (codes "replay") || (bytes_eq command (codes "watch") || bytes_eq command (codes "keep")))
+has_options (command ∷ words) =
+    bytes_eq command (codes "run") || (bytes_eq command (codes "replay")
+    || (bytes_eq command (codes "watch") || bytes_eq command (codes "keep")))

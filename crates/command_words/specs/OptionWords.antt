@@ -26,7 +26,8 @@ scheduler_rule = record (new_rule (codes "scheduler")) { long = Some (codes "sch
 
 -- `--trace`, without a value
 abbrev pub trace_rule : Rule
-trace_rule = record (new_rule (codes "trace")) { long = Some (codes "trace"); action = Some SetTrue }
+trace_rule =
+    record (new_rule (codes "trace")) { long = Some (codes "trace"); action = Some SetTrue }
 
 -- a command without help and version, whose first word is no program's name
 abbrev pub bare_shape : Shape
@@ -39,7 +40,9 @@ bare_shape = record (new_shape (codes "options")) {
 -- the command with these three options and nothing else
 abbrev pub options_app : App
 options_app =
-    with_rule (with_rule (with_rule (record { top = bare_shape; subs = [] }) model_rule) scheduler_rule) trace_rule
+    with_rule
+    (with_rule (with_rule (record { top = bare_shape; subs = [] }) model_rule) scheduler_rule)
+    trace_rule
 
 -- the model of this name
 abbrev pub named_model : Text → Option Visibility
@@ -74,11 +77,15 @@ goes_with scheduler model = false
 
 -- the mode of a model and a scheduler that goes with it
 abbrev pub mode_from_pair : Visibility → Scheduler → Option Mode
-mode_from_pair model scheduler = if goes_with scheduler model then Some (record { model = model; scheduler = scheduler }) else None
+mode_from_pair model scheduler =
+    if goes_with scheduler model then Some (record { model = model; scheduler = scheduler })
+    else None
 
 -- the mode that was asked for
 abbrev pub mode_asked_for : Option Text → Option Text → Option Mode
-mode_asked_for model scheduler = option_and_then (λ m. option_and_then (mode_from_pair m) (scheduler_asked_for scheduler)) (model_asked_for model)
+mode_asked_for model scheduler =
+    option_and_then (λ m. option_and_then (mode_from_pair m) (scheduler_asked_for scheduler))
+    (model_asked_for model)
 
 -- whether the trace was asked for: the value of a flag is `true` where it was given
 abbrev pub trace_of : Option Text → Bool
@@ -88,17 +95,20 @@ trace_of (Some word) = bytes_eq word (codes "true")
 -- the options with these values
 abbrev pub options_with : Option Text → Option Text → Option Text → Option Options
 options_with model scheduler trace =
-    option_map (λ mode. record { mode = mode; trace = trace_of trace }) (mode_asked_for model scheduler)
+    option_map (λ mode. record { mode = mode; trace = trace_of trace })
+    (mode_asked_for model scheduler)
 
 -- the options in these matches
 abbrev pub options_from : List Row → Option Options
 options_from rows =
-    options_with (first_of (codes "model") rows) (first_of (codes "scheduler") rows) (first_of (codes "trace") rows)
+    options_with (first_of (codes "model") rows) (first_of (codes "scheduler") rows)
+    (first_of (codes "trace") rows)
 
 -- the same, of what `clap` found
 abbrev pub options_found : Found → Option Options
 options_found found =
-    options_with (first_value found (codes "model")) (first_value found (codes "scheduler")) (first_value found (codes "trace"))
+    options_with (first_value found (codes "model")) (first_value found (codes "scheduler"))
+    (first_value found (codes "trace"))
 
 -- where nothing is refused
 abbrev pub unless_refused : Kinds → Option Options → Option Options
@@ -111,7 +121,8 @@ has_end_mark words = list_any (λ word. bytes_eq word (codes "--")) words
 
 -- what `clap` makes of the words
 abbrev pub options_read : List Text → Option Options
-options_read words = unless_refused (fault_of options_app words) (options_from (matches_of options_app words))
+options_read words =
+    unless_refused (fault_of options_app words) (options_from (matches_of options_app words))
 
 -- the options that these words give, where none is `--`
 abbrev pub options_of : List Text → Option Options

@@ -24,4 +24,6 @@ mode_for_rooms options = if options.trace then None else serial_mode options.mod
 -- `rooms` and the options of `run` but for these two
 abbrev pub room_mode_of : List (List ℕ) → Option Mode
 room_mode_of [] = None
-room_mode_of (command ∷ words) = if bytes_eq command (codes "rooms") then option_and_then mode_for_rooms (options_by_words words) else None
+room_mode_of (command ∷ words) =
+    if bytes_eq command (codes "rooms") then option_and_then mode_for_rooms (options_by_words words)
+    else None

@@ -15,7 +15,8 @@ starts_with_no_zero word = option_map_or (λ b. not (b == 48)) (slice_get word 0
 
 -- 1 to 3 decimal digits without a leading zero
 abbrev pub is_short_numeral : List ℕ → Bool
-is_short_numeral word = starts_with_no_zero word && (nat_le (length word) 3 && list_all is_decimal_digit word)
+is_short_numeral word =
+    starts_with_no_zero word && (nat_le (length word) 3 && list_all is_decimal_digit word)
 
 -- from 1 to as many windows as a script may have
 abbrev pub is_window_count : ℕ → Bool
@@ -23,4 +24,6 @@ is_window_count n = nat_le 1 n && nat_le n most_windows
 
 -- the number that a word writes with 1 to 3 decimal digits without a leading zero, from 1 to 288
 abbrev pub trial_number : List ℕ → Option ℕ
-trial_number word = if is_short_numeral word && is_window_count (digits_value 10 word) then Some (digits_value 10 word) else None
+trial_number word =
+    if is_short_numeral word && is_window_count (digits_value 10 word)
+    then Some (digits_value 10 word) else None

@@ -10,11 +10,13 @@ pub enum CommandLine {
     Replay(Options),
     /// Runs the day of a script with threads, and tells how far it is while it runs.
     Watch(Options),
-    /// Replays the day of a script step by step, and keeps the state after each window in a journal.
+    /// Replays the day of a script step by step, and keeps the state after each window in a
+    /// journal.
     Keep(Options),
     /// Checks a record against its script.
     Check,
-    /// Replays and checks a day of this many windows, from 1 to `limits::WINDOWS`, that a generator makes.
+    /// Replays and checks a day of this many windows, from 1 to `limits::WINDOWS`, that a generator
+    /// makes.
     Trial(u32),
 }
 

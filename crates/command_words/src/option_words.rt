@@ -16,8 +16,10 @@ use std::alloc::Global;
 ///
 /// Answers `Words` where they are not of the format, and `NoMemory` where memory is wanted.
 pub fn read_options(alloc: Global, words: &[String]) -> Result<Options, WordFault>
-    ensures meaning { IfOk result (λ options. options_by_words (map string_bytes words.now) ≡ Some options) }
-    ensures refused { result ≡ Err WordFault.Words → options_by_words (map string_bytes words.now) ≡ None }
+    ensures meaning { IfOk result
+        (λ options. options_by_words (map string_bytes words.now) ≡ Some options) }
+    ensures refused { result ≡ Err WordFault.Words
+        → options_by_words (map string_bytes words.now) ≡ None }
 {
     if has_end_mark(words) {
         return Err(WordFault::Words);
@@ -33,8 +35,10 @@ fn has_end_mark(words: &[String]) -> bool
 }
 
 fn read_with_clap(alloc: Global, words: &[String]) -> Result<Options, WordFault>
-    ensures meaning { IfOk result (λ options. options_read (map string_bytes words.now) ≡ Some options) }
-    ensures refused { result ≡ Err WordFault.Words → options_read (map string_bytes words.now) ≡ None }
+    ensures meaning { IfOk result
+        (λ options. options_read (map string_bytes words.now) ≡ Some options) }
+    ensures refused { result ≡ Err WordFault.Words
+        → options_read (map string_bytes words.now) ≡ None }
 {
     let Ok(command) = options_command(alloc) else {
         return Err(WordFault::NoMemory);
@@ -86,7 +90,8 @@ fn options_in(matches: &ArgMatches<'_>) -> Option<Options>
 
 /// The options with these values, where each is one of its words and the model has the scheduler.
 fn choose(model: Option<&str>, scheduler: Option<&str>, trace: Option<&str>) -> Option<Options>
-    ensures { result ≡ options_with (option_map (λ w. w.now) model.entry) (option_map (λ w. w.now) scheduler.entry) (option_map (λ w. w.now) trace.entry) }
+    ensures { result ≡ options_with (option_map (λ w. w.now) model.entry)
+        (option_map (λ w. w.now) scheduler.entry) (option_map (λ w. w.now) trace.entry) }
 {
     let mode = read_mode(model, scheduler)?;
     Some(Options {
@@ -96,7 +101,8 @@ fn choose(model: Option<&str>, scheduler: Option<&str>, trace: Option<&str>) -> 
 }
 
 fn read_mode(model: Option<&str>, scheduler: Option<&str>) -> Option<Mode>
-    ensures { result ≡ mode_asked_for (option_map (λ w. w.now) model.entry) (option_map (λ w. w.now) scheduler.entry) }
+    ensures { result ≡ mode_asked_for (option_map (λ w. w.now) model.entry)
+        (option_map (λ w. w.now) scheduler.entry) }
 {
     let model = read_model(model)?;
     let scheduler = read_scheduler(scheduler)?;
@@ -106,7 +112,8 @@ fn read_mode(model: Option<&str>, scheduler: Option<&str>) -> Option<Mode>
     Some(Mode { model, scheduler })
 }
 
-/// Whether the model has the scheduler: every model has first come, first served, and the eventual one has all.
+/// Whether the model has the scheduler: every model has first come, first served, and the eventual
+/// one has all.
 fn goes_with(scheduler: Scheduler, model: Visibility) -> bool
     ensures { result ≡ goes_with scheduler model }
 {

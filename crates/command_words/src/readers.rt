@@ -9,12 +9,15 @@ use std::alloc::Global;
 
 /// Reads the words of a command line, which come without the program's name.
 ///
-/// Answers `Words` where they are not of the format. `NoMemory` comes with `run`, `replay`, `watch` and `keep`
-/// alone, whose options take memory.
+/// Answers `Words` where they are not of the format. `NoMemory` comes with `run`, `replay`, `watch`
+/// and `keep` alone, whose options take memory.
 pub fn read_words(alloc: Global, words: &[String]) -> Result<CommandLine, WordFault>
-    ensures meaning { IfOk result (λ line. command_line_of (map string_bytes words.now) ≡ Some line) }
-    ensures memory { result ≡ Err WordFault.NoMemory → has_options (map string_bytes words.now) ≡ true }
-    ensures refused { result ≡ Err WordFault.Words → command_line_of (map string_bytes words.now) ≡ None }
+    ensures meaning { IfOk result
+        (λ line. command_line_of (map string_bytes words.now) ≡ Some line) }
+    ensures memory { result ≡ Err WordFault.NoMemory
+        → has_options (map string_bytes words.now) ≡ true }
+    ensures refused { result ≡ Err WordFault.Words
+        → command_line_of (map string_bytes words.now) ≡ None }
 {
     let [command, rest @ ..] = words else {
         return Err(WordFault::Words);

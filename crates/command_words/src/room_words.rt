@@ -1,4 +1,5 @@
-//! The words of `rooms`, which has the options of `run` but for two: no trace, and not the weak model.
+//! The words of `rooms`, which has the options of `run` but for two: no trace, and not the weak
+//! model.
 ghost use Rattle.command_words.specs.RoomWords.{mode_for_rooms, room_mode_of};
 ghost use Rattle.std.specs.Prelude.{◌≡◌, Err, IfOk, None, Some, map, string_bytes};
 
@@ -25,7 +26,8 @@ fn mode_for_rooms(options: Options) -> Option<Mode>
 /// Answers `Words` where they are not of the format, and `NoMemory` where memory is wanted.
 pub fn read_room_words(alloc: Global, words: &[String]) -> Result<Mode, WordFault>
     ensures meaning { IfOk result (λ mode. room_mode_of (map string_bytes words.now) ≡ Some mode) }
-    ensures refused { result ≡ Err WordFault.Words → room_mode_of (map string_bytes words.now) ≡ None }
+    ensures refused { result ≡ Err WordFault.Words
+        → room_mode_of (map string_bytes words.now) ≡ None }
 {
     let [command, rest @ ..] = words else {
         return Err(WordFault::Words);

@@ -24,7 +24,8 @@ fn is_numeral(bytes: &[u8]) -> bool
     }
 }
 
-/// Reads the number of a trial: 1 to 3 decimal digits without a leading zero, from 1 to `limits::WINDOWS`.
+/// Reads the number of a trial: 1 to 3 decimal digits without a leading zero, from 1 to
+/// `limits::WINDOWS`.
 pub fn read_number(word: &str) -> Option<u32>
     ensures { result ≡ trial_number word.now }
 {

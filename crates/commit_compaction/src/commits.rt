@@ -5,14 +5,17 @@ ghost use Rattle.lineage_table.specs.Lineages.{committed_lineage, lineage_at, st
 use home_types::{DeviceNo, RunNo};
 use lineage_table::Table;
 
-/// Commits the run: what it wrote becomes the committed value of each device on which it still has an access.
+/// Commits the run: what it wrote becomes the committed value of each device on which it still has
+/// an access.
 ///
-/// There its access and those before it leave. On a device that it did not write its access alone leaves. The value
-/// that stands on each device is kept. Takes no memory.
+/// There its access and those before it leave. On a device that it did not write its access alone
+/// leaves. The value that stands on each device is kept. Takes no memory.
 pub fn commit(table: &mut Table, r: RunNo)
     ensures devices { length table.new ≡ length table.old }
-    ensures exact { (d : ℕ) → d < length table.old → lineage_at table.new d ≡ committed_lineage r.0 (lineage_at table.old d) }
-    ensures stands { (d : ℕ) → d < length table.old → stand_of_lineage (lineage_at table.new d) ≡ stand_of_lineage (lineage_at table.old d) }
+    ensures exact { (d : ℕ) → d < length table.old
+        → lineage_at table.new d ≡ committed_lineage r.0 (lineage_at table.old d) }
+    ensures stands { (d : ℕ) → d < length table.old
+        → stand_of_lineage (lineage_at table.new d) ≡ stand_of_lineage (lineage_at table.old d) }
 {
     table.kept();
     let mut from = DeviceNo(0);

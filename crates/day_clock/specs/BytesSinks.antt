@@ -5,7 +5,8 @@ use Rattle.day_clock.specs.declared.faults.Failed.{Failed}
 use Rattle.home_types.specs.Listed.{Listed}
 use Rattle.std.specs.Prelude.{Bool, Err, List, Ok, Result, [], if◌then◌else◌, length, min, nat_lt, take, ℕ, ◌&&◌, ◌++◌, ◌+◌, ◌-◌, ◌==◌}
 
--- the bytes held, for how many there is room in all, the most that one call takes, the calls, and how often there was a fault
+-- the bytes held, for how many there is room in all, the most that one call takes, the calls, and
+-- how often there was a fault
 pub record SinkState : Type 0 where
   pub held : List ℕ
   pub room : ℕ
@@ -15,7 +16,8 @@ pub record SinkState : Type 0 where
 
 -- a sink that holds nothing
 abbrev pub fresh_sink : ℕ → Listed ℕ → ℕ → SinkState
-fresh_sink room fails most = record { held = []; room = room; most = most; plan = fresh_plan fails; faults = 0 }
+fresh_sink room fails most =
+    record { held = []; room = room; most = most; plan = fresh_plan fails; faults = 0 }
 
 -- how many bytes a call takes that does not fail and is handed this many
 abbrev pub write_count : SinkState → ℕ → ℕ

@@ -14,7 +14,8 @@ pub record SourceState : Type 0 where
 
 -- a source of these bytes, of which nothing was read
 abbrev pub fresh_source : List ℕ → Listed ℕ → ℕ → SourceState
-fresh_source bytes fails most = record { left = bytes; most = most; plan = fresh_plan fails; faults = 0 }
+fresh_source bytes fails most =
+    record { left = bytes; most = most; plan = fresh_plan fails; faults = 0 }
 
 -- how many bytes a call gives that does not fail and has this much room
 abbrev pub read_count : SourceState → ℕ → ℕ
@@ -35,4 +36,5 @@ read_answer s room = if fails_next s.plan then Err (record {}) else Ok (read_cou
 -- the source after that call
 abbrev pub after_read : SourceState → ℕ → SourceState
 after_read s room =
-    if fails_next s.plan then record (called s) { faults = s.faults + 1 } else after_giving (called s) (read_count s room)
+    if fails_next s.plan then record (called s) { faults = s.faults + 1 }
+    else after_giving (called s) (read_count s room)

@@ -11,7 +11,14 @@ use Rattle.std.specs.Prelude.{Bool, Err, List, None, Ok, Option, Result, Some, [
 -- the time of this date and time of day, where the year is not below 0
 abbrev pub when_in : ℤ → DateParts → TimeParts → Option When
 when_in (pos year) date time =
-    Some (record { year = year; month = date.month; day = date.day; hour = time.hour; minute = time.minute; second = time.second })
+    Some (record {
+      year = year;
+      month = date.month;
+      day = date.day;
+      hour = time.hour;
+      minute = time.minute;
+      second = time.second;
+    })
 when_in (negsuc n) date time = None
 
 -- the time that was read

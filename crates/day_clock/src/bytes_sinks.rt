@@ -25,7 +25,13 @@ impl Model for BytesSink {
 
     ghost Value = { SinkState };
 
-    ghost view = { λ s. record { held = take s.held s.block.items; room = length s.block.items; most = s.most; plan = s.plan; faults = s.faults } };
+    ghost view = { λ s. record {
+      held = take s.held s.block.items;
+      room = length s.block.items;
+      most = s.most;
+      plan = s.plan;
+      faults = s.faults;
+    } };
 
     ghost invariant = { λ s. (s.held ≤ length s.block.items) × (0 < s.most) };
 }
@@ -33,11 +39,11 @@ impl Model for BytesSink {
 impl BytesSink {
     ghost use Rattle.day_clock.specs.BytesSinks.{after_taking, fresh_sink, write_count};
 
-    /// Makes a sink that holds nothing and has room for `room` bytes in all, and takes at most `most` of them a call.
-    /// The calls in `fails`, counted from 1, fail.
+    /// Makes a sink that holds nothing and has room for `room` bytes in all, and takes at most
+    /// `most` of them a call. The calls in `fails`, counted from 1, fail.
     ///
-    /// `NoMemory` comes where there is none for all of the room, which is taken at once. A call must be able to take a
-    /// byte: `most` is not 0.
+    /// `NoMemory` comes where there is none for all of the room, which is taken at once. A call
+    /// must be able to take a byte: `most` is not 0.
     pub fn new(alloc: Global, room: u64, fails: List<u64>, most: u64) -> Result<BytesSink, NoMemory>
         requires { 0 < most }
         ensures { IfOk result (λ sink. sink ≡ fresh_sink room fails most) }

@@ -23,7 +23,8 @@ impl Model for BytesSource {
 
     ghost Value = { SourceState };
 
-    ghost view = { λ s. record { left = drop s.at s.bytes; most = s.most; plan = s.plan; faults = s.faults } };
+    ghost view = { λ s.
+        record { left = drop s.at s.bytes; most = s.most; plan = s.plan; faults = s.faults } };
 
     ghost invariant = { λ s. (s.at ≤ length s.bytes) × (0 < s.most) };
 }
@@ -31,8 +32,8 @@ impl Model for BytesSource {
 impl BytesSource {
     ghost use Rattle.day_clock.specs.BytesSources.{fresh_source, read_count, after_giving};
 
-    /// Makes a source that gives `bytes`, at most `most` of them a call. The calls in `fails`, counted from 1, fail.
-    /// A call must be able to give a byte: `most` is not 0.
+    /// Makes a source that gives `bytes`, at most `most` of them a call. The calls in `fails`,
+    /// counted from 1, fail. A call must be able to give a byte: `most` is not 0.
     pub fn new(bytes: Bytes, fails: List<u64>, most: u64) -> BytesSource
         requires { 0 < most }
         ensures { result ≡ fresh_source bytes fails most }

@@ -15,11 +15,13 @@ pub trait Source {
     /// How often it has failed. The count never falls.
     ghost faults: { Self → ℕ };
 
-    /// Reads the next bytes into the front of `into`, and answers how many they are; what stands behind them in
-    /// `into` is free. 0 is the end, where `into` is not empty. `Failed` takes nothing.
+    /// Reads the next bytes into the front of `into`, and answers how many they are; what stands
+    /// behind them in `into` is free. 0 is the end, where `into` is not empty. `Failed` takes
+    /// nothing.
     fn read(&mut self, into: &mut [u8]) -> Result<usize, Failed>
         ensures fits { IfOk result (λ n. n ≤ length into.old) }
-        ensures gives { IfOk result (λ n. Consumes (left self.old) (left self.new) (take n into.new)) }
+        ensures gives { IfOk result
+            (λ n. Consumes (left self.old) (left self.new) (take n into.new)) }
         ensures ends { result ≡ Ok 0 → 0 < length into.old → IsAtEnd (left self.new) }
         ensures keeps { OnErr result (Keeps (left self.old) (left self.new)) }
         ensures fine { OnOk result (faults self.new ≡ faults self.old) }
@@ -58,8 +60,8 @@ const PIECE: usize = 4096;
 
 /// Reads a source to its end, and gives all the bytes.
 ///
-/// It never takes more than `limit` bytes and one, and stops there with `OverLimit`. `Failed` comes where the source
-/// fails, and `NoMemory` where there is no memory for the bytes.
+/// It never takes more than `limit` bytes and one, and stops there with `OverLimit`. `Failed` comes
+/// where the source fails, and `NoMemory` where there is no memory for the bytes.
 pub fn read_to_end<S: Source>(
     alloc: Global,
     source: &mut S,
@@ -68,7 +70,8 @@ pub fn read_to_end<S: Source>(
     ensures whole { IfOk result (λ bytes. IfSome (S.left source.old) (λ all. bytes.items ≡ all)) }
     ensures ended { OnOk result (IsAtEnd (S.left source.new)) }
     ensures within { IfOk result (λ bytes. vec_len bytes ≤ limit) }
-    ensures over_limit { IsErrOf result InputFault.OverLimit → TakesCount (S.left source.old) (S.left source.new) (limit + 1) }
+    ensures over_limit { IsErrOf result InputFault.OverLimit
+        → TakesCount (S.left source.old) (S.left source.new) (limit + 1) }
     ensures taken { TakesUpTo (S.left source.old) (S.left source.new) (limit + 1) }
     ensures faults { CountsFaults result (S.faults source.old) (S.faults source.new) }
 {

@@ -2,8 +2,8 @@
 use crate::clocks::Clock;
 use std::time::Instant;
 
-/// The clock of the system, by a handle that tells its time: the ms since it was made, by the system's clock that is
-/// never set. Where the system gives no time, the moment is 0.
+/// The clock of the system, by a handle that tells its time: the ms since it was made, by the
+/// system's clock that is never set. Where the system gives no time, the moment is 0.
 #[derive(Clone, Copy)]
 pub struct StdClock<T> {
     time: T,

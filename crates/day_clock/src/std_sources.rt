@@ -5,7 +5,8 @@ use crate::faults::{Failed, FaultCount};
 use crate::sources::Source;
 use std::io::Read;
 
-/// A reader of std, such as the standard input, as a source. Each error is a fault, that of an interrupted call too.
+/// A reader of std, such as the standard input, as a source. Each error is a fault, that of an
+/// interrupted call too.
 #[derive(Drop)]
 pub struct StdSource<R> {
     reader: R,

@@ -19,7 +19,8 @@ pub struct When {
 impl When {
     ghost use Rattle.day_clock.specs.Times.{is_before};
 
-    /// Whether this time comes before the other: by the first field in which they differ, from the year on.
+    /// Whether this time comes before the other: by the first field in which they differ, from the
+    /// year on.
     pub fn is_before(self, other: When) -> bool
         ensures { result ≡ is_before self other }
     {
@@ -31,7 +32,8 @@ impl When {
 #[derive(Clone, Copy, Debug, PartialEq, Eq)]
 pub struct Unread;
 
-/// Reads what `jiff` reads as a civil date and time of the years 0 to 9999. Parts of a second are dropped.
+/// Reads what `jiff` reads as a civil date and time of the years 0 to 9999. Parts of a second are
+/// dropped.
 ///
 /// `Unread` is all else. It takes no memory.
 pub fn read_time(text: &str) -> Result<When, Unread>

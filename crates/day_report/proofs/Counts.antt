@@ -14,7 +14,8 @@ unfolding abort_count
 no_aborts = refl
 
 -- the commits of one more window
-pub commit_count-take : (windows : List WindowRecord) (i commits : ℕ) (closed : WindowRecord) → i < length windows → closed ≡ get_or windows i closed → commits ≡ count_by (λ kept. is_commit kept.entry) closed.history.items → commit_count (take i windows) + commits ≡ commit_count (take (i + 1) windows)
+pub commit_count-take : (windows : List WindowRecord) (i commits : ℕ) (closed : WindowRecord) → i < length windows → closed ≡ get_or windows i closed
+    → commits ≡ count_by (λ kept. is_commit kept.entry) closed.history.items → commit_count (take i windows) + commits ≡ commit_count (take (i + 1) windows)
 unfolding commit_count
 commit_count-take windows i commits closed within element counted =
     let count : WindowRecord → ℕ = λ w. count_by (λ kept. is_commit kept.entry) w.history.items in

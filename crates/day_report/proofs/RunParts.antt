@@ -79,7 +79,9 @@ run_line-own script window history r routine =
     (ap (λ end. end_text script window (entries_of_run r history) r end) (end_of-own r history) ∙ end_text-own script window r history (end_of history r))
 
 -- the line of a run is told by its part
-pub run_line-of_part : (script : Script) (window : WindowText) (history : List Kept) (parts : List (List Kept)) (i routine : ℕ) (part own : List Kept) → i < length parts → AreApart parts history → part ≡ get_or parts i part → own ≡ part → line_of_run script window own (i + 1) routine ≡ line_of_run script window history (i + 1) routine
+pub run_line-of_part : (script : Script) (window : WindowText) (history : List Kept) (parts : List (List Kept)) (i routine : ℕ) (part own : List Kept) → i
+    < length parts → AreApart parts history → part ≡ get_or parts i part → own ≡ part
+    → line_of_run script window own (i + 1) routine ≡ line_of_run script window history (i + 1) routine
 run_line-of_part script window history parts i routine part own within apart is same =
     ap (λ entries. line_of_run script window entries (i + 1) routine) (same ∙ is ∙ get_or_default parts i part [] within ∙ apart i within)
     ∙ run_line-own script window history (i + 1) routine

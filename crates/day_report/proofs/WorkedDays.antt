@@ -82,7 +82,11 @@ record_of mode history order last = record {
 }
 
 -- a released lamp is overwritten before its run commits
-released_lamp_overwritten : day_text (script home (named (codes "a") (on 0 (Set 1) ∷ on 1 (Set 1) ∷ []) ∷ named (codes "b") (on 0 (Set 0) ∷ []) ∷ []) (0 ∷ 1 ∷ [])) (record_of (record { model = Eventual; scheduler = Fcfs }) (Arrived (run_no 1) 0 ∷ Placed (run_no 1) 0 0 ∷ Arrived (run_no 2) 0 ∷ Placed (run_no 2) 1 0 ∷ Did (run_no 1) 0 Fine ∷ Did (run_no 2) 0 Fine ∷ Ended (run_no 2) Committed ∷ Did (run_no 1) 1 Fine ∷ Ended (run_no 1) Committed ∷ []) (Ran (run_no 1) ∷ Ran (run_no 2) ∷ []) (up 0 ∷ up 1 ∷ up 0 ∷ up 18 ∷ []) ∷ []) (record { model = Eventual; scheduler = Fcfs }) true ≡
+released_lamp_overwritten :
+    day_text (script home (named (codes "a") (on 0 (Set 1) ∷ on 1 (Set 1) ∷ []) ∷ named (codes "b") (on 0 (Set 0) ∷ []) ∷ []) (0 ∷ 1 ∷ []))
+    (record_of (record { model = Eventual; scheduler = Fcfs }) (Arrived (run_no 1) 0 ∷ Placed (run_no 1) 0 0 ∷ Arrived (run_no 2) 0 ∷ Placed (run_no 2) 1 0
+    ∷ Did (run_no 1) 0 Fine ∷ Did (run_no 2) 0 Fine ∷ Ended (run_no 2) Committed ∷ Did (run_no 1) 1 Fine ∷ Ended (run_no 1) Committed ∷ [])
+    (Ran (run_no 1) ∷ Ran (run_no 2) ∷ []) (up 0 ∷ up 1 ∷ up 0 ∷ up 18 ∷ []) ∷ []) (record { model = Eventual; scheduler = Fcfs }) true ≡
     codes "safehome day\n"
     ++ codes "model ev fcfs\n"
     ++ codes "window 1 2021-04-26T07:00:00\n"
@@ -100,11 +104,19 @@ released_lamp_overwritten : day_text (script home (named (codes "a") (on 0 (Set 
     ++ codes "order 1 2\n"
     ++ codes "home lamp=off fan=on oven=off heat=18\n"
     ++ codes "total windows 1 runs 2 committed 2 aborted 0\n"
-unfolding day_text_from head_text total_text window_text window_texts_from window_lines commit_count abort_count window_line time_text four_digits two_digits trace_lines trace_line entry_text run_lines line_of_run end_text answer_words answer_word order_line item_words item_word home_line home_words home_word device_name device_of states_of routine_name value_text answer_text cause_text digits
+unfolding day_text_from head_text total_text window_text window_texts_from window_lines commit_count abort_count window_line time_text four_digits two_digits
+    trace_lines trace_line entry_text run_lines line_of_run end_text answer_words answer_word order_line item_words item_word home_line home_words home_word
+    device_name device_of states_of routine_name value_text answer_text cause_text digits
 released_lamp_overwritten = refl
 
 -- a device falls and rises, a run skips it, and a check that finds another value aborts
-skipped_under_live_undo : day_text (script home (named (codes "a") (on 3 (Set 20) ∷ on 1 (Check 1) ∷ []) ∷ named (codes "b") (on 3 (Set 25) ∷ []) ∷ []) (0 ∷ 1 ∷ [])) (record_of (record { model = Eventual; scheduler = Fcfs }) (Arrived (run_no 1) 0 ∷ Placed (run_no 1) 0 0 ∷ Arrived (run_no 2) 0 ∷ Placed (run_no 2) 1 0 ∷ Did (run_no 1) 0 Fine ∷ Fell (device_no 3) ∷ Did (run_no 2) 0 Down ∷ Rose (device_no 3) ∷ Ended (run_no 2) Committed ∷ Did (run_no 1) 1 (Found 0) ∷ Doomed (run_no 1) (Refuted 1 0) ∷ Undid (run_no 1) (device_no 3) true ∷ Ended (run_no 1) (Aborted (Refuted 1 0)) ∷ []) (Failed (device_no 3) 1 ∷ Ran (run_no 2) ∷ Back (device_no 3) 1 ∷ []) (up 0 ∷ up 0 ∷ up 0 ∷ up 18 ∷ []) ∷ []) (record { model = Eventual; scheduler = Fcfs }) true ≡
+skipped_under_live_undo :
+    day_text (script home (named (codes "a") (on 3 (Set 20) ∷ on 1 (Check 1) ∷ []) ∷ named (codes "b") (on 3 (Set 25) ∷ []) ∷ []) (0 ∷ 1 ∷ []))
+    (record_of (record { model = Eventual; scheduler = Fcfs }) (Arrived (run_no 1) 0 ∷ Placed (run_no 1) 0 0 ∷ Arrived (run_no 2) 0 ∷ Placed (run_no 2) 1 0
+    ∷ Did (run_no 1) 0 Fine ∷ Fell (device_no 3) ∷ Did (run_no 2) 0 Down ∷ Rose (device_no 3) ∷ Ended (run_no 2) Committed ∷ Did (run_no 1) 1 (Found 0)
+    ∷ Doomed (run_no 1) (Refuted 1 0) ∷ Undid (run_no 1) (device_no 3) true ∷ Ended (run_no 1) (Aborted (Refuted 1 0)) ∷ [])
+    (Failed (device_no 3) 1 ∷ Ran (run_no 2) ∷ Back (device_no 3) 1 ∷ []) (up 0 ∷ up 0 ∷ up 0 ∷ up 18 ∷ []) ∷ [])
+    (record { model = Eventual; scheduler = Fcfs }) true ≡
     codes "safehome day\n"
     ++ codes "model ev fcfs\n"
     ++ codes "window 1 2021-04-26T07:00:00\n"
@@ -126,11 +138,17 @@ skipped_under_live_undo : day_text (script home (named (codes "a") (on 3 (Set 20
     ++ codes "order fail(heat) 2 back(heat)\n"
     ++ codes "home lamp=off fan=off oven=off heat=18\n"
     ++ codes "total windows 1 runs 2 committed 1 aborted 1\n"
-unfolding day_text_from head_text total_text window_text window_texts_from window_lines commit_count abort_count window_line time_text four_digits two_digits trace_lines trace_line entry_text run_lines line_of_run end_text answer_words answer_word order_line item_words item_word home_line home_words home_word device_name device_of states_of routine_name value_text answer_text cause_text digits
+unfolding day_text_from head_text total_text window_text window_texts_from window_lines commit_count abort_count window_line time_text four_digits two_digits
+    trace_lines trace_line entry_text run_lines line_of_run end_text answer_words answer_word order_line item_words item_word home_line home_words home_word
+    device_name device_of states_of routine_name value_text answer_text cause_text digits
 skipped_under_live_undo = refl
 
 -- a strict run ends with a device down, and one of its undos is dropped
-down_at_end : day_text (script home (named (codes "a") (on 0 (Set 1) ∷ on 1 (Set 1) ∷ []) ∷ []) (0 ∷ [])) (record_of (record { model = Partitioned; scheduler = Fcfs }) (Arrived (run_no 1) 0 ∷ Placed (run_no 1) 0 0 ∷ Did (run_no 1) 0 Fine ∷ Fell (device_no 0) ∷ Did (run_no 1) 1 Fine ∷ Doomed (run_no 1) (DownAtEnd (device_no 0)) ∷ Undid (run_no 1) (device_no 0) false ∷ Undid (run_no 1) (device_no 1) true ∷ Ended (run_no 1) (Aborted (DownAtEnd (device_no 0))) ∷ []) (Failed (device_no 0) 1 ∷ []) (down 0 ∷ up 0 ∷ up 0 ∷ up 18 ∷ []) ∷ []) (record { model = Partitioned; scheduler = Fcfs }) true ≡
+down_at_end : day_text (script home (named (codes "a") (on 0 (Set 1) ∷ on 1 (Set 1) ∷ []) ∷ []) (0 ∷ []))
+    (record_of (record { model = Partitioned; scheduler = Fcfs }) (Arrived (run_no 1) 0 ∷ Placed (run_no 1) 0 0 ∷ Did (run_no 1) 0 Fine ∷ Fell (device_no 0)
+    ∷ Did (run_no 1) 1 Fine ∷ Doomed (run_no 1) (DownAtEnd (device_no 0)) ∷ Undid (run_no 1) (device_no 0) false ∷ Undid (run_no 1) (device_no 1) true
+    ∷ Ended (run_no 1) (Aborted (DownAtEnd (device_no 0))) ∷ []) (Failed (device_no 0) 1 ∷ []) (down 0 ∷ up 0 ∷ up 0 ∷ up 18 ∷ []) ∷ [])
+    (record { model = Partitioned; scheduler = Fcfs }) true ≡
     codes "safehome day\n"
     ++ codes "model psv fcfs\n"
     ++ codes "window 1 2021-04-26T07:00:00\n"
@@ -147,11 +165,16 @@ down_at_end : day_text (script home (named (codes "a") (on 0 (Set 1) ∷ on 1 (S
     ++ codes "order fail(lamp)\n"
     ++ codes "home lamp=off! fan=off oven=off heat=18\n"
     ++ codes "total windows 1 runs 1 committed 0 aborted 1\n"
-unfolding day_text_from head_text total_text window_text window_texts_from window_lines commit_count abort_count window_line time_text four_digits two_digits trace_lines trace_line entry_text run_lines line_of_run end_text answer_words answer_word order_line item_words item_word home_line home_words home_word device_name device_of states_of routine_name value_text answer_text cause_text digits
+unfolding day_text_from head_text total_text window_text window_texts_from window_lines commit_count abort_count window_line time_text four_digits two_digits
+    trace_lines trace_line entry_text run_lines line_of_run end_text answer_words answer_word order_line item_words item_word home_line home_words home_word
+    device_name device_of states_of routine_name value_text answer_text cause_text digits
 down_at_end = refl
 
 -- a device that is down is skipped by one run, and aborts the other, which must set it
-skipped_and_must_down : day_text (script home (named (codes "a") (on 0 (Set 1) ∷ on 1 (Set 1) ∷ []) ∷ named (codes "b") (on 0 (Set 1) ∷ []) ∷ []) (0 ∷ 1 ∷ [])) (record_of (record { model = Eventual; scheduler = Fcfs }) (Did (run_no 1) 0 Down ∷ Did (run_no 1) 1 Fine ∷ Ended (run_no 1) Committed ∷ Did (run_no 2) 0 Down ∷ Ended (run_no 2) (Aborted (MustDown 0)) ∷ []) (Failed (device_no 0) 1 ∷ Ran (run_no 1) ∷ []) (down 0 ∷ up 1 ∷ up 0 ∷ up 18 ∷ []) ∷ []) (record { model = Eventual; scheduler = Fcfs }) false ≡
+skipped_and_must_down : day_text (script home (named (codes "a") (on 0 (Set 1) ∷ on 1 (Set 1) ∷ []) ∷ named (codes "b") (on 0 (Set 1) ∷ []) ∷ []) (0 ∷ 1 ∷ []))
+    (record_of (record { model = Eventual; scheduler = Fcfs })
+    (Did (run_no 1) 0 Down ∷ Did (run_no 1) 1 Fine ∷ Ended (run_no 1) Committed ∷ Did (run_no 2) 0 Down ∷ Ended (run_no 2) (Aborted (MustDown 0)) ∷ [])
+    (Failed (device_no 0) 1 ∷ Ran (run_no 1) ∷ []) (down 0 ∷ up 1 ∷ up 0 ∷ up 18 ∷ []) ∷ []) (record { model = Eventual; scheduler = Fcfs }) false ≡
     codes "safehome day\n"
     ++ codes "model ev fcfs\n"
     ++ codes "window 1 2021-04-26T07:00:00\n"
@@ -160,11 +183,16 @@ skipped_and_must_down : day_text (script home (named (codes "a") (on 0 (Set 1) �
     ++ codes "order fail(lamp) 1\n"
     ++ codes "home lamp=off! fan=on oven=off heat=18\n"
     ++ codes "total windows 1 runs 2 committed 1 aborted 1\n"
-unfolding day_text_from head_text total_text window_text window_texts_from window_lines commit_count abort_count window_line time_text four_digits two_digits trace_lines trace_line entry_text run_lines line_of_run end_text answer_words answer_word order_line item_words item_word home_line home_words home_word device_name device_of states_of routine_name value_text answer_text cause_text digits
+unfolding day_text_from head_text total_text window_text window_texts_from window_lines commit_count abort_count window_line time_text four_digits two_digits
+    trace_lines trace_line entry_text run_lines line_of_run end_text answer_words answer_word order_line item_words item_word home_line home_words home_word
+    device_name device_of states_of routine_name value_text answer_text cause_text digits
 skipped_and_must_down = refl
 
 -- a lease is overdue
-lease_overdue : day_text (script home (named (codes "a") (on 0 (Set 1) ∷ on 2 (Set 1) ∷ []) ∷ named (codes "b") (on 2 (Set 0) ∷ []) ∷ []) (0 ∷ 1 ∷ [])) (record_of (record { model = Eventual; scheduler = JustInTime }) (Did (run_no 1) 0 Fine ∷ Ended (run_no 2) (Aborted (Revoked (run_no 1) (device_no 2) 110 111)) ∷ Did (run_no 1) 1 Fine ∷ Ended (run_no 1) Committed ∷ []) (Ran (run_no 1) ∷ []) (up 1 ∷ up 0 ∷ up 1 ∷ up 18 ∷ []) ∷ []) (record { model = Eventual; scheduler = JustInTime }) false ≡
+lease_overdue : day_text (script home (named (codes "a") (on 0 (Set 1) ∷ on 2 (Set 1) ∷ []) ∷ named (codes "b") (on 2 (Set 0) ∷ []) ∷ []) (0 ∷ 1 ∷ []))
+    (record_of (record { model = Eventual; scheduler = JustInTime })
+    (Did (run_no 1) 0 Fine ∷ Ended (run_no 2) (Aborted (Revoked (run_no 1) (device_no 2) 110 111)) ∷ Did (run_no 1) 1 Fine ∷ Ended (run_no 1) Committed ∷ [])
+    (Ran (run_no 1) ∷ []) (up 1 ∷ up 0 ∷ up 1 ∷ up 18 ∷ []) ∷ []) (record { model = Eventual; scheduler = JustInTime }) false ≡
     codes "safehome day\n"
     ++ codes "model ev jit\n"
     ++ codes "window 1 2021-04-26T07:00:00\n"
@@ -173,11 +201,15 @@ lease_overdue : day_text (script home (named (codes "a") (on 0 (Set 1) ∷ on 2 
     ++ codes "order 1\n"
     ++ codes "home lamp=on fan=off oven=on heat=18\n"
     ++ codes "total windows 1 runs 2 committed 1 aborted 1\n"
-unfolding day_text_from head_text total_text window_text window_texts_from window_lines commit_count abort_count window_line time_text four_digits two_digits trace_lines trace_line entry_text run_lines line_of_run end_text answer_words answer_word order_line item_words item_word home_line home_words home_word device_name device_of states_of routine_name value_text answer_text cause_text digits
+unfolding day_text_from head_text total_text window_text window_texts_from window_lines commit_count abort_count window_line time_text four_digits two_digits
+    trace_lines trace_line entry_text run_lines line_of_run end_text answer_words answer_word order_line item_words item_word home_line home_words home_word
+    device_name device_of states_of routine_name value_text answer_text cause_text digits
 lease_overdue = refl
 
 -- a device is lost between two accesses of a run
-lost_between_accesses : day_text (script home (named (codes "a") (on 0 (Set 1) ∷ on 1 (Set 1) ∷ on 0 (Set 0) ∷ []) ∷ []) (0 ∷ [])) (record_of (record { model = Eventual; scheduler = Fcfs }) (Did (run_no 1) 0 Fine ∷ Ended (run_no 1) (Aborted (Lost (device_no 0))) ∷ []) (Failed (device_no 0) 1 ∷ []) (down 0 ∷ up 0 ∷ up 0 ∷ up 18 ∷ []) ∷ []) (record { model = Eventual; scheduler = Fcfs }) false ≡
+lost_between_accesses : day_text (script home (named (codes "a") (on 0 (Set 1) ∷ on 1 (Set 1) ∷ on 0 (Set 0) ∷ []) ∷ []) (0 ∷ []))
+    (record_of (record { model = Eventual; scheduler = Fcfs }) (Did (run_no 1) 0 Fine ∷ Ended (run_no 1) (Aborted (Lost (device_no 0))) ∷ [])
+    (Failed (device_no 0) 1 ∷ []) (down 0 ∷ up 0 ∷ up 0 ∷ up 18 ∷ []) ∷ []) (record { model = Eventual; scheduler = Fcfs }) false ≡
     codes "safehome day\n"
     ++ codes "model ev fcfs\n"
     ++ codes "window 1 2021-04-26T07:00:00\n"
@@ -185,11 +217,16 @@ lost_between_accesses : day_text (script home (named (codes "a") (on 0 (Set 1) �
     ++ codes "order fail(lamp)\n"
     ++ codes "home lamp=off! fan=off oven=off heat=18\n"
     ++ codes "total windows 1 runs 1 committed 0 aborted 1\n"
-unfolding day_text_from head_text total_text window_text window_texts_from window_lines commit_count abort_count window_line time_text four_digits two_digits trace_lines trace_line entry_text run_lines line_of_run end_text answer_words answer_word order_line item_words item_word home_line home_words home_word device_name device_of states_of routine_name value_text answer_text cause_text digits
+unfolding day_text_from head_text total_text window_text window_texts_from window_lines commit_count abort_count window_line time_text four_digits two_digits
+    trace_lines trace_line entry_text run_lines line_of_run end_text answer_words answer_word order_line item_words item_word home_line home_words home_word
+    device_name device_of states_of routine_name value_text answer_text cause_text digits
 lost_between_accesses = refl
 
 -- a value is stored and loaded
-store_and_load : day_text (script home (named (codes "a") (on 3 Store ∷ on 3 Load ∷ on 2 Store ∷ []) ∷ []) (0 ∷ [])) (record_of (record { model = Eventual; scheduler = Fcfs }) (Did (run_no 1) 0 Fine ∷ Did (run_no 1) 1 (Found 10) ∷ Did (run_no 1) 2 Fine ∷ Ended (run_no 1) Committed ∷ []) (Ran (run_no 1) ∷ []) (up 0 ∷ up 0 ∷ up 1 ∷ up 10 ∷ []) ∷ []) (record { model = Eventual; scheduler = Fcfs }) false ≡
+store_and_load : day_text (script home (named (codes "a") (on 3 Store ∷ on 3 Load ∷ on 2 Store ∷ []) ∷ []) (0 ∷ []))
+    (record_of (record { model = Eventual; scheduler = Fcfs })
+    (Did (run_no 1) 0 Fine ∷ Did (run_no 1) 1 (Found 10) ∷ Did (run_no 1) 2 Fine ∷ Ended (run_no 1) Committed ∷ []) (Ran (run_no 1) ∷ [])
+    (up 0 ∷ up 0 ∷ up 1 ∷ up 10 ∷ []) ∷ []) (record { model = Eventual; scheduler = Fcfs }) false ≡
     codes "safehome day\n"
     ++ codes "model ev fcfs\n"
     ++ codes "window 1 2021-04-26T07:00:00\n"
@@ -197,11 +234,17 @@ store_and_load : day_text (script home (named (codes "a") (on 3 Store ∷ on 3 L
     ++ codes "order 1\n"
     ++ codes "home lamp=off fan=off oven=on heat=10\n"
     ++ codes "total windows 1 runs 1 committed 1 aborted 0\n"
-unfolding day_text_from head_text total_text window_text window_texts_from window_lines commit_count abort_count window_line time_text four_digits two_digits trace_lines trace_line entry_text run_lines line_of_run end_text answer_words answer_word order_line item_words item_word home_line home_words home_word device_name device_of states_of routine_name value_text answer_text cause_text digits
+unfolding day_text_from head_text total_text window_text window_texts_from window_lines commit_count abort_count window_line time_text four_digits two_digits
+    trace_lines trace_line entry_text run_lines line_of_run end_text answer_words answer_word order_line item_words item_word home_line home_words home_word
+    device_name device_of states_of routine_name value_text answer_text cause_text digits
 store_and_load = refl
 
 -- the weak model claims no order
-no_order_under_the_weak_model : day_text (script home (named (codes "a") (on 0 (Set 1) ∷ on 1 (Set 1) ∷ []) ∷ named (codes "b") (on 1 (Set 0) ∷ on 0 (Set 0) ∷ []) ∷ named (codes "c") (on 3 (Set 25) ∷ []) ∷ []) (0 ∷ 1 ∷ 2 ∷ [])) (record_of (record { model = Weak; scheduler = Fcfs }) (Did (run_no 1) 0 Fine ∷ Did (run_no 2) 0 Fine ∷ Did (run_no 3) 0 Fine ∷ Ended (run_no 3) Committed ∷ Did (run_no 1) 1 Fine ∷ Ended (run_no 1) Committed ∷ Did (run_no 2) 1 Fine ∷ Ended (run_no 2) Committed ∷ []) (Ran (run_no 1) ∷ Ran (run_no 2) ∷ Ran (run_no 3) ∷ []) (up 0 ∷ up 1 ∷ up 0 ∷ up 25 ∷ []) ∷ []) (record { model = Weak; scheduler = Fcfs }) false ≡
+no_order_under_the_weak_model : day_text (script home
+    (named (codes "a") (on 0 (Set 1) ∷ on 1 (Set 1) ∷ []) ∷ named (codes "b") (on 1 (Set 0) ∷ on 0 (Set 0) ∷ []) ∷ named (codes "c") (on 3 (Set 25) ∷ []) ∷ [])
+    (0 ∷ 1 ∷ 2 ∷ [])) (record_of (record { model = Weak; scheduler = Fcfs }) (Did (run_no 1) 0 Fine ∷ Did (run_no 2) 0 Fine ∷ Did (run_no 3) 0 Fine
+    ∷ Ended (run_no 3) Committed ∷ Did (run_no 1) 1 Fine ∷ Ended (run_no 1) Committed ∷ Did (run_no 2) 1 Fine ∷ Ended (run_no 2) Committed ∷ [])
+    (Ran (run_no 1) ∷ Ran (run_no 2) ∷ Ran (run_no 3) ∷ []) (up 0 ∷ up 1 ∷ up 0 ∷ up 25 ∷ []) ∷ []) (record { model = Weak; scheduler = Fcfs }) false ≡
     codes "safehome day\n"
     ++ codes "model wv fcfs\n"
     ++ codes "window 1 2021-04-26T07:00:00\n"
@@ -211,7 +254,9 @@ no_order_under_the_weak_model : day_text (script home (named (codes "a") (on 0 (
     ++ codes "order unclaimed\n"
     ++ codes "home lamp=off fan=on oven=off heat=25\n"
     ++ codes "total windows 1 runs 3 committed 3 aborted 0\n"
-unfolding day_text_from head_text total_text window_text window_texts_from window_lines commit_count abort_count window_line time_text four_digits two_digits trace_lines trace_line entry_text run_lines line_of_run end_text answer_words answer_word order_line item_words item_word home_line home_words home_word device_name device_of states_of routine_name value_text answer_text cause_text digits
+unfolding day_text_from head_text total_text window_text window_texts_from window_lines commit_count abort_count window_line time_text four_digits two_digits
+    trace_lines trace_line entry_text run_lines line_of_run end_text answer_words answer_word order_line item_words item_word home_line home_words home_word
+    device_name device_of states_of routine_name value_text answer_text cause_text digits
 no_order_under_the_weak_model = refl
 
 -- nobody runs in a home without devices

@@ -36,7 +36,8 @@ four_digits n = zero_below 1000 n ++ zero_below 100 n ++ two_digits n
 unfoldable pub time_text : When → List ℕ
 time_text at =
     four_digits at.year ++ codes "-" ++ two_digits at.month ++ codes "-" ++ two_digits at.day
-    ++ codes "T" ++ two_digits at.hour ++ codes ":" ++ two_digits at.minute ++ codes ":" ++ two_digits at.second
+    ++ codes "T" ++ two_digits at.hour ++ codes ":" ++ two_digits at.minute ++ codes ":"
+    ++ two_digits at.second
 
 -- the first line of a window; windows count from 0, and from 1 in print
 unfoldable pub window_line : ℕ → When → List ℕ
@@ -44,17 +45,24 @@ window_line k at = codes "window " ++ decimal (k + 1) ++ codes " " ++ time_text 
 
 -- an entry of the history; a command counts from 1 in print
 unfoldable pub entry_text : Script → WindowText → Entry → List ℕ
-entry_text script window (Arrived r moment) = codes "arrived " ++ decimal r.0 ++ codes " at " ++ decimal moment
-entry_text script window (Placed r at moment) = codes "placed " ++ decimal r.0 ++ codes " place " ++ decimal at ++ codes " at " ++ decimal moment
+entry_text script window (Arrived r moment) =
+    codes "arrived " ++ decimal r.0 ++ codes " at " ++ decimal moment
+entry_text script window (Placed r at moment) =
+    codes "placed " ++ decimal r.0 ++ codes " place " ++ decimal at ++ codes " at "
+    ++ decimal moment
 entry_text script window (Did r c answer) =
-    codes "did " ++ decimal r.0 ++ codes "." ++ decimal (c + 1) ++ codes " " ++ answer_text (states_of script window r.0 c) answer
+    codes "did " ++ decimal r.0 ++ codes "." ++ decimal (c + 1) ++ codes " "
+    ++ answer_text (states_of script window r.0 c) answer
 entry_text script window (Undid r d drove) =
-    codes "undid " ++ decimal r.0 ++ codes " " ++ device_name script d.0 ++ (if drove then codes " drove" else codes " dropped")
+    codes "undid " ++ decimal r.0 ++ codes " " ++ device_name script d.0
+    ++ (if drove then codes " drove" else codes " dropped")
 entry_text script window (Fell d) = codes "fell " ++ device_name script d.0
 entry_text script window (Rose d) = codes "rose " ++ device_name script d.0
-entry_text script window (Doomed r cause) = codes "doomed " ++ decimal r.0 ++ codes " " ++ cause_text script window r.0 cause
+entry_text script window (Doomed r cause) =
+    codes "doomed " ++ decimal r.0 ++ codes " " ++ cause_text script window r.0 cause
 entry_text script window (Ended r Committed) = codes "ended " ++ decimal r.0 ++ codes " committed"
-entry_text script window (Ended r (Aborted cause)) = codes "ended " ++ decimal r.0 ++ codes " aborted"
+entry_text script window (Ended r (Aborted cause)) =
+    codes "ended " ++ decimal r.0 ++ codes " aborted"
 
 -- the line of an entry in the trace
 unfoldable pub trace_line : Script → WindowText → Kept → List ℕ
@@ -66,27 +74,34 @@ trace_lines script window history = flat_map (trace_line script window) history
 
 -- the answer of an entry, where it is one of the run
 unfoldable pub answer_word : Script → WindowText → ℕ → Entry → List ℕ
-answer_word script window r (Did q c answer) = (if q.0 == r then codes " " ++ answer_text (states_of script window r c) answer else [])
+answer_word script window r (Did q c answer) =
+    (if q.0 == r then codes " " ++ answer_text (states_of script window r c) answer else [])
 answer_word script window r _ = []
 
 -- the answers of a run, in the order of the history
 unfoldable pub answer_words : Script → WindowText → ℕ → List Kept → List ℕ
-answer_words script window r history = flat_map (λ kept. answer_word script window r kept.entry) history
+answer_words script window r history =
+    flat_map (λ kept. answer_word script window r kept.entry) history
 
 -- the end of a run, with its answers or the cause
 unfoldable pub end_text : Script → WindowText → List Kept → ℕ → Option End → List ℕ
 end_text script window history r None = []
-end_text script window history r (Some Committed) = codes " committed" ++ answer_words script window r history
-end_text script window history r (Some (Aborted cause)) = codes " aborted " ++ cause_text script window r cause
+end_text script window history r (Some Committed) =
+    codes " committed" ++ answer_words script window r history
+end_text script window history r (Some (Aborted cause)) =
+    codes " aborted " ++ cause_text script window r cause
 
 -- the line of a run: its number, its routine, its end
 unfoldable pub line_of_run : Script → WindowText → List Kept → ℕ → ℕ → List ℕ
 line_of_run script window history r routine =
-    codes "run " ++ decimal r ++ codes " " ++ routine_name script routine ++ end_text script window history r (end_of history r) ++ codes "\n"
+    codes "run " ++ decimal r ++ codes " " ++ routine_name script routine
+    ++ end_text script window history r (end_of history r) ++ codes "\n"
 
 -- a line for each run of the window
 unfoldable pub run_lines : Script → WindowText → List Kept → List ℕ
-run_lines script window history = flat_map (λ (r, run). line_of_run script window history r run.routine) (enumerate_from 1 window.runs.items)
+run_lines script window history =
+    flat_map (λ (r, run). line_of_run script window history r run.routine)
+    (enumerate_from 1 window.runs.items)
 
 -- the word for a list with nothing in it
 abbrev pub none_word : {A : Type 0} → List A → List ℕ
@@ -110,11 +125,15 @@ order_line script _ order = codes "order" ++ item_words script order ++ codes "\
 
 -- a device where it stands, with a mark where it is down
 unfoldable pub home_word : DeviceText → Stand → List ℕ
-home_word device stand = codes " " ++ device.name ++ codes "=" ++ value_text device.states.items stand.value ++ (if stand.up then [] else codes "!")
+home_word device stand =
+    codes " " ++ device.name ++ codes "=" ++ value_text device.states.items stand.value
+    ++ (if stand.up then [] else codes "!")
 
 -- each device in the order of the script
 unfoldable pub home_words : List DeviceText → List Stand → List ℕ
-home_words devices home = none_word devices ++ flat_map (λ (d, device). home_word device (stand_at home d)) (enumerate_from 0 devices)
+home_words devices home =
+    none_word devices
+    ++ flat_map (λ (d, device). home_word device (stand_at home d)) (enumerate_from 0 devices)
 
 -- the home
 unfoldable pub home_line : List DeviceText → List Stand → List ℕ

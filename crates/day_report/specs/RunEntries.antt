@@ -21,4 +21,5 @@ entries_of_run r history = filter (λ kept. run_told_of kept.entry == r) history
 
 -- the entries of each run stand in the place of the run, those of run 1 first
 abbrev pub AreApart : List (List Kept) → List Kept → Type 0
-AreApart parts history = (k : ℕ) → k < length parts → slice_index_or parts k [] ≡ entries_of_run (k + 1) history
+AreApart parts history =
+    (k : ℕ) → k < length parts → slice_index_or parts k [] ≡ entries_of_run (k + 1) history

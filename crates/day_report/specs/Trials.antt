@@ -13,5 +13,6 @@ counts_words windows committed aborted =
 -- the trial's number, the counts of its day, and how many windows agree
 unfoldable pub trial_text : ℕ → List WindowRecord → ℕ → List ℕ
 trial_text n windows agree =
-    codes "trial " ++ decimal n ++ codes " " ++ counts_words (length windows) (commit_count windows) (abort_count windows)
+    codes "trial " ++ decimal n ++ codes " "
+    ++ counts_words (length windows) (commit_count windows) (abort_count windows)
     ++ codes " agree " ++ decimal agree ++ codes "\n"

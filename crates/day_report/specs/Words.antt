@@ -1,5 +1,6 @@
 -- What the lines of a window call its devices, values, runs, answers and causes.
--- A number that names nothing in the script has the empty name; a value without a name is written as its number.
+-- A number that names nothing in the script has the empty name; a value without a name is written
+-- as its number.
 use Rattle.history_book.specs.declared.entries.Cause.TheVariants.{DownAtEnd, Lost, MustDown, Refuted, Revoked}
 use Rattle.history_book.specs.declared.entries.Cause.{Cause}
 use Rattle.home_types.specs.declared.commands.Answer.TheVariants.{Down, Fine, Found, Skipped}
@@ -27,17 +28,20 @@ run_at window (suc i) = slice_get window.runs.items i
 
 -- the routine of a run
 abbrev pub routine_of : Script → WindowText → ℕ → Option RoutineText
-routine_of script window r = option_and_then (λ run. routine_at script run.routine) (run_at window r)
+routine_of script window r =
+    option_and_then (λ run. routine_at script run.routine) (run_at window r)
 
 -- the device of a run's command; commands count from 0
 unfoldable pub device_of : Script → WindowText → ℕ → ℕ → Option DeviceText
 device_of script window r c =
     option_and_then (λ command. device_at script command.device.0)
-    (option_and_then (λ routine. slice_get routine.routine.commands.items c) (routine_of script window r))
+    (option_and_then (λ routine. slice_get routine.routine.commands.items c)
+    (routine_of script window r))
 
 -- the names of that device's states
 unfoldable pub states_of : Script → WindowText → ℕ → ℕ → List (List ℕ)
-states_of script window r c = unwrap_or (option_map (λ device. device.states.items) (device_of script window r c)) []
+states_of script window r c =
+    unwrap_or (option_map (λ device. device.states.items) (device_of script window r c)) []
 
 -- the name of a device
 unfoldable pub device_name : Script → ℕ → List ℕ
@@ -61,8 +65,11 @@ answer_text states Skipped = codes "/"
 -- why the run was aborted; commands count from 1 in print
 unfoldable pub cause_text : Script → WindowText → ℕ → Cause → List ℕ
 cause_text script window r (MustDown c) = codes "must " ++ decimal (c + 1)
-cause_text script window r (Refuted c x) = codes "refuted " ++ decimal (c + 1) ++ codes " found " ++ value_text (states_of script window r c) x
+cause_text script window r (Refuted c x) =
+    codes "refuted " ++ decimal (c + 1) ++ codes " found "
+    ++ value_text (states_of script window r c) x
 cause_text script window r (Lost d) = codes "lost " ++ device_name script d.0
 cause_text script window r (Revoked lender d deadline moment) =
-    codes "revoked " ++ device_name script d.0 ++ codes " by " ++ decimal lender.0 ++ codes " deadline " ++ decimal deadline ++ codes " at " ++ decimal moment
+    codes "revoked " ++ device_name script d.0 ++ codes " by " ++ decimal lender.0
+    ++ codes " deadline " ++ decimal deadline ++ codes " at " ++ decimal moment
 cause_text script window r (DownAtEnd d) = codes "downatend " ++ device_name script d.0

@@ -22,7 +22,8 @@ pub fn head_text(alloc: Global, mode: Mode) -> Result<Bytes, NoMemory>
     }
 }
 
-/// Writes the head of a day that goes on behind so many windows: that of a day, and a line with their number.
+/// Writes the head of a day that goes on behind so many windows: that of a day, and a line with
+/// their number.
 #[tactic(auto, unfolding(crate::specs::Days::head_text))]
 pub fn kept_head_text(alloc: Global, mode: Mode, kept: u32) -> Result<Bytes, NoMemory>
     ensures { IfOk result (λ b. b ≡ said.head_text mode ++ said.kept_line kept) }
@@ -56,12 +57,12 @@ fn scheduler_word(scheduler: Scheduler) -> &'static str
     }
 }
 
-/// Writes the lines of a window, counted from 0: its time, its trace where that is asked for, its runs with
-/// their answers or the cause of their abort, the serial order, and the home at the end.
+/// Writes the lines of a window, counted from 0: its time, its trace where that is asked for, its
+/// runs with their answers or the cause of their abort, the serial order, and the home at the end.
 ///
-/// Nothing is asked of the record. A run, command or device that is not in the script has an empty name, a
-/// value that is not in its device's states is written as its number, and a window that is not there has no
-/// line.
+/// Nothing is asked of the record. A run, command or device that is not in the script has an empty
+/// name, a value that is not in its device's states is written as its number, and a window that is
+/// not there has no line.
 #[tactic(auto, unfolding(crate::specs::Days::window_text))]
 pub fn window_text(
     alloc: Global,
@@ -94,7 +95,8 @@ fn push_window(
     mode: Mode,
     trace: bool,
 ) -> Result<(), AllocError>
-    ensures { OnOk result (string_bytes text.new ≡ string_bytes text.old ++ said.window_lines script.now number window.now closed.now mode trace) }
+    ensures { OnOk result (string_bytes text.new ≡ string_bytes text.old
+        ++ said.window_lines script.now number window.now closed.now mode trace) }
 {
     let history = closed.history.as_slice();
     push_window_line(text, number, &window.at)?;
@@ -106,7 +108,8 @@ fn push_window(
     push_home(text, script.devices.as_slice(), &closed.last)
 }
 
-/// Writes the last line of a day: how many windows it has, and how many runs, committed and aborted.
+/// Writes the last line of a day: how many windows it has, and how many runs, committed and
+/// aborted.
 pub fn total_text(alloc: Global, windows: &List<WindowRecord>) -> Result<Bytes, NoMemory>
     ensures { IfOk result (λ b. b ≡ said.total_text windows.now.items) }
 {
@@ -119,7 +122,8 @@ pub fn total_text(alloc: Global, windows: &List<WindowRecord>) -> Result<Bytes, 
 
 #[tactic(auto, unfolding(crate::specs::Days::total_text))]
 fn push_total(text: &mut String, windows: &[WindowRecord]) -> Result<(), AllocError>
-    ensures { OnOk result (string_bytes text.new ≡ string_bytes text.old ++ said.total_text windows.now) }
+    ensures { OnOk result
+        (string_bytes text.new ≡ string_bytes text.old ++ said.total_text windows.now) }
 {
     let ends = ends_of(windows);
     push_counts(text, windows.len(), ends.committed, ends.aborted)
@@ -132,7 +136,8 @@ fn push_counts(
     aborted: u128,
 ) -> Result<(), AllocError>
     requires { committed + aborted < 2 ^ 128 }
-    ensures { OnOk result (string_bytes text.new ≡ string_bytes text.old ++ said.counts_line windows committed aborted) }
+    ensures { OnOk result (string_bytes text.new
+        ≡ string_bytes text.old ++ said.counts_line windows committed aborted) }
 {
     let runs = committed + aborted;
     writeln!(
@@ -141,7 +146,8 @@ fn push_counts(
     )
 }
 
-/// How many runs of some windows committed, and how many were aborted: wide enough for any number of records.
+/// How many runs of some windows committed, and how many were aborted: wide enough for any number
+/// of records.
 #[derive(Clone, Copy)]
 pub struct Ends {
     pub committed: u128,

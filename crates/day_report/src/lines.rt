@@ -18,7 +18,8 @@ use std::fmt::Write;
 /// Appends the first line of a window. Windows count from 0, and from 1 in print.
 #[tactic(auto, unfolding(crate::specs::Lines::window_line))]
 pub fn push_window_line(text: &mut String, window: u32, at: &When) -> Result<(), AllocError>
-    ensures { OnOk result (string_bytes text.new ≡ string_bytes text.old ++ said.window_line window at.now) }
+    ensures { OnOk result
+        (string_bytes text.new ≡ string_bytes text.old ++ said.window_line window at.now) }
 {
     write!(text, "window {} ", window as u64 + 1)?;
     push_time(text, at)?;
@@ -33,7 +34,8 @@ fn push_entry(
     window: &WindowText,
     entry: Entry,
 ) -> Result<(), AllocError>
-    ensures { OnOk result (string_bytes text.new ≡ string_bytes text.old ++ said.entry_text script.now window.now entry) }
+    ensures { OnOk result (string_bytes text.new
+        ≡ string_bytes text.old ++ said.entry_text script.now window.now entry) }
 {
     match entry {
         Entry::Arrived(run, moment) => write!(text, "arrived {} at {moment}", run.0),
@@ -74,7 +76,8 @@ pub fn push_trace_line(
     window: &WindowText,
     kept: Kept,
 ) -> Result<(), AllocError>
-    ensures { OnOk result (string_bytes text.new ≡ string_bytes text.old ++ said.trace_line script.now window.now kept) }
+    ensures { OnOk result (string_bytes text.new
+        ≡ string_bytes text.old ++ said.trace_line script.now window.now kept) }
 {
     text.push_str("# ")?;
     push_entry(text, script, window, kept.entry)?;
@@ -89,7 +92,8 @@ pub fn push_trace(
     window: &WindowText,
     history: &[Kept],
 ) -> Result<(), AllocError>
-    ensures { OnOk result (string_bytes text.new ≡ string_bytes text.old ++ said.trace_lines script.now window.now history.now) }
+    ensures { OnOk result (string_bytes text.new
+        ≡ string_bytes text.old ++ said.trace_lines script.now window.now history.now) }
 {
     'entries: for kept in history {
         push_trace_line(text, script, window, *kept)?;
@@ -123,7 +127,8 @@ fn push_answer_of(
     run: u64,
     entry: Entry,
 ) -> Result<(), AllocError>
-    ensures { OnOk result (string_bytes text.new ≡ string_bytes text.old ++ said.answer_word script.now window.now run entry) }
+    ensures { OnOk result (string_bytes text.new
+        ≡ string_bytes text.old ++ said.answer_word script.now window.now run entry) }
 {
     match entry {
         Entry::Did(asked, command, answer) if asked.0 as u64 == run => {
@@ -149,7 +154,8 @@ fn push_answers(
     history: &[Kept],
     run: u64,
 ) -> Result<(), AllocError>
-    ensures { OnOk result (string_bytes text.new ≡ string_bytes text.old ++ said.answer_words script.now window.now run history.now) }
+    ensures { OnOk result (string_bytes text.new
+        ≡ string_bytes text.old ++ said.answer_words script.now window.now run history.now) }
 {
     'entries: for kept in history {
         push_answer_of(text, script, window, run, kept.entry)?;
@@ -166,7 +172,8 @@ fn push_end(
     history: &[Kept],
     run: u64,
 ) -> Result<(), AllocError>
-    ensures { OnOk result (string_bytes text.new ≡ string_bytes text.old ++ said.end_text script.now window.now history.now run (end_of history.now run)) }
+    ensures { OnOk result (string_bytes text.new ≡ string_bytes text.old
+        ++ said.end_text script.now window.now history.now run (end_of history.now run)) }
 {
     match end_of(run, history) {
         Some(End::Committed) => {
@@ -191,7 +198,8 @@ fn push_run(
     run: u64,
     routine: u32,
 ) -> Result<(), AllocError>
-    ensures { OnOk result (string_bytes text.new ≡ string_bytes text.old ++ said.line_of_run script.now window.now history.now run routine) }
+    ensures { OnOk result (string_bytes text.new
+        ≡ string_bytes text.old ++ said.line_of_run script.now window.now history.now run routine) }
 {
     write!(text, "run {run} {}", routine_name(script, routine))?;
     push_end(text, script, window, history, run)?;
@@ -207,7 +215,8 @@ pub fn push_runs(
     window: &WindowText,
     history: &[Kept],
 ) -> Result<(), AllocError>
-    ensures { OnOk result (string_bytes text.new ≡ string_bytes text.old ++ said.run_lines script.now window.now history.now) }
+    ensures { OnOk result (string_bytes text.new
+        ≡ string_bytes text.old ++ said.run_lines script.now window.now history.now) }
 {
     let all = window.runs.as_slice();
     let parts = entries_by_run(alloc, all.len(), history)?;
@@ -227,7 +236,8 @@ pub fn push_runs(
 /// Appends an item of the order.
 #[tactic(auto, unfolding(crate::specs::Lines::item_word))]
 fn push_item(text: &mut String, script: &Script, item: Item) -> Result<(), AllocError>
-    ensures { OnOk result (string_bytes text.new ≡ string_bytes text.old ++ said.item_word script.now item) }
+    ensures { OnOk result
+        (string_bytes text.new ≡ string_bytes text.old ++ said.item_word script.now item) }
 {
     match item {
         Item::Ran(run) => write!(text, " {}", run.0),
@@ -238,7 +248,8 @@ fn push_item(text: &mut String, script: &Script, item: Item) -> Result<(), Alloc
 
 /// Appends the word for a list with nothing in it, where it has nothing.
 fn push_none<T>(text: &mut String, items: &[T]) -> Result<(), AllocError>
-    ensures { OnOk result (string_bytes text.new ≡ string_bytes text.old ++ said.none_word items.now) }
+    ensures { OnOk result
+        (string_bytes text.new ≡ string_bytes text.old ++ said.none_word items.now) }
 {
     if items.is_empty() {
         text.push_str(" none")?;
@@ -249,7 +260,8 @@ fn push_none<T>(text: &mut String, items: &[T]) -> Result<(), AllocError>
 /// Appends the items of the order.
 #[tactic(auto, using(crate::proofs::Growing::one_piece_more, crate::proofs::Growing::no_piece), unfolding(crate::specs::Lines::item_words))]
 fn push_items(text: &mut String, script: &Script, order: &[Item]) -> Result<(), AllocError>
-    ensures { OnOk result (string_bytes text.new ≡ string_bytes text.old ++ said.item_words script.now order.now) }
+    ensures { OnOk result
+        (string_bytes text.new ≡ string_bytes text.old ++ said.item_words script.now order.now) }
 {
     push_none(text, order)?;
     'items: for item in order {
@@ -266,7 +278,8 @@ pub fn push_order(
     model: Visibility,
     order: &[Item],
 ) -> Result<(), AllocError>
-    ensures { OnOk result (string_bytes text.new ≡ string_bytes text.old ++ said.order_line script.now model order.now) }
+    ensures { OnOk result (string_bytes text.new
+        ≡ string_bytes text.old ++ said.order_line script.now model order.now) }
 {
     if model == Visibility::Weak {
         return text.push_str("order unclaimed\n");
@@ -279,7 +292,8 @@ pub fn push_order(
 /// Appends a device where it stands, with a mark where it is down.
 #[tactic(auto, unfolding(crate::specs::Lines::home_word))]
 fn push_stand(text: &mut String, device: &DeviceText, stand: Stand) -> Result<(), AllocError>
-    ensures { OnOk result (string_bytes text.new ≡ string_bytes text.old ++ said.home_word device.now stand) }
+    ensures { OnOk result
+        (string_bytes text.new ≡ string_bytes text.old ++ said.home_word device.now stand) }
 {
     write!(text, " {}=", device.name.as_str())?;
     push_value(text, device.states.as_slice(), stand.value)?;
@@ -306,7 +320,8 @@ fn stand_at(home: &World, device: u64) -> Stand
 /// Appends each device where it stands.
 #[tactic(auto, using(crate::proofs::Growing::one_numbered_piece_more, crate::proofs::Growing::no_piece), unfolding(crate::specs::Lines::home_words))]
 fn push_stands(text: &mut String, devices: &[DeviceText], home: &World) -> Result<(), AllocError>
-    ensures { OnOk result (string_bytes text.new ≡ string_bytes text.old ++ said.home_words devices.now home.now.devices.items) }
+    ensures { OnOk result (string_bytes text.new
+        ≡ string_bytes text.old ++ said.home_words devices.now home.now.devices.items) }
 {
     push_none(text, devices)?;
     'devices: for (i, device) in devices.iter().enumerate() {
@@ -318,7 +333,8 @@ fn push_stands(text: &mut String, devices: &[DeviceText], home: &World) -> Resul
 /// Appends the home: each device in the order of the script.
 #[tactic(auto, unfolding(crate::specs::Lines::home_line))]
 pub fn push_home(text: &mut String, devices: &[DeviceText], home: &World) -> Result<(), AllocError>
-    ensures { OnOk result (string_bytes text.new ≡ string_bytes text.old ++ said.home_line devices.now home.now.devices.items) }
+    ensures { OnOk result (string_bytes text.new
+        ≡ string_bytes text.old ++ said.home_line devices.now home.now.devices.items) }
 {
     text.push_str("home")?;
     push_stands(text, devices, home)?;

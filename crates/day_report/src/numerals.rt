@@ -8,7 +8,8 @@ use std::fmt::Write;
 
 /// Appends a zero where the number is below this power of ten.
 fn push_zero_below(text: &mut String, power: u16, number: u16) -> Result<(), AllocError>
-    ensures { OnOk result (string_bytes text.new ≡ string_bytes text.old ++ zero_below power number) }
+    ensures { OnOk result
+        (string_bytes text.new ≡ string_bytes text.old ++ zero_below power number) }
 {
     if number < power {
         text.push_str("0")?;

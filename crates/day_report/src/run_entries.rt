@@ -57,8 +57,8 @@ fn told_of(entry: Entry) -> u32
     }
 }
 
-/// The entries of each of so many runs, those of run 1 first. Goes over the history once, and passes over what tells of
-/// no such run.
+/// The entries of each of so many runs, those of run 1 first. Goes over the history once, and
+/// passes over what tells of no such run.
 pub(crate) fn entries_by_run(
     alloc: Global,
     runs: usize,
@@ -67,7 +67,8 @@ pub(crate) fn entries_by_run(
     ensures runs { IfOk result (λ parts. length parts.items ≡ runs) }
     ensures apart { IfOk result (λ parts. AreApart parts.items history.now) }
 {
-    // a run that commits has fewer answers than its share of the entries, where each run has as many
+    // a run that commits has fewer answers than its share of the entries, where each run has as
+    // many
     let room = history.len().checked_div(runs).unwrap_or(0);
     let mut parts = empty_parts(alloc, runs, room)?;
     'entries: for kept in history {
@@ -91,7 +92,8 @@ fn empty_parts(alloc: Global, runs: usize, room: usize) -> Result<Vec<RunEntries
 /// Puts the entry behind those of its run, where it tells of a run that has a part.
 fn put_to_run(parts: &mut Vec<RunEntries>, kept: Kept) -> Result<(), AllocError>
     ensures runs { length parts.new.items ≡ length parts.old.items }
-    ensures apart { OnOk result ((history : _) → AreApart parts.old.items history → AreApart parts.new.items (history ++ kept ∷ [])) }
+    ensures apart { OnOk result ((history : _) → AreApart parts.old.items history
+        → AreApart parts.new.items (history ++ kept ∷ [])) }
 {
     let run = told_of(kept.entry) as usize;
     if 0 < run && run <= parts.len() {

@@ -8,8 +8,8 @@ use home_types::{Bytes, List, NoMemory};
 use std::alloc::{AllocError, Global};
 use std::fmt::Write;
 
-/// Writes the line of the trial with this number: how many windows its day has, how many runs, committed and aborted,
-/// and how many of its windows agree with their serial execution.
+/// Writes the line of the trial with this number: how many windows its day has, how many runs,
+/// committed and aborted, and how many of its windows agree with their serial execution.
 pub fn trial_text(
     alloc: Global,
     number: u32,
@@ -32,7 +32,8 @@ fn push_trial(
     windows: &[WindowRecord],
     agree: u64,
 ) -> Result<(), AllocError>
-    ensures { OnOk result (string_bytes text.new ≡ string_bytes text.old ++ said.trial_text number windows.now agree) }
+    ensures { OnOk result (string_bytes text.new
+        ≡ string_bytes text.old ++ said.trial_text number windows.now agree) }
 {
     write!(text, "trial {number} ")?;
     push_counts(text, windows.len(), ends_of(windows))?;
@@ -42,7 +43,8 @@ fn push_trial(
 #[tactic(auto, unfolding(crate::specs::Trials::counts_words))]
 fn push_counts(text: &mut String, windows: usize, ends: Ends) -> Result<(), AllocError>
     requires { ends.committed + ends.aborted < 2 ^ 128 }
-    ensures { OnOk result (string_bytes text.new ≡ string_bytes text.old ++ said.counts_words windows ends.committed ends.aborted) }
+    ensures { OnOk result (string_bytes text.new
+        ≡ string_bytes text.old ++ said.counts_words windows ends.committed ends.aborted) }
 {
     let Ends { committed, aborted } = ends;
     let runs = committed + aborted;

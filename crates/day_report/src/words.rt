@@ -12,7 +12,8 @@ use std::fmt::Write;
 /// Appends a value of a device with these states: the name of the state, else the number.
 #[tactic(auto, unfolding(crate::specs::Words::value_text))]
 pub fn push_value(text: &mut String, states: &[Text], value: Value) -> Result<(), AllocError>
-    ensures { OnOk result (string_bytes text.new ≡ string_bytes text.old ++ value_text states.now value) }
+    ensures { OnOk result
+        (string_bytes text.new ≡ string_bytes text.old ++ value_text states.now value) }
 {
     match states.get(value as usize) {
         Some(name) => text.push_str(name.as_str()),
@@ -24,7 +25,8 @@ pub fn push_value(text: &mut String, states: &[Text], value: Value) -> Result<()
 #[tactic(auto, unfolding(crate::specs::Words::answer_text))]
 #[inline(always)]
 pub fn push_answer(text: &mut String, states: &[Text], answer: Answer) -> Result<(), AllocError>
-    ensures { OnOk result (string_bytes text.new ≡ string_bytes text.old ++ answer_text states.now answer) }
+    ensures { OnOk result
+        (string_bytes text.new ≡ string_bytes text.old ++ answer_text states.now answer) }
 {
     match answer {
         Answer::Fine => text.push_str("."),
@@ -43,7 +45,8 @@ pub fn push_cause(
     run: u64,
     cause: Cause,
 ) -> Result<(), AllocError>
-    ensures { OnOk result (string_bytes text.new ≡ string_bytes text.old ++ cause_text script.now window.now run cause) }
+    ensures { OnOk result (string_bytes text.new
+        ≡ string_bytes text.old ++ cause_text script.now window.now run cause) }
 {
     match cause {
         Cause::MustDown(command) => write!(text, "must {}", command as u64 + 1),

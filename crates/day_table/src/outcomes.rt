@@ -9,9 +9,9 @@ use std::alloc::{AllocError, Global};
 use std::fmt::Write as _;
 use std::io::{self, Write};
 
-/// Makes the call of a case, and writes its end: the status, the fault's text, how many windows and devices came back, of a
-/// day that was to be kept what a crash leaves of the disk, how many bytes of the input were left, and what the sink holds.
-/// Disk and sink are kept for the next case.
+/// Makes the call of a case, and writes its end: the status, the fault's text, how many windows and
+/// devices came back, of a day that was to be kept what a crash leaves of the disk, how many bytes
+/// of the input were left, and what the sink holds. Disk and sink are kept for the next case.
 pub fn write_outcome<W: Write>(
     alloc: Global,
     case: &Case,

@@ -33,7 +33,13 @@ impl Teller for Told {
 /// Counts with the sum that a publishing asks for.
 fn counts(windows: u64, committed: u64, aborted: u64, over: bool) -> Counts
     requires { committed + aborted < 2 ^ 64 }
-    ensures { result ≡ record { windows = windows; runs = committed + aborted; committed = committed; aborted = aborted; over = over } }
+    ensures { result ≡ record {
+      windows = windows;
+      runs = committed + aborted;
+      committed = committed;
+      aborted = aborted;
+      over = over;
+    } }
 {
     Counts {
         windows,

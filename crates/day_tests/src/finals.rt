@@ -16,28 +16,33 @@ use std::process::Abort;
 const SCRIPT: &str = r#"{"safehome": 1,
  "devices": [{"name": "lamp", "states": ["off", "on"], "start": "off"},
   {"name": "fan", "states": ["off", "on"], "start": "off"}],
- "routines": [{"name": "a", "commands": [{"on": "lamp", "do": "set", "to": "on"}, {"on": "fan", "do": "set", "to": "on"}]},
+ "routines": [{"name": "a",
+    "commands": [{"on": "lamp", "do": "set", "to": "on"}, {"on": "fan", "do": "set", "to": "on"}]},
   {"name": "b", "commands": [{"on": "lamp", "do": "set", "to": "off"}]}],
  "windows": [{"at": "2021-04-26T07:00:00", "runs": [{"routine": "a"}, {"routine": "b"}]}]}"#;
 
-/// Six runs of four routines on four devices, three of which fail, with two rounds of probes: runs are aborted for what a
-/// `check` finds and for failures, one follows another, and devices come back.
+/// Six runs of four routines on four devices, three of which fail, with two rounds of probes: runs
+/// are aborted for what a `check` finds and for failures, one follows another, and devices come
+/// back.
 const DRAWN: &str = r#"{"safehome": 1, "devices": [
   {"name": "lamp", "states": ["off", "on"], "start": "off", "down": [[3, 4]]},
   {"name": "fan", "states": ["off", "on"], "start": "off"},
   {"name": "oven", "states": ["off", "on"], "start": "off", "down": [[2, 3], [6, 8]]},
   {"name": "heat", "low": 10, "high": 30, "start": 18, "down": [[4, 5]]}],
  "routines": [
-  {"name": "bake", "commands": [{"on": "oven", "do": "set", "to": "on"}, {"on": "fan", "do": "set", "to": "on"},
+  {"name": "bake",
+    "commands": [{"on": "oven", "do": "set", "to": "on"}, {"on": "fan", "do": "set", "to": "on"},
     {"on": "oven", "do": "set", "to": "off"}]},
-  {"name": "leave", "commands": [{"on": "heat", "do": "set", "to": 15}, {"on": "lamp", "do": "set", "to": "off"},
+  {"name": "leave",
+    "commands": [{"on": "heat", "do": "set", "to": 15}, {"on": "lamp", "do": "set", "to": "off"},
     {"on": "oven", "do": "check", "to": "off"}, {"on": "heat", "do": "set", "to": 12}]},
   {"name": "read", "commands": [{"on": "lamp", "do": "set", "to": "on", "must": false},
     {"on": "heat", "do": "load", "must": false}, {"on": "heat", "do": "store", "must": false}]},
   {"name": "air", "commands": [{"on": "fan", "do": "set", "to": "on", "must": false},
     {"on": "fan", "do": "set", "to": "off", "must": false}]}],
  "windows": [{"at": "2021-04-26T07:00", "probes": 2,
-    "runs": [{"routine": "bake"}, {"routine": "leave"}, {"routine": "read"}, {"routine": "air"}, {"routine": "leave"},
+    "runs": [{"routine": "bake"}, {"routine": "leave"}, {"routine": "read"}, {"routine": "air"},
+      {"routine": "leave"},
       {"routine": "read", "follows": 1}]}]}"#;
 
 /// So many steps are drawn.
@@ -128,8 +133,8 @@ struct Seen {
     windows: u32,
 }
 
-/// One window after another, each step drawn, under one scheduler after another. After each step the items that were final
-/// before it stand first, and the record's order begins with all of them.
+/// One window after another, each step drawn, under one scheduler after another. After each step
+/// the items that were final before it stand first, and the record's order begins with all of them.
 #[test]
 fn final_items_stay_through_drawn_steps(rt: HostRuntime) {
     let schedulers = [Scheduler::Fcfs, Scheduler::JustInTime, Scheduler::Timeline];

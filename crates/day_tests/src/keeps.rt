@@ -1,5 +1,5 @@
-//! Days that are kept on a disk in memory: a stored one, and one of three windows, each call of whose disk fails in turn.
-//! The outcomes are those of `reference`.
+//! Days that are kept on a disk in memory: a stored one, and one of three windows, each call of
+//! whose disk fails in turn. The outcomes are those of `reference`.
 use crate::runs::{LIGHT, owned};
 use day_clock::{BytesSink, BytesSource};
 use device_states::SimBench;
@@ -10,8 +10,16 @@ use std::alloc::Global;
 use std::test::*;
 
 /// A day of three windows.
-const THREE: &str =
-    r#"{"safehome":1,"devices":[{"name":"lamp","states":["off","on"],"start":"off"},{"name":"heat","low":10,"high":30,"start":15}],"routines":[{"name":"come","commands":[{"on":"lamp","do":"set","to":"on"},{"on":"heat","do":"set","to":21}]},{"name":"read","commands":[{"on":"lamp","do":"check","to":"on"}]},{"name":"leave","commands":[{"on":"lamp","do":"set","to":"off"}]}],"windows":[{"at":"2021-04-26T07:00:00","runs":[{"routine":"come"}]},{"at":"2021-04-26T12:00:00","runs":[{"routine":"read"}]},{"at":"2021-04-26T20:00:00","runs":[{"routine":"leave"},{"routine":"read"}]}]}"#;
+const THREE: &str = r#"{"safehome":1,
+ "devices":[{"name":"lamp","states":["off","on"],"start":"off"},
+  {"name":"heat","low":10,"high":30,"start":15}],
+ "routines":[{"name":"come",
+    "commands":[{"on":"lamp","do":"set","to":"on"},{"on":"heat","do":"set","to":21}]},
+  {"name":"read","commands":[{"on":"lamp","do":"check","to":"on"}]},
+  {"name":"leave","commands":[{"on":"lamp","do":"set","to":"off"}]}],
+ "windows":[{"at":"2021-04-26T07:00:00","runs":[{"routine":"come"}]},
+  {"at":"2021-04-26T12:00:00","runs":[{"routine":"read"}]},
+  {"at":"2021-04-26T20:00:00","runs":[{"routine":"leave"},{"routine":"read"}]}]}"#;
 
 /// The head of each record.
 const HEAD: &str = "safehome day\nmodel ev fcfs\n";
@@ -31,7 +39,11 @@ const LIGHT_TOTALS: &[&str] = &[
 const WINDOWS: &[&str] = &[
     "window 1 2021-04-26T07:00:00\nrun 1 come committed . .\norder 1\nhome lamp=on heat=21\n",
     "window 2 2021-04-26T12:00:00\nrun 1 read committed on\norder 1\nhome lamp=on heat=21\n",
-    "window 3 2021-04-26T20:00:00\nrun 1 leave committed .\nrun 2 read aborted refuted 1 found off\norder 1\nhome lamp=off heat=21\n",
+    "window 3 2021-04-26T20:00:00\n\
+    run 1 leave committed .\n\
+    run 2 read aborted refuted 1 found off\n\
+    order 1\n\
+    home lamp=off heat=21\n",
 ];
 
 /// The total of all of these windows, of all but the first, and so on.
@@ -51,7 +63,8 @@ const DAMAGED: [u8; 13] = [1, 2, 0, 0, 0, 1, 0, 1, 0, 0, 0, 1, 0];
 /// As many bytes as a disk has room for.
 const ROOM: u64 = 200;
 
-/// How a call ended: its status, the text of its fault, the windows that it closed, its record, and the disk.
+/// How a call ended: its status, the text of its fault, the windows that it closed, its record, and
+/// the disk.
 #[derive(Drop)]
 struct Kept {
     status: u8,
@@ -97,7 +110,8 @@ fn text_of(alloc: Global, fault: &Option<Fault>) -> Result<String, NoMemory> {
     }
 }
 
-/// The record behind so many kept windows: the head, the windows up to this number, and the total where it is asked for.
+/// The record behind so many kept windows: the head, the windows up to this number, and the total
+/// where it is asked for.
 fn record_of(
     alloc: Global,
     windows: &[&str],
@@ -149,8 +163,8 @@ fn is_light(alloc: Global, held: &[u8], kept: usize) -> Result<bool, NoMemory> {
     Ok(held == due.as_bytes())
 }
 
-/// How many states the disk keeps after a crash, by the day of three windows that goes on there to its end: `None` where
-/// that record is no whole one.
+/// How many states the disk keeps after a crash, by the day of three windows that goes on there to
+/// its end: `None` where that record is no whole one.
 fn kept_after(alloc: Global, disk: MemoryDisk, written: bool) -> Result<Option<usize>, NoMemory> {
     let again = keep(alloc, THREE, disk.crashed(written))?;
     let found = whole_behind(alloc, again.sink.held());
@@ -190,8 +204,8 @@ fn a_damaged_journal_is_told(rt: HostRuntime) {
     assert!(rt; ended.sink.held().is_empty());
 }
 
-/// Each call of the disk fails in turn: the sync, the length, a write and a sync of the opening, then two writes and two
-/// syncs for each window.
+/// Each call of the disk fails in turn: the sync, the length, a write and a sync of the opening,
+/// then two writes and two syncs for each window.
 #[test]
 fn every_call_of_the_disk_fails(rt: HostRuntime) {
     for call in 1..=17u64 {

@@ -18,8 +18,9 @@ fn one_command_takes_five_moves(rt: HostRuntime) {
     assert!(rt; moves_at_end(&rt, rt.alloc(), &[1, 1, 0, 1, 2, 1, 1, 1, 1]) == Some(5));
 }
 
-/// How many picks have moved when the run has ended: it arrives, is placed, takes the lamp, gives it back, and commits.
-/// Any other pick finds an actor that has ended, or none. The window closes then, as `replay_window` proves of each.
+/// How many picks have moved when the run has ended: it arrives, is placed, takes the lamp, gives
+/// it back, and commits. Any other pick finds an actor that has ended, or none. The window closes
+/// then, as `replay_window` proves of each.
 fn moves_at_end(rt: &impl Abort, alloc: Global, picks: &[u32]) -> Option<u64> {
     let hub = fresh_hub(alloc, SCRIPT, &mut CalmBench, Scheduler::Fcfs)?;
     let mut player = match Player::open(alloc, hub, 0) {

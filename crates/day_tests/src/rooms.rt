@@ -18,7 +18,8 @@ const ROOMS: &str = r#"{"safehome": 1, "devices": [
   {"name": "b", "commands": [{"on": "bed_lamp", "do": "set", "to": "on"}]}],
  "windows": [{"at": "2021-04-26T07:00", "runs": [{"routine": "a"}, {"routine": "b"}]}]}"#;
 
-/// In a room the bench numbers its devices from 0, so the lamps are the first and the second device.
+/// In a room the bench numbers its devices from 0, so the lamps are the first and the second
+/// device.
 #[test]
 fn two_rooms_meet(rt: HostRuntime) {
     let scene = Scene::new(&rt);
@@ -37,7 +38,8 @@ fn two_rooms_meet(rt: HostRuntime) {
     drop(sink);
 }
 
-/// The same runs with one hub for both rooms: under the global strict model the first waits in vain for the second.
+/// The same runs with one hub for both rooms: under the global strict model the first waits in vain
+/// for the second.
 #[test]
 fn two_runs_of_one_hub_do_not(rt: HostRuntime) {
     let scene = Scene::new(&rt);

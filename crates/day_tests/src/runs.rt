@@ -1,5 +1,5 @@
-//! Days that are run with threads: two runs that meet, a lease that is revoked while nobody else steps, a device that does
-//! not answer its probe, and a day whose record is stored.
+//! Days that are run with threads: two runs that meet, a lease that is revoked while nobody else
+//! steps, a device that does not answer its probe, and a day whose record is stored.
 use day_clock::{BytesSink, BytesSource, Clock, SetClock, StdClock};
 use device_states::{Bench, Dead, Device, SimBench};
 use history_book::{Cause, End, Entry};
@@ -18,12 +18,16 @@ const MEETING: &str = r#"{"safehome": 1, "devices": [
   {"name": "oven", "states": ["off", "on"], "start": "off"},
   {"name": "heat", "low": 10, "high": 30, "start": 18}],
  "routines": [
-  {"name": "a", "commands": [{"on": "lamp", "do": "set", "to": "on"}, {"on": "fan", "do": "set", "to": "on"}]},
-  {"name": "b", "commands": [{"on": "lamp", "do": "set", "to": "off"}, {"on": "oven", "do": "set", "to": "on"}]}],
+  {"name": "a",
+    "commands": [{"on": "lamp", "do": "set", "to": "on"}, {"on": "fan", "do": "set", "to": "on"}]},
+  {"name": "b",
+    "commands": [{"on": "lamp", "do": "set", "to": "off"},
+      {"on": "oven", "do": "set", "to": "on"}]}],
  "windows": [{"at": "2021-04-26T07:00", "runs": [{"routine": "a"}, {"routine": "b"}]}]}"#;
 
-/// A run that bakes, and one that dries, which follows a look at the door. The look ends when the lamp is driven, so the
-/// drying is placed behind the baking in time, and before it in the line: it has the oven on lease, for 20 ms.
+/// A run that bakes, and one that dries, which follows a look at the door. The look ends when the
+/// lamp is driven, so the drying is placed behind the baking in time, and before it in the line: it
+/// has the oven on lease, for 20 ms.
 const LENDING: &str = r#"{"safehome": 1, "devices": [
   {"name": "door", "states": ["open", "shut"], "start": "open"},
   {"name": "lamp", "states": ["off", "on"], "start": "off"},
@@ -31,9 +35,14 @@ const LENDING: &str = r#"{"safehome": 1, "devices": [
   {"name": "oven", "states": ["off", "on"], "start": "off"}],
  "routines": [
   {"name": "look", "commands": [{"on": "door", "do": "check", "to": "shut"}]},
-  {"name": "dry", "commands": [{"on": "drum", "do": "set", "to": "on", "ms": 10}, {"on": "oven", "do": "set", "to": "on", "ms": 8}]},
-  {"name": "bake", "commands": [{"on": "lamp", "do": "set", "to": "on"}, {"on": "oven", "do": "set", "to": "off"}]}],
- "windows": [{"at": "2021-04-26T07:00", "runs": [{"routine": "look"}, {"routine": "dry", "follows": 1}, {"routine": "bake"}]}]}"#;
+  {"name": "dry",
+    "commands": [{"on": "drum", "do": "set", "to": "on", "ms": 10},
+      {"on": "oven", "do": "set", "to": "on", "ms": 8}]},
+  {"name": "bake",
+    "commands": [{"on": "lamp", "do": "set", "to": "on"},
+      {"on": "oven", "do": "set", "to": "off"}]}],
+ "windows": [{"at": "2021-04-26T07:00",
+    "runs": [{"routine": "look"}, {"routine": "dry", "follows": 1}, {"routine": "bake"}]}]}"#;
 
 /// How long the drum's call takes in `LENDING`, in ms.
 const DRUM_MS: u64 = 300;
@@ -55,7 +64,9 @@ const PROBED: &str = r#"{"safehome": 1, "devices": [
 
 /// A window of one run that drives the lamp.
 pub const LIGHT: &str =
-    r#"{"safehome":1,"devices":[{"name":"lamp","states":["off","on"],"start":"off"}],"routines":[{"name":"light","commands":[{"on":"lamp","do":"set","to":"on"}]}],"windows":[{"at":"2021-04-26T07:00:00","runs":[{"routine":"light"}]}]}"#;
+    r#"{"safehome":1,"devices":[{"name":"lamp","states":["off","on"],"start":"off"}],
+ "routines":[{"name":"light","commands":[{"on":"lamp","do":"set","to":"on"}]}],
+ "windows":[{"at":"2021-04-26T07:00:00","runs":[{"routine":"light"}]}]}"#;
 
 /// The record of the day of `LIGHT`.
 pub const LIGHT_RECORD: &str = "safehome day
@@ -189,7 +200,8 @@ pub fn has_line(text: &[u8], line: &[u8]) -> bool {
     text.split(|byte| *byte == b'\n').any(|found| found == line)
 }
 
-/// How long after its deadline the first lease was revoked in the day's first window, in ms. None where none was.
+/// How long after its deadline the first lease was revoked in the day's first window, in ms. None
+/// where none was.
 fn delay<Dev: Device>(finish: &Finish<Dev>) -> Option<u64> {
     let window = finish.day.as_ref()?.windows.get(0)?;
     for kept in window.history.as_slice() {
@@ -248,8 +260,8 @@ impl<C: Clock> Scene<C> {
     }
 }
 
-/// What a device does in its first call, before it answers: it raises its own flag, works for so many ms, and waits for
-/// another's flag. Flags count from 0.
+/// What a device does in its first call, before it answers: it raises its own flag, works for so
+/// many ms, and waits for another's flag. Flags count from 0.
 #[derive(Clone, Copy)]
 pub struct FirstCall {
     raises: Option<usize>,
@@ -283,8 +295,8 @@ impl FirstCall {
     }
 }
 
-/// A device that plays its part in its first call, where it has one. It dies where the flag that it waits for is not
-/// raised in time.
+/// A device that plays its part in its first call, where it has one. It dies where the flag that it
+/// waits for is not raised in time.
 #[derive(Drop)]
 pub struct Playing<'a, C> {
     number: DeviceNo,

@@ -1,5 +1,5 @@
-//! Days that are watched: a stored one, and some that end early, of which the watcher is told all the same that they are
-//! over. That the calls return is what no clause says.
+//! Days that are watched: a stored one, and some that end early, of which the watcher is told all
+//! the same that they are over. That the calls return is what no clause says.
 use crate::runs::{LIGHT, LIGHT_RECORD, owned};
 use day_clock::{BytesSink, BytesSource, SetClock};
 use device_states::{Bench, Device, SimBench, SimDevice};
@@ -195,7 +195,8 @@ where
     })
 }
 
-/// Whether these are the bytes of the day of one lamp with its board's line, or as many as there is room for.
+/// Whether these are the bytes of the day of one lamp with its board's line, or as many as there is
+/// room for.
 fn is_light(held: &[u8], room: u64) -> bool {
     let due = LIGHT_RECORD.bytes().chain(LIGHT_BOARD.bytes());
     due.take(room as usize).eq(held.iter().copied())

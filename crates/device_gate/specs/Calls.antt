@@ -7,7 +7,8 @@ use Rattle.home_types.specs.declared.commands.Answer.TheVariants.{Down, Fine, Fo
 use Rattle.home_types.specs.declared.commands.Answer.{Answer}
 use Rattle.std.specs.Prelude.{Bool, None, Option, Some, false, if◌then◌else◌, true, ℕ, ◌==◌}
 
--- the device is counted up as it leaves: only a probe with a value to restore is for one that is counted down
+-- the device is counted up as it leaves: only a probe with a value to restore is for one that is
+-- counted down
 abbrev pub is_counted_up : Task → Bool
 is_counted_up (Drive v) = true
 is_counted_up Sense = true
@@ -20,7 +21,8 @@ has_died Worked = false
 has_died (Sensed x) = false
 has_died Died = true
 
--- what a device that stood at the value may tell: a drive and a probe that they worked, a sense that value, and each of them that a call died
+-- what a device that stood at the value may tell: a drive and a probe that they worked, a sense
+-- that value, and each of them that a call died
 abbrev pub may_tell : Task → ℕ → Told → Bool
 may_tell (Drive v) stood Worked = true
 may_tell (Drive v) stood (Sensed x) = false

@@ -23,7 +23,8 @@ pub record IsAsLeft (task : Task) (slip : Slip) (tag stands turns probes faults 
   pub room : HasRoom turns (probes + 1) faults
 
 -- the task was done with the device of the slip, once, and this is what the device told
-pub record WasCalled (told : Told) (task : Task) (slip : Slip) (tag stands turns probes faults : ℕ) : Type 0 where
+pub record WasCalled (told : Told) (task : Task) (slip : Slip)
+    (tag stands turns probes faults : ℕ) : Type 0 where
   pub is_device : tag ≡ slip.device.0
   pub fits : IsTrue (may_tell task slip.stood told)
   pub stands_there : IfSome (stands_after task slip.stood told) (λ v. stands ≡ v)

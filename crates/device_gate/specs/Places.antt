@@ -46,11 +46,15 @@ IsKept places slip task = slice_get places slip.device.0 ≡ Some (Out slip task
 
 -- each device stands at its number
 abbrev pub AreNumbered : {D : Type 0} → (D → ℕ) → List D → Type 0
-AreNumbered {D} tag devices = (d : ℕ) (device : D) → slice_get devices d ≡ Some device → tag device ≡ d
+AreNumbered {D} tag devices =
+    (d : ℕ) (device : D) → slice_get devices d ≡ Some device → tag device ≡ d
 
--- what the type of a gate keeps: each device is in the place of its number, and there is an empty list with room for all
-pub record IsGate {D : Type 0} (tag : D → ℕ) (places : List (Place D)) (emptied : List D) (room : ℕ) : Type 0 where
+-- what the type of a gate keeps: each device is in the place of its number, and there is an empty
+-- list with room for all
+pub record IsGate {D : Type 0} (tag : D → ℕ) (places : List (Place D)) (emptied : List D)
+    (room : ℕ) : Type 0 where
   pub home : (d : ℕ) (device : D) → slice_get places d ≡ Some (Home device) → tag device ≡ d
-  pub out : (d : ℕ) (slip : Slip) (task : Task) → slice_get places d ≡ Some (Out slip task) → slip.device.0 ≡ d
+  pub out : (d : ℕ) (slip : Slip) (task : Task) → slice_get places d ≡ Some (Out slip task)
+      → slip.device.0 ≡ d
   pub none : emptied ≡ []
   pub enough : length places ≤ room

@@ -93,7 +93,8 @@ impl<D: Device> Gate<D> {
 
     /// Does nothing. Its contract is that each device which is home is in the place of its number.
     pub fn numbered(&self)
-        ensures { (d : ℕ) (device : D) → slice_get self.now.places d ≡ Some (Place.Home device) → D.tag device ≡ d }
+        ensures { (d : ℕ) (device : D) → slice_get self.now.places d ≡ Some (Place.Home device)
+            → D.tag device ≡ d }
     {
         let _ = &self.tickets;
     }
@@ -149,7 +150,8 @@ impl<D: Device> Gate<D> {
         }
     }
 
-    /// Why the grip is none that is out of this gate: the slip that is kept in its place, and its own.
+    /// Why the grip is none that is out of this gate: the slip that is kept in its place, and its
+    /// own.
     pub fn stranger<S: Stage>(&self, grip: &Grip<D, S>) -> Stranger
         ensures kept { result.kept ≡ slip_of (slice_get self.now.places grip.now.slip.device.0) }
         ensures told { result.told ≡ grip.now.slip }
@@ -163,16 +165,19 @@ impl<D: Device> Gate<D> {
 
     /// Hands the device out to the maker, a run or 0 for the detector, for this task.
     ///
-    /// The grip has the next ticket. Its slip says what is known of the device as it leaves: its counts, and the value
-    /// at which it stands, which is `stood` where it is counted up.
+    /// The grip has the next ticket. Its slip says what is known of the device as it leaves: its
+    /// counts, and the value at which it stands, which is `stood` where it is counted up.
     #[inline(always)]
     pub fn hand_out(&mut self, d: DeviceNo, maker: u32, stood: Value, task: Task) -> Grip<D, Ready>
         requires home { IsHome self.old.places d.0 }
-        requires room { (device : D) → slice_get self.old.places d.0 ≡ Some (Place.Home device) → HasRoom (D.turns device) (D.probes device + 1) (D.faults device) }
-        requires stood { (device : D) → slice_get self.old.places d.0 ≡ Some (Place.Home device) → IsTrue (is_counted_up task) → D.stands device ≡ stood }
+        requires room { (device : D) → slice_get self.old.places d.0 ≡ Some (Place.Home device)
+            → HasRoom (D.turns device) (D.probes device + 1) (D.faults device) }
+        requires stood { (device : D) → slice_get self.old.places d.0 ≡ Some (Place.Home device)
+            → IsTrue (is_counted_up task) → D.stands device ≡ stood }
         requires tickets { self.old.tickets < 2 ^ 63 }
         ensures device { slice_get self.old.places d.0 ≡ Some (Place.Home result.device) }
-        ensures places { self.new.places ≡ slice_set self.old.places d.0 (Place.Out result.slip task) }
+        ensures places { self.new.places
+            ≡ slice_set self.old.places d.0 (Place.Out result.slip task) }
         ensures tickets { self.new.tickets ≡ self.old.tickets + 1 }
         ensures task { result.task ≡ task }
         ensures ticket { result.slip.ticket ≡ self.old.tickets + 1 }
@@ -201,14 +206,18 @@ impl<D: Device> Gate<D> {
         }
     }
 
-    /// Takes the device of the grip in, which is the one that is out, and gives what the device told.
+    /// Takes the device of the grip in, which is the one that is out, and gives what the device
+    /// told.
     #[inline(always)]
     pub fn take_in(&mut self, grip: Grip<D, Done>) -> Told
         requires kept { IsKept self.old.places grip.slip grip.task }
-        ensures places { self.new.places ≡ slice_set self.old.places grip.slip.device.0 (Place.Home grip.device) }
+        ensures places { self.new.places
+            ≡ slice_set self.old.places grip.slip.device.0 (Place.Home grip.device) }
         ensures tickets { self.new.tickets ≡ self.old.tickets }
         ensures told { result ≡ grip.stage.told }
-        ensures called { WasCalled result grip.task grip.slip (D.tag grip.device) (D.stands grip.device) (D.turns grip.device) (D.probes grip.device) (D.faults grip.device) }
+        ensures called { WasCalled result grip.task grip.slip (D.tag grip.device)
+            (D.stands grip.device) (D.turns grip.device) (D.probes grip.device)
+            (D.faults grip.device) }
     {
         let d = grip.slip().device;
         let told = grip.told();

@@ -13,7 +13,8 @@ use std::marker::Model;
 
 /// How far a grip has come: `Ready` or `Done`.
 pub trait Stage {
-    /// How the device is, against its task and slip: its tag, where it stands, its turns, probes and faults.
+    /// How the device is, against its task and slip: its tag, where it stands, its turns, probes
+    /// and faults.
     ghost fits: { Self → Task → Slip → ℕ → ℕ → ℕ → ℕ → ℕ → Type 0 };
 }
 
@@ -28,18 +29,20 @@ pub struct Done {
 }
 
 impl Stage for Ready {
-    ghost fits = { λ _ task slip tag stands turns probes faults. IsAsLeft task slip tag stands turns probes faults };
+    ghost fits = { λ _ task slip tag stands turns probes faults. IsAsLeft task slip tag stands turns
+        probes faults };
 }
 
 impl Stage for Done {
-    ghost fits = { λ done task slip tag stands turns probes faults. WasCalled done.told task slip tag stands turns probes faults };
+    ghost fits = { λ done task slip tag stands turns probes faults. WasCalled done.told task slip
+        tag stands turns probes faults };
 }
 
 /// A device that is out, with its slip and what is to be done with it.
 ///
-/// A grip cannot be dropped: a ready one is spent by `act`, or by `answered` where its call was made elsewhere, a done
-/// one by the gate that takes its device in. Its type keeps how the device is: as it left while the grip is ready, and as
-/// the call and its answer say when it is done.
+/// A grip cannot be dropped: a ready one is spent by `act`, or by `answered` where its call was
+/// made elsewhere, a done one by the gate that takes its device in. Its type keeps how the device
+/// is: as it left while the grip is ready, and as the call and its answer say when it is done.
 pub struct Grip<D: Device, S: Stage> {
     device: D,
     slip: Slip,
@@ -52,9 +55,11 @@ impl<D: Device, S: Stage> Model for Grip<D, S> {
 
     ghost Value = { Gripped D S };
 
-    ghost view = { λ g. record { device = g.device; slip = g.slip; task = g.task; stage = g.stage } };
+    ghost view = { λ g.
+        record { device = g.device; slip = g.slip; task = g.task; stage = g.stage } };
 
-    ghost invariant = { λ g. S.fits g.stage g.task g.slip (D.tag g.device) (D.stands g.device) (D.turns g.device) (D.probes g.device) (D.faults g.device) };
+    ghost invariant = { λ g. S.fits g.stage g.task g.slip (D.tag g.device) (D.stands g.device)
+        (D.turns g.device) (D.probes g.device) (D.faults g.device) };
 }
 
 impl<D: Device, S: Stage> Grip<D, S> {
@@ -77,7 +82,8 @@ impl<D: Device> Grip<D, Ready> {
     /// A grip of a device that is as the slip says.
     #[inline(always)]
     pub(crate) fn new(device: D, slip: Slip, task: Task) -> Grip<D, Ready>
-        requires { IsAsLeft task slip (D.tag device) (D.stands device) (D.turns device) (D.probes device) (D.faults device) }
+        requires { IsAsLeft task slip (D.tag device) (D.stands device) (D.turns device)
+            (D.probes device) (D.faults device) }
         ensures device { result.device ≡ device }
         ensures slip { result.slip ≡ slip }
         ensures task { result.task ≡ task }
@@ -90,18 +96,23 @@ impl<D: Device> Grip<D, Ready> {
         }
     }
 
-    /// Does nothing. Its contract is that the device is as its slip says, with room for what the task does to its counts.
+    /// Does nothing. Its contract is that the device is as its slip says, with room for what the
+    /// task does to its counts.
     pub fn kept(&self)
-        ensures { IsAsLeft self.now.task self.now.slip (D.tag self.now.device) (D.stands self.now.device) (D.turns self.now.device) (D.probes self.now.device) (D.faults self.now.device) }
+        ensures { IsAsLeft self.now.task self.now.slip (D.tag self.now.device)
+            (D.stands self.now.device) (D.turns self.now.device) (D.probes self.now.device)
+            (D.faults self.now.device) }
     {
         let _ = &self.slip;
     }
 
-    /// Takes the answer to a call that was made elsewhere: what the device told, and the device as it is after that.
+    /// Takes the answer to a call that was made elsewhere: what the device told, and the device as
+    /// it is after that.
     ///
     /// The device that the grip held is let go. The grip makes no call.
     pub fn answered(self, device: D, told: Told) -> Grip<D, Done>
-        requires called { WasCalled told self.task self.slip (D.tag device) (D.stands device) (D.turns device) (D.probes device) (D.faults device) }
+        requires called { WasCalled told self.task self.slip (D.tag device) (D.stands device)
+            (D.turns device) (D.probes device) (D.faults device) }
         requires plan { D.plan device ≡ D.plan self.device }
         ensures told { result.stage.told ≡ told }
         ensures slip { result.slip ≡ self.slip }
@@ -125,8 +136,8 @@ impl<D: Device> Grip<D, Ready> {
         }
     }
 
-    /// Makes the device call: one, and for a probe that is answered by a device counted down also the drive that
-    /// restores its value.
+    /// Makes the device call: one, and for a probe that is answered by a device counted down also
+    /// the drive that restores its value.
     #[inline(always)]
     pub fn act(self) -> Grip<D, Done>
         ensures slip { result.slip ≡ self.slip }
@@ -161,7 +172,9 @@ impl<D: Device> Grip<D, Done> {
     /// The device, and how it is after the call.
     pub(crate) fn spent(self) -> D
         ensures device { result ≡ self.device }
-        ensures called { WasCalled self.stage.told self.task self.slip (D.tag self.device) (D.stands self.device) (D.turns self.device) (D.probes self.device) (D.faults self.device) }
+        ensures called { WasCalled self.stage.told self.task self.slip (D.tag self.device)
+            (D.stands self.device) (D.turns self.device) (D.probes self.device)
+            (D.faults self.device) }
     {
         let Grip {
             device,
@@ -178,7 +191,8 @@ impl<D: Device> Grip<D, Done> {
 fn call<D: Device>(device: &mut D, task: Task) -> Told
     requires room { HasRoom (D.turns device.old) (D.probes device.old + 1) (D.faults device.old) }
     ensures told { IsTrue (may_tell task (D.stands device.old) result) }
-    ensures stands { IfSome (stands_after task (D.stands device.old) result) (λ v. D.stands device.new ≡ v) }
+    ensures stands { IfSome (stands_after task (D.stands device.old) result)
+        (λ v. D.stands device.new ≡ v) }
     ensures turns { D.turns device.new ≡ D.turns device.old + answered_turns task result }
     ensures probes { D.probes device.new ≡ D.probes device.old + probed task }
     ensures faults { D.faults device.new ≡ D.faults device.old + failed result }
@@ -200,8 +214,10 @@ fn call<D: Device>(device: &mut D, task: Task) -> Told
 fn drive<D: Device>(device: &mut D, value: Value) -> Told
     requires room { HasRoom (D.turns device.old) (D.probes device.old) (D.faults device.old) }
     ensures told { IsTrue (may_tell (Task.Drive value) (D.stands device.old) result) }
-    ensures stands { IfSome (stands_after (Task.Drive value) (D.stands device.old) result) (λ v. D.stands device.new ≡ v) }
-    ensures turns { D.turns device.new ≡ D.turns device.old + answered_turns (Task.Drive value) result }
+    ensures stands { IfSome (stands_after (Task.Drive value) (D.stands device.old) result)
+        (λ v. D.stands device.new ≡ v) }
+    ensures turns { D.turns device.new
+        ≡ D.turns device.old + answered_turns (Task.Drive value) result }
     ensures probes { D.probes device.new ≡ D.probes device.old }
     ensures faults { D.faults device.new ≡ D.faults device.old + failed result }
     ensures tag { D.tag device.new ≡ D.tag device.old }
@@ -217,8 +233,10 @@ fn drive<D: Device>(device: &mut D, value: Value) -> Told
 fn probe<D: Device>(device: &mut D, restored: Option<Value>) -> Told
     requires room { HasRoom (D.turns device.old) (D.probes device.old + 1) (D.faults device.old) }
     ensures told { IsTrue (may_tell (Task.Probe restored) (D.stands device.old) result) }
-    ensures stands { IfSome (stands_after (Task.Probe restored) (D.stands device.old) result) (λ v. D.stands device.new ≡ v) }
-    ensures turns { D.turns device.new ≡ D.turns device.old + answered_turns (Task.Probe restored) result }
+    ensures stands { IfSome (stands_after (Task.Probe restored) (D.stands device.old) result)
+        (λ v. D.stands device.new ≡ v) }
+    ensures turns { D.turns device.new
+        ≡ D.turns device.old + answered_turns (Task.Probe restored) result }
     ensures probes { D.probes device.new ≡ D.probes device.old + 1 }
     ensures faults { D.faults device.new ≡ D.faults device.old + failed result }
     ensures tag { D.tag device.new ≡ D.tag device.old }

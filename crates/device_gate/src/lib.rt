@@ -1,4 +1,5 @@
-// The devices of a home, home or out, and the grips with which they are out: each makes one device call.
+// The devices of a home, home or out, and the grips with which they are out: each makes one device
+// call.
 #![tactic(auto)]
 
 pub mod gates;

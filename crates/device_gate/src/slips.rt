@@ -54,8 +54,8 @@ impl Task {
         }
     }
 
-    /// Where a device is known to stand that has come home and told this, and stood at the value `held` before: as the task
-    /// leaves it, and as before where a call died.
+    /// Where a device is known to stand that has come home and told this, and stood at the value
+    /// `held` before: as the task leaves it, and as before where a call died.
     pub fn held_after(self, told: Told, held: Value) -> Value
         ensures { result ≡ held_after told self held }
     {

@@ -45,7 +45,8 @@ go d a b c g at p home up v o w q i =
     let out : (walk_end z a).out ≡ Home = home_front d a (Used c ∷ b) at home in
     let m : Put z a c c' b = put z a c c' b k (open_blocks (walk_end z a) c p) (go_fits (walk_end z a) c g w p v (shut_front d a o) out k.fits) (λ h. h) in
     let free : holds_grip c ≡ false = has_head holds_grip c b (has_back holds_grip a (Used c ∷ b) (subst (λ y. has holds_grip y ≡ false) at home.free)) in
-    let e : DeviceFits (walk_end z (a ++ Used c ∷ b)) true d.held Unprobed = subst (λ x. DeviceFits (walk_end z (a ++ Used c ∷ b)) x d.held Unprobed) up (subst (λ x. DeviceFits (walk_end z (a ++ Used c ∷ b)) d.up d.held x) home.unprobed (subst (λ x. DeviceFits (walk_end z x) d.up d.held d.probe) at i.ends)) in
+    let e : DeviceFits (walk_end z (a ++ Used c ∷ b)) true d.held Unprobed = subst (λ x. DeviceFits (walk_end z (a ++ Used c ∷ b)) x d.held Unprobed) up (subst
+    (λ x. DeviceFits (walk_end z (a ++ Used c ∷ b)) d.up d.held x) home.unprobed (subst (λ x. DeviceFits (walk_end z x) d.up d.held d.probe) at i.ends)) in
     record {
       walk = m.walk;
       ends = subst (λ x. DeviceFits (walk_end z (a ++ Used c' ∷ b)) x d.held d.probe) (sym up) (subst (λ x. DeviceFits (walk_end z (a ++ Used c' ∷ b)) true d.held x) (sym home.unprobed)

@@ -56,7 +56,9 @@ down_first d a b c st at p home down o l i =
     let z : WalkState = walk_start d.first_up d.first in
     let c' : Usage = record c { stage = st; view = Some Down } in
     let k : Cut z a c b = cut z a c b (subst (λ x. WalkHolds z x) at i.walk) in
-    let e : DeviceFits (walk_end z (a ++ Used c ∷ b)) false d.held Unprobed = subst (λ x. DeviceFits (walk_end z (a ++ Used c ∷ b)) x d.held Unprobed) down (subst (λ x. DeviceFits (walk_end z (a ++ Used c ∷ b)) d.up d.held x) home.unprobed (subst (λ x. DeviceFits (walk_end z x) d.up d.held d.probe) at i.ends)) in
+    let e : DeviceFits (walk_end z (a ++ Used c ∷ b)) false d.held Unprobed = subst (λ x. DeviceFits (walk_end z (a ++ Used c ∷ b)) x d.held Unprobed) down
+    (subst (λ x. DeviceFits (walk_end z (a ++ Used c ∷ b)) d.up d.held x) home.unprobed
+    (subst (λ x. DeviceFits (walk_end z x) d.up d.held d.probe) at i.ends)) in
     let old : Put z a c c b = put z a c c b k (open_blocks (walk_end z a) c p) k.fits (λ h. h) in
     let nu : is_up c.view ≡ false = not_up (walk_end z a) (walk_end z (a ++ Used c ∷ b)) c d.held Unprobed p old.idle e in
     let free : holds_grip c ≡ false = has_head holds_grip c b (has_back holds_grip a (Used c ∷ b) (subst (λ y. has holds_grip y ≡ false) at home.free)) in

@@ -78,7 +78,9 @@ next_homed n (f ∷ cs) [] c ds e h = subst (λ (x : Command). x.device.0 < n) (
 next_homed n (f ∷ cs) (x ∷ xs) c ds e h = next_homed n cs xs c ds e h.1
 
 -- a run that is at a device fits there
-pub run_fits : (kinds : List Kind) (s : WindowModel) (r d : ℕ) (a b : List Item) → DeviceInvariant (device_record kinds s d) → s.line ≡ a ++ Ran (run_no r) ∷ b → uses_device d (s.states r).commands ≡ true → UsageFits (walk_end (walk_start (stand_at s.first d).up (stand_at s.first d).value) (entries kinds s.states d a)) (usage kinds (s.states r) d)
+pub run_fits : (kinds : List Kind) (s : WindowModel) (r d : ℕ) (a b : List Item) → DeviceInvariant (device_record kinds s d) → s.line ≡ a ++ Ran (run_no r) ∷ b
+    → uses_device d (s.states r).commands ≡ true
+    → UsageFits (walk_end (walk_start (stand_at s.first d).up (stand_at s.first d).value) (entries kinds s.states d a)) (usage kinds (s.states r) d)
 run_fits kinds s r d a b i e u =
     let z : WalkState = walk_start (stand_at s.first d).up (stand_at s.first d).value in
     (cut z (entries kinds s.states d a) (usage kinds (s.states r) d) (entries kinds s.states d b) (subst (λ l. DeviceInvariant (record (device_record kinds s d) { order = l })) (ap (entries kinds s.states d) e ∙ used_at kinds s.states d r a b u) i).walk).fits
@@ -112,7 +114,9 @@ all_commands s s' r runs others c h q = at_ (q == r) refl ∙ h q ∙ ap (λ x. 
         differ h y = grind (arith, common_steps)
 
 -- a window in which one run changes: each device, the run, the events, and nothing else
-pub window_keeps : (kinds : List Kind) (s s' : WindowModel) (r : ℕ) → s'.first ≡ s.first → s'.runs ≡ s.runs → SameBut r s.states s'.states → (s'.states r).commands ≡ (s.states r).commands → EventsAreHomed (length s.first) s'.line → WindowInvariant kinds s → RunInvariant kinds (length s.first) (s'.states r) → ((d : ℕ) → d < length s.first → DeviceInvariant (device_record kinds s' d)) → WindowInvariant kinds s'
+pub window_keeps : (kinds : List Kind) (s s' : WindowModel) (r : ℕ) → s'.first ≡ s.first → s'.runs ≡ s.runs → SameBut r s.states s'.states
+    → (s'.states r).commands ≡ (s.states r).commands → EventsAreHomed (length s.first) s'.line → WindowInvariant kinds s
+    → RunInvariant kinds (length s.first) (s'.states r) → ((d : ℕ) → d < length s.first → DeviceInvariant (device_record kinds s' d)) → WindowInvariant kinds s'
 window_keeps kinds s s' r first runs others commands events o i h = record {
   devices = λ d lt. h d (subst (λ w. d < length w) first lt);
   runs = all_runs kinds s s' r first others o i;
@@ -164,7 +168,9 @@ acted kinds s s' r d L k m off still there homed i here o =
         at_ false u k e = subst DeviceInvariant (sym (off_device kinds t s' r q m h u)) j
 
 -- .. and at d, one change of the device
-pub stepped : (kinds : List Kind) (s s' : WindowModel) (r d : ℕ) (L : List Item) (m : ChangesInPlace (record s { line = L }) s' r) (u : Usage) (up : Bool) (held : ℕ) (probe : Probe) → uses_device d (s.states r).commands ≡ true → usage kinds (s'.states r) d ≡ u → s'.up d ≡ up → s'.held d ≡ held → s'.probe d ≡ probe
+pub stepped : (kinds : List Kind) (s s' : WindowModel) (r d : ℕ) (L : List Item) (m : ChangesInPlace (record s { line = L }) s' r) (u : Usage) (up : Bool)
+    (held : ℕ) (probe : Probe) → uses_device d (s.states r).commands ≡ true → usage kinds (s'.states r) d ≡ u → s'.up d ≡ up → s'.held d ≡ held
+    → s'.probe d ≡ probe
     → DeviceChange (device_record kinds s d) (record (device_record kinds s d) { order = entries kinds s.states d m.front ++ Used u ∷ entries kinds s.states d m.back; up = up; held = held; probe = probe }) → DeviceInvariant (device_record kinds s d) → DeviceInvariant (device_record kinds s' d)
 stepped kinds s s' r d L m u up held probe used e eu eh ep x i =
     subst DeviceInvariant (sym (moved_device kinds (record s { line = L }) s' r d m u up held probe used e eu eh ep))

@@ -92,18 +92,24 @@ unfolding entries line_with_event with_event
 entries_event kinds states d e i [] h = ap (λ o. with_order_entry o []) h
 entries_event kinds states d e i (Failed x n ∷ is) h = at_ (entries_event kinds states d e i is h) (x.0 == d)
   where
-    at_ : entries kinds states d (line_with_event kinds states d i is) ≡ with_event e (entries kinds states d is) → (b : Bool) → with_order_entry (entry_if b (Occurred Failure)) (entries kinds states d (line_with_event kinds states d i is)) ≡ with_event e (with_order_entry (entry_if b (Occurred Failure)) (entries kinds states d is))
+    at_ : entries kinds states d (line_with_event kinds states d i is) ≡ with_event e (entries kinds states d is)
+        → (b : Bool) → with_order_entry (entry_if b (Occurred Failure)) (entries kinds states d (line_with_event kinds states d i is))
+        ≡ with_event e (with_order_entry (entry_if b (Occurred Failure)) (entries kinds states d is))
     at_ g true = ap (λ l. Occurred Failure ∷ l) g
     at_ g false = g
 entries_event kinds states d e i (Back x n ∷ is) h = at_ (entries_event kinds states d e i is h) (x.0 == d)
   where
-    at_ : entries kinds states d (line_with_event kinds states d i is) ≡ with_event e (entries kinds states d is) → (b : Bool) → with_order_entry (entry_if b (Occurred Restart)) (entries kinds states d (line_with_event kinds states d i is)) ≡ with_event e (with_order_entry (entry_if b (Occurred Restart)) (entries kinds states d is))
+    at_ : entries kinds states d (line_with_event kinds states d i is) ≡ with_event e (entries kinds states d is)
+        → (b : Bool) → with_order_entry (entry_if b (Occurred Restart)) (entries kinds states d (line_with_event kinds states d i is))
+        ≡ with_event e (with_order_entry (entry_if b (Occurred Restart)) (entries kinds states d is))
     at_ g true = ap (λ l. Occurred Restart ∷ l) g
     at_ g false = g
 entries_event kinds states d e i (Ran r ∷ is) h = one (entries_event kinds states d e i is h) (waits_at kinds states d (Ran r)) ∙ two (uses_device d (states r.0).commands) refl
   where
     one : entries kinds states d (line_with_event kinds states d i is) ≡ with_event e (entries kinds states d is) → (x : Bool)
-        → entries kinds states d (if x then i ∷ Ran r ∷ is else Ran r ∷ line_with_event kinds states d i is) ≡ (if x then Occurred e ∷ with_order_entry (entry_of kinds states d (Ran r)) (entries kinds states d is) else with_order_entry (entry_of kinds states d (Ran r)) (with_event e (entries kinds states d is)))
+        → entries kinds states d (if x then i ∷ Ran r ∷ is else Ran r ∷ line_with_event kinds states d i is)
+        ≡ (if x then Occurred e ∷ with_order_entry (entry_of kinds states d (Ran r)) (entries kinds states d is)
+        else with_order_entry (entry_of kinds states d (Ran r)) (with_event e (entries kinds states d is)))
     one g true = ap (λ o. with_order_entry o (with_order_entry (entry_of kinds states d (Ran r)) (entries kinds states d is))) h
     one g false = ap (with_order_entry (entry_of kinds states d (Ran r))) g
 

@@ -48,7 +48,9 @@ undo_go d a b c at n x y home up i =
     let e' : walk_end z (a ++ Used c' ∷ b) ≡ walk_end (after_usage s c') b = (cut z a c' b (mend z a c' b k.front f w.walk)).ends in
     let stand : (walk_end (after_usage s c') b).stand ≡ v = unmoved (after_usage s c') b y ∙ undone s c v ∙ sym (unmoved s b y) ∙ ap (λ (q : WalkState). q.stand) (sym (end_join z a b)) in
     let undoing : (walk_end (after_usage s c') b).undoing ≡ true = undone_stays (after_usage s c') b (acts_stays b free ∙ y) ∙ taken s c v x in
-    let e : DeviceFits (walk_end (after_usage s c) b) true d.held Unprobed = subst (λ q. DeviceFits q true d.held Unprobed) k.ends (subst (λ q. DeviceFits (walk_end z (a ++ Used c ∷ b)) q d.held Unprobed) up (subst (λ q. DeviceFits (walk_end z (a ++ Used c ∷ b)) d.up d.held q) home.unprobed (subst (λ q. DeviceFits (walk_end z q) d.up d.held d.probe) at i.ends))) in
+    let e : DeviceFits (walk_end (after_usage s c) b) true d.held Unprobed = subst (λ q. DeviceFits q true d.held Unprobed) k.ends
+    (subst (λ q. DeviceFits (walk_end z (a ++ Used c ∷ b)) q d.held Unprobed) up (subst (λ q. DeviceFits (walk_end z (a ++ Used c ∷ b)) d.up d.held q)
+    home.unprobed (subst (λ q. DeviceFits (walk_end z q) d.up d.held d.probe) at i.ends))) in
     record {
       walk = mend z a c' b k.front f w.walk;
       ends = subst (λ q. DeviceFits q d.up d.held d.probe) (sym e') (subst (λ q. DeviceFits (walk_end (after_usage s c') b) q d.held d.probe) (sym up) (subst (λ q. DeviceFits (walk_end (after_usage s c') b) true d.held q) (sym home.unprobed)
@@ -81,7 +83,9 @@ drop_undo d a b c at n x home down i =
     let k : Cut z a c b = cut z a c b (subst (λ l. WalkHolds z l) at i.walk) in
     let mine : holds_grip c ≡ false = has_head holds_grip c b (has_back holds_grip a (Used c ∷ b) (subst (λ l. has holds_grip l ≡ false) at home.free)) in
     let l : Lower z a c c' b = lower z a c c' b k (drop_fits s c n x mine k.fits) (drop_below s c n) in
-    let e : DeviceFits (walk_end z (a ++ Used c ∷ b)) false d.held Unprobed = subst (λ q. DeviceFits (walk_end z (a ++ Used c ∷ b)) q d.held Unprobed) down (subst (λ q. DeviceFits (walk_end z (a ++ Used c ∷ b)) d.up d.held q) home.unprobed (subst (λ q. DeviceFits (walk_end z q) d.up d.held d.probe) at i.ends)) in
+    let e : DeviceFits (walk_end z (a ++ Used c ∷ b)) false d.held Unprobed = subst (λ q. DeviceFits (walk_end z (a ++ Used c ∷ b)) q d.held Unprobed) down
+    (subst (λ q. DeviceFits (walk_end z (a ++ Used c ∷ b)) d.up d.held q) home.unprobed
+    (subst (λ q. DeviceFits (walk_end z q) d.up d.held d.probe) at i.ends)) in
     let o : is_home (walk_end z (a ++ Used c ∷ b)).out ≡ true = ap is_home (ap (λ q. (walk_end z q).out) (sym at) ∙ out_free z d.order home.free) in
     record {
       walk = l.walk;

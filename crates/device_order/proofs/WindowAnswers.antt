@@ -266,7 +266,9 @@ down_answered kinds s s' r c ds k w o =
 
     first : u.view ≡ None → s.up d ≡ false → IsHomeAt kinds s d → any_run (at_device kinds s.states d has_pending) m.front ≡ false → DeviceInvariant (device_record kinds s d) → DeviceInvariant (device_record kinds s' d)
     first e down h none i = stepped kinds s s' r d s.line m (record u { stage = st; view = Some ViewDown }) (s.up d) (s.held d) (s.probe d) used (then_ (ap (λ o. first_view o ViewDown) e)) (w.still d).up (w.still d).held (w.still d).probe
-        (DownFirst (entries kinds s.states d m.front) (entries kinds s.states d m.back) u st (entries_before kinds s s' r d m used) (pends_counts l c ds w.answer.next w.live w.counts) (home_at kinds s d h) down (has_entries kinds s.states d has_pending m.front ∙ none) (pends_answered l c ds k w.answer.next w.live)) i
+        (DownFirst (entries kinds s.states d m.front) (entries kinds s.states d m.back) u st (entries_before kinds s s' r d m used)
+        (pends_counts l c ds w.answer.next w.live w.counts) (home_at kinds s d h) down (has_entries kinds s.states d has_pending m.front ∙ none)
+        (pends_answered l c ds k w.answer.next w.live)) i
 
 -- a skipped command leaves its device as it is, but that the run may have no more to do there
 pub skip_answered : (kinds : List Kind) (s s' : WindowModel) (r : ℕ) (c : Command) (ds : List Command) → SkipIsAnswered kinds s s' r c ds → WindowInvariant kinds s → WindowInvariant kinds s'

@@ -64,7 +64,9 @@ two_at kinds states d x w line a m b e u v =
 pub untouched_after : (kinds : List Kind) (s : WindowModel) (d x w : ℕ) (p : StandsBefore x w s.line) → WindowInvariant kinds s → d < length s.first → IsPendingAt s d x → uses_device d (s.states w).commands ≡ true → has_used_device (usage kinds (s.states w) d) ≡ false
 untouched_after kinds s d x w p o lt q u =
     let v : uses_device d (s.states x).commands ≡ true = used (uses_device d (s.states x).commands) refl in
-    pending (device_record kinds s d) (entries kinds s.states d p.front) (entries kinds s.states d p.between) (entries kinds s.states d p.back) (usage kinds (s.states x) d) (usage kinds (s.states w) d) (o.devices d lt) (two_at kinds s.states d x w s.line p.front p.between p.back p.at v u) (open_ (s.states x).committed (s.states x).doomed (uses_device d (rest (s.states x))) q.live q.counts q.left)
+    pending (device_record kinds s d) (entries kinds s.states d p.front) (entries kinds s.states d p.between) (entries kinds s.states d p.back)
+    (usage kinds (s.states x) d) (usage kinds (s.states w) d) (o.devices d lt) (two_at kinds s.states d x w s.line p.front p.between p.back p.at v u)
+    (open_ (s.states x).committed (s.states x).doomed (uses_device d (rest (s.states x))) q.live q.counts q.left)
   where
     open_ : (b c p : Bool) → b ≡ false → c ≡ false → p ≡ true → has_pending (record (usage kinds (s.states x) d) { stage = stage_of b c p }) ≡ true
     open_ b c p e f g = grind (arith, common_steps)
@@ -107,7 +109,9 @@ covering kinds states d (Ran r ∷ m) h = at_ (covering kinds states d m) (uses_
     tail : (x y : Bool) → x ≡ false → (x || y) ≡ true → y ≡ true
     tail x y e h = grind (arith, common_steps)
 
-    one : (has has_committed_write (entries kinds states d m) ≡ true → IsCovered kinds states d m) → (has_committed_write (usage kinds (states r.0) d) || has has_committed_write (entries kinds states d m)) ≡ true → (b : Bool) → has_committed_write (usage kinds (states r.0) d) ≡ b → IsCovered kinds states d (Ran r ∷ m)
+    one : (has has_committed_write (entries kinds states d m) ≡ true → IsCovered kinds states d m)
+        → (has_committed_write (usage kinds (states r.0) d) || has has_committed_write (entries kinds states d m)) ≡ true
+        → (b : Bool) → has_committed_write (usage kinds (states r.0) d) ≡ b → IsCovered kinds states d (Ran r ∷ m)
     one ih h true e = let p = here (states r.0).committed (states r.0).doomed (uses_device d (rest (states r.0))) (device_summary kinds (states r.0) d).wrote e in record { run = r.0; front = []; back = m; at = refl; committed = p.0; wrote = p.1 }
     one ih h false e = more (ih (tail (has_committed_write (usage kinds (states r.0) d)) (has has_committed_write (entries kinds states d m)) e h))
 
@@ -120,7 +124,9 @@ pub read_covered : (kinds : List Kind) (s : WindowModel) (d x w : ℕ) (p : Stan
 read_covered kinds s d x w p o lt q r =
     let u : uses_device d (s.states x).commands ≡ true = used_if kinds (s.states x) d (λ (t : DeviceSummary). is_some t.wrote) refl q.wrote in
     let v : uses_device d (s.states w).commands ≡ true = used_if kinds (s.states w) d (λ (t : DeviceSummary). is_some t.read) refl r in
-    covering kinds s.states d p.between (covered (device_record kinds s d) (entries kinds s.states d p.front) (entries kinds s.states d p.between) (entries kinds s.states d p.back) (usage kinds (s.states x) d) (usage kinds (s.states w) d) (o.devices d lt) (two_at kinds s.states d x w s.line p.front p.between p.back p.at u v)
+    covering kinds s.states d p.between
+    (covered (device_record kinds s d) (entries kinds s.states d p.front) (entries kinds s.states d p.between) (entries kinds s.states d p.back)
+    (usage kinds (s.states x) d) (usage kinds (s.states w) d) (o.devices d lt) (two_at kinds s.states d x w s.line p.front p.between p.back p.at u v)
     (exposed (s.states x).committed (s.states x).doomed (uses_device d (rest (s.states x))) ((s.states x).undid d) (device_summary kinds (s.states x) d).wrote q.live q.kept q.wrote) r)
   where
     exposed : (b k p y : Bool) (o : Option ℕ) → b ≡ false → y ≡ false → is_some o ≡ true → (is_some o && not y && not (stage_is_committed (stage_of b k p))) ≡ true
@@ -144,12 +150,16 @@ unfolding entries all_committed WalkHolds walk_end
 settles kinds states d z [] h g k = g
 settles kinds states d z (Failed e n ∷ is) h g k = at_ (λ z g k. settles kinds states d z is h g k) (e.0 == d) k
   where
-    at_ : ((z : WalkState) → Settles z → WalkHolds z (entries kinds states d is) → Settles (walk_end z (entries kinds states d is))) → (b : Bool) → WalkHolds z (with_order_entry (entry_if b (Occurred Failure)) (entries kinds states d is)) → Settles (walk_end z (with_order_entry (entry_if b (Occurred Failure)) (entries kinds states d is)))
+    at_ : ((z : WalkState) → Settles z → WalkHolds z (entries kinds states d is) → Settles (walk_end z (entries kinds states d is)))
+        → (b : Bool) → WalkHolds z (with_order_entry (entry_if b (Occurred Failure)) (entries kinds states d is))
+        → Settles (walk_end z (with_order_entry (entry_if b (Occurred Failure)) (entries kinds states d is)))
     at_ ih true k = ih (record z { up = false }) (record { stand = g.stand; out = g.out }) k.1
     at_ ih false k = ih z g k
 settles kinds states d z (Back e n ∷ is) h g k = at_ (λ z g k. settles kinds states d z is h g k) (e.0 == d) k
   where
-    at_ : ((z : WalkState) → Settles z → WalkHolds z (entries kinds states d is) → Settles (walk_end z (entries kinds states d is))) → (b : Bool) → WalkHolds z (with_order_entry (entry_if b (Occurred Restart)) (entries kinds states d is)) → Settles (walk_end z (with_order_entry (entry_if b (Occurred Restart)) (entries kinds states d is)))
+    at_ : ((z : WalkState) → Settles z → WalkHolds z (entries kinds states d is) → Settles (walk_end z (entries kinds states d is)))
+        → (b : Bool) → WalkHolds z (with_order_entry (entry_if b (Occurred Restart)) (entries kinds states d is))
+        → Settles (walk_end z (with_order_entry (entry_if b (Occurred Restart)) (entries kinds states d is)))
     at_ ih true k = ih (record z { up = true }) (record { stand = g.stand; out = g.out }) k.1
     at_ ih false k = ih z g k
 settles kinds states d z (Ran r ∷ is) h g k = at_ (λ z g k. settles kinds states d z is (and_parts (states r.0).committed (all_committed states is) h).1 g k) (uses_device d (states r.0).commands) k
@@ -160,7 +170,9 @@ settles kinds states d z (Ran r ∷ is) h g k = at_ (λ z g k. settles kinds sta
     one : (z : WalkState) (c : Usage) → c.stage ≡ stage_of true false false → UsageFits z c → Settles z → Settles (after_usage z c)
     one z c h f g = grind (arith, common_steps)
 
-    at_ : ((z : WalkState) → Settles z → WalkHolds z (entries kinds states d is) → Settles (walk_end z (entries kinds states d is))) → (b : Bool) → WalkHolds z (with_order_entry (entry_if b (Used (usage kinds (states r.0) d))) (entries kinds states d is)) → Settles (walk_end z (with_order_entry (entry_if b (Used (usage kinds (states r.0) d))) (entries kinds states d is)))
+    at_ : ((z : WalkState) → Settles z → WalkHolds z (entries kinds states d is) → Settles (walk_end z (entries kinds states d is)))
+        → (b : Bool) → WalkHolds z (with_order_entry (entry_if b (Used (usage kinds (states r.0) d))) (entries kinds states d is))
+        → Settles (walk_end z (with_order_entry (entry_if b (Used (usage kinds (states r.0) d))) (entries kinds states d is)))
     at_ ih true k = ih (after_usage z (usage kinds (states r.0) d)) (one z (usage kinds (states r.0) d) (of (states r.0).committed (states r.0).doomed (uses_device d (rest (states r.0))) (and_parts (states r.0).committed (all_committed states is) h).0) k.0 g) k.1
     at_ ih false k = ih z g k
 
@@ -170,7 +182,9 @@ stands_last kinds s d o lt h q u =
     let i : DeviceInvariant (device_record kinds s d) = o.devices d lt in
     let z : WalkState = walk_start (stand_at s.first d).up (stand_at s.first d).value in
     let e : Settles (walk_end z (entries kinds s.states d s.line)) = settles kinds s.states d z s.line h (record { stand = refl; out = refl }) i.walk in
-    let f : OutFits Home Unprobed (walk_end z (entries kinds s.states d s.line)) (s.up d) (s.held d) = subst (λ p. OutFits Home p (walk_end z (entries kinds s.states d s.line)) (s.up d) (s.held d)) q (subst (λ x. OutFits x (s.probe d) (walk_end z (entries kinds s.states d s.line)) (s.up d) (s.held d)) e.out i.ends.out) in
+    let f : OutFits Home Unprobed (walk_end z (entries kinds s.states d s.line)) (s.up d) (s.held d) =
+    subst (λ p. OutFits Home p (walk_end z (entries kinds s.states d s.line)) (s.up d) (s.held d)) q
+    (subst (λ x. OutFits x (s.probe d) (walk_end z (entries kinds s.states d s.line)) (s.up d) (s.held d)) e.out i.ends.out) in
     f u ∙ e.stand
 
 pub window_ends_so : (kinds : List Kind) (s : WindowModel) → WindowInvariant kinds s → all_committed s.states s.line ≡ true → LineIsWhole kinds s

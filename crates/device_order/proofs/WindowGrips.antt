@@ -88,7 +88,9 @@ command_out kinds s s' r c ds w o = at_one_device kinds s s' r d s.line (record 
   change = changed (device_record kinds s d) a b u (l.undid d) ((s'.states r).undid d) (command_grip c.job) ((s'.states r).grip d) (s.up d) (s'.up d) (s.held d) (s'.held d) (s.probe d) (s'.probe d) w.undid w.out (w.still d).up (w.still d).held (w.still d).probe
       (CommandOut a b u (command_grip c.job) (entries_before kinds s s' r d w.place used) (pends_counts l c ds w.next w.live w.counts)
       (home_at kinds s d w.home) w.up w.view (has_entries kinds s.states d has_pending w.place.front ∙ w.none_before) (command (reads c.job))
-      (λ h. ap is_write_settled (effective_entries kinds s.states d None w.place.front) ∙ settled_line kinds s.states d (last_in_effect kinds s.states d None w.place.front) (w.clean (first (reads c.job) (device_summary kinds l d).wrote h) (unwritten (reads c.job) (device_summary kinds l d).wrote h))));
+      (λ h. ap is_write_settled (effective_entries kinds s.states d None w.place.front)
+      ∙ settled_line kinds s.states d (last_in_effect kinds s.states d None w.place.front)
+      (w.clean (first (reads c.job) (device_summary kinds l d).wrote h) (unwritten (reads c.job) (device_summary kinds l d).wrote h))));
 }) o
   where
     d : ℕ
@@ -134,7 +136,10 @@ undo_out kinds s s' r d w o = at_one_device kinds s s' r d s.line (record {
   keeps = w.keeps;
   still = λ e n. w.still e;
   used = last.uses;
-  change = changed (device_record kinds s d) a b u (l.undid d) ((s'.states r).undid d) (Undoes (walk_after (device_record kinds s d) (a ++ b)).stand) ((s'.states r).grip d) (s.up d) (s'.up d) (s.held d) (s'.held d) (s.probe d) (s'.probe d) w.undid (w.out ∙ ap (λ v. Undoes v) (sym value)) (w.still d).up (w.still d).held (w.still d).probe
+  change =
+      changed (device_record kinds s d) a b u (l.undid d) ((s'.states r).undid d) (Undoes (walk_after (device_record kinds s d) (a ++ b)).stand)
+      ((s'.states r).grip d) (s.up d) (s'.up d) (s.held d) (s'.held d) (s.probe d) (s'.probe d) w.undid (w.out ∙ ap (λ v. Undoes v) (sym value)) (w.still d).up
+      (w.still d).held (w.still d).probe
       (UndoOut a b u (entries_before kinds s s' r d w.place last.uses) (doomed_live l.committed l.doomed (uses_device d (rest l)) w.may.live w.may.doomed) last.effect last.none_behind (home_at kinds s d w.may.home) w.up);
 }) o
   where
@@ -164,8 +169,12 @@ undo_dropped kinds s s' r d w o = at_one_device kinds s s' r d s.line (record {
   keeps = w.keeps;
   still = λ e n. w.still e;
   used = last.uses;
-  change = changed (device_record kinds s d) (entries kinds s.states d w.place.front) (entries kinds s.states d w.place.back) u true ((s'.states r).undid d) (l.grip d) ((s'.states r).grip d) (s.up d) (s'.up d) (s.held d) (s'.held d) (s.probe d) (s'.probe d) w.undid w.grip (w.still d).up (w.still d).held (w.still d).probe
-      (UndoDropped (entries kinds s.states d w.place.front) (entries kinds s.states d w.place.back) u (entries_before kinds s s' r d w.place last.uses) (doomed_live l.committed l.doomed (uses_device d (rest l)) w.may.live w.may.doomed) last.effect last.none_behind (home_at kinds s d w.may.home) w.down);
+  change =
+      changed (device_record kinds s d) (entries kinds s.states d w.place.front) (entries kinds s.states d w.place.back) u true ((s'.states r).undid d)
+      (l.grip d) ((s'.states r).grip d) (s.up d) (s'.up d) (s.held d) (s'.held d) (s.probe d) (s'.probe d) w.undid w.grip (w.still d).up (w.still d).held
+      (w.still d).probe
+      (UndoDropped (entries kinds s.states d w.place.front) (entries kinds s.states d w.place.back) u (entries_before kinds s s' r d w.place last.uses)
+      (doomed_live l.committed l.doomed (uses_device d (rest l)) w.may.live w.may.doomed) last.effect last.none_behind (home_at kinds s d w.may.home) w.down);
 }) o
   where
     l : RunState
@@ -185,7 +194,9 @@ undo_answered kinds s s' r d v w o = at_one_device kinds s s' r d s.line (record
   keeps = w.keeps;
   still = w.still;
   used = w.used;
-  change = changed (device_record kinds s d) (entries kinds s.states d w.place.front) (entries kinds s.states d w.place.back) (usage kinds (s.states r) d) true ((s'.states r).undid d) Free ((s'.states r).grip d) (s.up d) (s'.up d) v (s'.held d) (s.probe d) (s'.probe d) w.undid w.free w.up w.held w.probe
+  change =
+      changed (device_record kinds s d) (entries kinds s.states d w.place.front) (entries kinds s.states d w.place.back) (usage kinds (s.states r) d) true
+      ((s'.states r).undid d) Free ((s'.states r).grip d) (s.up d) (s'.up d) v (s'.held d) (s.probe d) (s'.probe d) w.undid w.free w.up w.held w.probe
       (UndoAnswered (entries kinds s.states d w.place.front) (entries kinds s.states d w.place.back) (usage kinds (s.states r) d) v (entries_before kinds s s' r d w.place w.used) w.out);
 }) o
 
@@ -197,7 +208,9 @@ undo_died kinds s s' r d k v w o = at_one_device kinds s s' r d (line_with_event
   keeps = w.keeps;
   still = w.still;
   used = w.used;
-  change = changed (device_record kinds s d) (entries kinds s.states d w.place.front) (entries kinds s.states d w.place.back) (usage kinds (s.states r) d) true ((s'.states r).undid d) Free ((s'.states r).grip d) false (s'.up d) (s'.held d) (s'.held d) (s.probe d) (s'.probe d) w.undid w.free w.up refl w.probe
+  change =
+      changed (device_record kinds s d) (entries kinds s.states d w.place.front) (entries kinds s.states d w.place.back) (usage kinds (s.states r) d) true
+      ((s'.states r).undid d) Free ((s'.states r).grip d) false (s'.up d) (s'.held d) (s'.held d) (s.probe d) (s'.probe d) w.undid w.free w.up refl w.probe
       (UndoDied (entries kinds s.states d w.place.front) (entries kinds s.states d w.place.back) (usage kinds (s.states r) d) v (s'.held d)
       (evented kinds s s' r d (Failed (device_no d) k) Failure w.place w.used (event_here d d (Occurred Failure) refl)) w.out);
 }) o
@@ -222,7 +235,14 @@ at_probe kinds s s' d L w o = record {
   devices = λ q lt. two_places (λ q. DeviceInvariant (device_record kinds s q) → DeviceInvariant (device_record kinds s' q)) q d
       (λ i. subst DeviceInvariant (λ e. record { order = entries kinds (states e) d (sym w.line e); first_up = (stand_at (sym w.keeps.first e) d).up; first = (stand_at (sym w.keeps.first e) d).value; up = s'.up d; held = s'.held d; probe = s'.probe d })
       (keeps (device_record kinds s d) (record (device_record kinds s d) { order = entries kinds s.states d L; up = s'.up d; held = s'.held d; probe = s'.probe d }) w.change i))
-      (λ n i. subst DeviceInvariant (λ e. record { order = (sym (w.off q n) ∙ (λ e. entries kinds (states e) q (sym w.line e))) e; first_up = (stand_at (sym w.keeps.first e) q).up; first = (stand_at (sym w.keeps.first e) q).value; up = sym (w.keeps.still q n).up e; held = sym (w.keeps.still q n).held e; probe = sym (w.keeps.still q n).probe e }) i)
+      (λ n i. subst DeviceInvariant (λ e. record {
+        order = (sym (w.off q n) ∙ (λ e. entries kinds (states e) q (sym w.line e))) e;
+        first_up = (stand_at (sym w.keeps.first e) q).up;
+        first = (stand_at (sym w.keeps.first e) q).value;
+        up = sym (w.keeps.still q n).up e;
+        held = sym (w.keeps.still q n).held e;
+        probe = sym (w.keeps.still q n).probe e;
+      }) i)
       (o.devices q (subst (λ x. q < length x) w.keeps.first lt));
   runs = same_runs kinds s s' w.keeps.states w.keeps.first o;
   commands = same_commands kinds s s' w.keeps.states w.keeps.runs o;

@@ -54,7 +54,9 @@ commit_device kinds s s' r d w i = at_ (uses_device d l.commands) refl
 
     at_ : (b : Bool) → uses_device d l.commands ≡ b → DeviceInvariant (device_record kinds s' d)
     at_ true used = stepped kinds s s' r d s.line w.place (record u { stage = Committed }) (s.up d) (s.held d) (s.probe d) used
-        (same_usage kinds l (s'.states r) d Committed (l.undid d) (l.grip d) (record { commands = w.keeps.commands; answers = w.keeps.answers }) (λ i. stage_of (w.committed i) (s'.states r).doomed (uses_device d (rest l))) (w.keeps.undid d) (w.keeps.grip d)) (w.still d).up (w.still d).held (w.still d).probe
+        (same_usage kinds l (s'.states r) d Committed (l.undid d) (l.grip d) (record { commands = w.keeps.commands; answers = w.keeps.answers })
+        (λ i. stage_of (w.committed i) (s'.states r).doomed (uses_device d (rest l))) (w.keeps.undid d) (w.keeps.grip d)) (w.still d).up (w.still d).held
+        (w.still d).probe
         (RunCommitted (entries kinds s.states d w.place.front) (entries kinds s.states d w.place.back) u (entries_before kinds s s' r d w.place used) done) i
     at_ false used = subst DeviceInvariant (sym (off_device kinds s s' r d w.place (w.still d) used)) i
 
@@ -82,7 +84,9 @@ run_doomed kinds s s' r w o =
     at_ : (d : ℕ) → DeviceInvariant (device_record kinds s d) → (b : Bool) → uses_device d l.commands ≡ b → DeviceInvariant (device_record kinds s' d)
     at_ d i true used = let u : Usage = usage kinds l d in
         stepped kinds s s' r d s.line w.place (record u { stage = doomed_stage u.stage }) (s.up d) (s.held d) (s.probe d) used
-        (same_usage kinds l (s'.states r) d (doomed_stage u.stage) (l.undid d) (l.grip d) same (stage_doomed l.committed l.doomed (uses_device d (rest l)) (s'.states r).committed (s'.states r).doomed w.live w.committed w.doomed) (w.keeps.undid d) (w.keeps.grip d)) (w.still d).up (w.still d).held (w.still d).probe
+        (same_usage kinds l (s'.states r) d (doomed_stage u.stage) (l.undid d) (l.grip d) same
+        (stage_doomed l.committed l.doomed (uses_device d (rest l)) (s'.states r).committed (s'.states r).doomed w.live w.committed w.doomed) (w.keeps.undid d)
+        (w.keeps.grip d)) (w.still d).up (w.still d).held (w.still d).probe
         (RunDoomed (entries kinds s.states d w.place.front) (entries kinds s.states d w.place.back) u (entries_before kinds s s' r d w.place used)) i
     at_ d i false used = subst DeviceInvariant (sym (off_device kinds s s' r d w.place (w.still d) used)) i
 
@@ -202,8 +206,17 @@ run_placed kinds s s' r w o =
           grip = w.new.grip d i;
         } in
         let x : entries kinds s'.states d s'.line ≡ a ++ Used new_usage ∷ b = ap (entries kinds s'.states d) w.line ∙ entries_changed kinds s.states s'.states d r w.front w.back w.others w.before w.behind used ∙ ap (λ c. a ++ Used c ∷ b) e in
-        let y : device_record kinds s' d ≡ record (device_record kinds s d) { order = a ++ Used new_usage ∷ b } = λ i. record { order = x i; first_up = (stand_at (w.first i) d).up; first = (stand_at (w.first i) d).value; up = (w.still d).up i; held = (w.still d).held i; probe = (w.still d).probe i } in
-        subst DeviceInvariant (sym y) (keeps (device_record kinds s d) (record (device_record kinds s d) { order = a ++ Used new_usage ∷ b }) (RunPlaced a b (ap (entries kinds s.states d) w.at ∙ entries_join kinds s.states d w.front w.back) (calm_entries kinds s.states d w.back ∙ w.calm d used)) (o.devices d lt))
+        let y : device_record kinds s' d ≡ record (device_record kinds s d) { order = a ++ Used new_usage ∷ b } = λ i. record {
+          order = x i;
+          first_up = (stand_at (w.first i) d).up;
+          first = (stand_at (w.first i) d).value;
+          up = (w.still d).up i;
+          held = (w.still d).held i;
+          probe = (w.still d).probe i;
+        } in
+        subst DeviceInvariant (sym y) (keeps (device_record kinds s d) (record (device_record kinds s d) { order = a ++ Used new_usage ∷ b }) (RunPlaced a b
+        (ap (entries kinds s.states d) w.at ∙ entries_join kinds s.states d w.front w.back) (calm_entries kinds s.states d w.back ∙ w.calm d used))
+        (o.devices d lt))
     at_ d lt false used =
         let x : entries kinds s'.states d s'.line ≡ entries kinds s.states d s.line =
         ap (entries kinds s'.states d) w.line ∙ unused_at kinds s'.states d r w.front w.back used ∙ entries_join kinds s'.states d w.front w.back
@@ -216,7 +229,15 @@ run_placed kinds s s' r w o =
 pub window_begins : (kinds : List Kind) (s : WindowModel) → WindowStarts s → WindowInvariant kinds s
 unfolding entries EventsAreHomed
 window_begins kinds s w = record {
-  devices = λ d lt. subst DeviceInvariant (λ i. record { order = entries kinds s.states d (sym w.line i); first_up = (stand_at s.first d).up; first = (stand_at s.first d).value; up = sym (w.up d) i; held = sym (w.held d) i; probe = sym (w.probe d) i }) (begins (stand_at s.first d).up (stand_at s.first d).value);
+  devices =
+      λ d lt. subst DeviceInvariant (λ i. record {
+        order = entries kinds s.states d (sym w.line i);
+        first_up = (stand_at s.first d).up;
+        first = (stand_at s.first d).value;
+        up = sym (w.up d) i;
+        held = sym (w.held d) i;
+        probe = sym (w.probe d) i;
+      }) (begins (stand_at s.first d).up (stand_at s.first d).value);
   runs = λ r. new_run kinds (length s.first) (s.states r) (w.new r) (subst (AreHomed (length s.first)) (sym (w.commands r)) (w.homed r));
   commands = w.commands;
   events = subst (EventsAreHomed (length s.first)) (sym w.line) tt;

@@ -9,8 +9,11 @@ use Rattle.device_order.specs.declared.records.HeldGrip.TheVariants.{Undoes}
 use Rattle.device_order.specs.declared.records.Probe.TheVariants.{Asks, Restores}
 use Rattle.std.specs.Prelude.{List, None, Some, true, ℕ, ◌++◌, ◌∷◌, ◌≡◌}
 
--- what a read of a run finds, behind these entries: its own last write, else the committed value there, which is what it read before if it counts; and then no run that is not committed has the effective write
-pub record ReadFinds (d : DeviceRecord) (before : List OrderEntry) (u : Usage) (x : ℕ) : Type 0 where
+-- what a read of a run finds, behind these entries: its own last write, else the committed value
+-- there, which is what it read before if it counts; and then no run that is not committed has the
+-- effective write
+pub record ReadFinds (d : DeviceRecord) (before : List OrderEntry) (u : Usage)
+    (x : ℕ) : Type 0 where
   pub own : (v : ℕ) → u.wrote ≡ Some v → x ≡ v
   pub committed : u.wrote ≡ None → x ≡ (walk_after d before).value
   pub again : counts_serially u.stage ≡ true → u.wrote ≡ None → (y : ℕ) → u.read ≡ Some y → x ≡ y
@@ -21,8 +24,10 @@ pub record StandsAt (d : DeviceRecord) (v : ℕ) : Type 0 where
   pub home : NothingIsOut d → d.up ≡ true → d.held ≡ v
   pub asked : d.probe ≡ Asks → d.held ≡ v
   pub restored : (x : ℕ) → d.probe ≡ Restores x → x ≡ v
-  pub called : (a b : List OrderEntry) (u : Usage) → d.order ≡ a ++ Used u ∷ b → holds_command u.grip ≡ true → d.held ≡ v
-  pub undone : (a b : List OrderEntry) (u : Usage) (x : ℕ) → d.order ≡ a ++ Used u ∷ b → u.grip ≡ Undoes x → x ≡ v
+  pub called : (a b : List OrderEntry) (u : Usage) → d.order ≡ a ++ Used u ∷ b
+      → holds_command u.grip ≡ true → d.held ≡ v
+  pub undone : (a b : List OrderEntry) (u : Usage) (x : ℕ) → d.order ≡ a ++ Used u ∷ b
+      → u.grip ≡ Undoes x → x ≡ v
 
 -- the value of the last write in effect, else the first one
 abbrev pub value_in_effect : DeviceRecord → ℕ

@@ -14,13 +14,15 @@ is_on_device runs d (Back e k) = e.0 == d
 
 -- no device has both items on it
 abbrev pub ShareNoDevice : List Run → Item → Item → Type 0
-ShareNoDevice runs a b = (d : DeviceId) → is_on_device runs d a ≡ true → is_on_device runs d b ≡ false
+ShareNoDevice runs a b =
+    (d : DeviceId) → is_on_device runs d a ≡ true → is_on_device runs d b ≡ false
 
 -- what the run answered, once for each time that it was served
 abbrev pub servings_of : RunId → List Served → List Served
 servings_of r all = filter (λ s. s.run.0 == r) all
 
--- two serial executions with the same refusal or none, the same home at the end, and the same answers of each run
+-- two serial executions with the same refusal or none, the same home at the end, and the same
+-- answers of each run
 pub record SameOutcome (a b : SerialRun) : Type 0 where
   pub refused : a.refused ≡ b.refused
   pub home : a.home ≡ b.home

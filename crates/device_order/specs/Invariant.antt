@@ -10,7 +10,8 @@ abbrev pub OutFits : GripOut → Probe → WalkState → Bool → ℕ → Type 0
 OutFits Home Unprobed s up held = up ≡ true → held ≡ s.stand
 OutFits Home Asks s up held = (up ≡ true) × (held ≡ s.stand)
 OutFits Home (Restores v) s up held = (up ≡ false) × (v ≡ s.stand)
-OutFits (Commands fresh) Unprobed s up held = (up ≡ true) × (held ≡ s.stand) × (fresh ≡ true → s.settled ≡ true)
+OutFits (Commands fresh) Unprobed s up held =
+    (up ≡ true) × (held ≡ s.stand) × (fresh ≡ true → s.settled ≡ true)
 OutFits (Commands fresh) Asks s up held = ⊥
 OutFits (Commands fresh) (Restores v) s up held = ⊥
 OutFits (Undo v) Unprobed s up held = (up ≡ true) × (s.undoing ≡ true) × (v ≡ s.stand)
@@ -19,8 +20,10 @@ OutFits (Undo v) (Restores x) s up held = ⊥
 
 -- the device fits the end of the walk along its order
 pub record DeviceFits (s : WalkState) (up : Bool) (held : ℕ) (probe : Probe) : Type 0 where
-  pub same : s.up ≡ up  -- it is counted as its last event left it
-  pub span : s.spanned ≡ true → up ≡ true  -- where a run sees it up and has more to do there, it is up
+  -- it is counted as its last event left it
+  pub same : s.up ≡ up
+  -- where a run sees it up and has more to do there, it is up
+  pub span : s.spanned ≡ true → up ≡ true
   pub out : OutFits s.out probe s up held
 
 -- the walk along the order holds, and the device fits its end

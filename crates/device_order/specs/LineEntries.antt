@@ -16,7 +16,8 @@ use Rattle.home_types.specs.declared.items.Item.{Item}
 use Rattle.home_types.specs.declared.kinds.Kind.{Kind}
 use Rattle.std.specs.Prelude.{Bool, List, None, Option, Some, [], false, if◌then◌else◌, true, ◌==◌, ◌∷◌}
 
--- the stage of a run at a device: by whether it is committed, whether it is doomed, and whether a command on the device has no answer
+-- the stage of a run at a device: by whether it is committed, whether it is doomed, and whether a
+-- command on the device has no answer
 abbrev pub stage_of : Bool → Bool → Bool → RunStage
 stage_of true doomed pending = Committed
 stage_of false false true = Pending
@@ -44,9 +45,11 @@ abbrev pub entry_if : Bool → OrderEntry → Option OrderEntry
 entry_if true x = Some x
 entry_if false x = None
 
--- what an item is in the order of the device: a run with a command on it is its use, an event of the device that event, and anything else nothing
+-- what an item is in the order of the device: a run with a command on it is its use, an event of
+-- the device that event, and anything else nothing
 abbrev pub entry_of : List Kind → RunStates → DeviceId → Item → Option OrderEntry
-entry_of kinds states d (Ran r) = entry_if (uses_device d (states r.0).commands) (Used (usage kinds (states r.0) d))
+entry_of kinds states d (Ran r) =
+    entry_if (uses_device d (states r.0).commands) (Used (usage kinds (states r.0) d))
 entry_of kinds states d (Failed e k) = entry_if (e.0 == d) (Occurred Failure)
 entry_of kinds states d (Back e k) = entry_if (e.0 == d) (Occurred Restart)
 
@@ -58,4 +61,5 @@ with_order_entry (Some x) xs = x ∷ xs
 -- the order of the device that a line makes
 unfoldable pub entries : List Kind → RunStates → DeviceId → List Item → List OrderEntry
 entries kinds states d [] = []
-entries kinds states d (i ∷ is) = with_order_entry (entry_of kinds states d i) (entries kinds states d is)
+entries kinds states d (i ∷ is) =
+    with_order_entry (entry_of kinds states d i) (entries kinds states d is)

@@ -15,14 +15,17 @@ use Rattle.std.specs.Prelude.{Bool, List, [], false, fold, if◌then◌else◌, 
 -- the events and the committed runs of a line
 unfoldable pub serial_order : RunStates → List Item → List Item
 serial_order states [] = []
-serial_order states (Ran r ∷ is) = if (states r.0).committed then Ran r ∷ serial_order states is else serial_order states is
+serial_order states (Ran r ∷ is) =
+    if (states r.0).committed then Ran r ∷ serial_order states is else serial_order states is
 serial_order states (Failed e k ∷ is) = Failed e k ∷ serial_order states is
 serial_order states (Back e k ∷ is) = Back e k ∷ serial_order states is
 
 -- what the committed runs answered, in line order
 unfoldable pub served : RunStates → List Item → List Served
 served states [] = []
-served states (Ran r ∷ is) = if (states r.0).committed then record { run = r; answers = (states r.0).answers } ∷ served states is else served states is
+served states (Ran r ∷ is) =
+    if (states r.0).committed
+    then record { run = r; answers = (states r.0).answers } ∷ served states is else served states is
 served states (Failed e k ∷ is) = served states is
 served states (Back e k ∷ is) = served states is
 
@@ -37,12 +40,17 @@ EventsAreHomed n (Back e k ∷ is) = (e.0 < n) × EventsAreHomed n is
 abbrev pub walk_stand : WalkState → Stand
 walk_stand z = record { value = z.value; up = z.up }
 
--- from here on, the serial execution of the line's order is not refused, gives the committed runs their answers, and leaves each device where the walk along its entries ends
-pub record LineIsSerial (kinds : List Kind) (runs : List Run) (states : RunStates) (s : SerialRun) (z : DeviceId → WalkState) (line : List Item) : Type 0 where
+-- from here on, the serial execution of the line's order is not refused, gives the committed runs
+-- their answers, and leaves each device where the walk along its entries ends
+pub record LineIsSerial (kinds : List Kind) (runs : List Run) (states : RunStates) (s : SerialRun)
+    (z : DeviceId → WalkState) (line : List Item) : Type 0 where
   pub refused : (fold (serve runs kinds) s (serial_order states line)).refused ≡ false
-  pub answers : (fold (serve runs kinds) s (serial_order states line)).answers ≡ s.answers ++ served states line
+  pub answers : (fold (serve runs kinds) s (serial_order states line)).answers
+      ≡ s.answers ++ served states line
   pub size : length (fold (serve runs kinds) s (serial_order states line)).home ≡ length s.home
-  pub stands : (d : DeviceId) → d < length s.home → stand_at (fold (serve runs kinds) s (serial_order states line)).home d ≡ walk_stand (walk_end (z d) (entries kinds states d line))
+  pub stands : (d : DeviceId) → d < length s.home
+      → stand_at (fold (serve runs kinds) s (serial_order states line)).home d
+      ≡ walk_stand (walk_end (z d) (entries kinds states d line))
 
 -- each run of the line has committed
 unfoldable pub all_committed : RunStates → List Item → Bool

@@ -26,20 +26,27 @@ at_device kinds states d p r = uses_device d (states r).commands && p (usage kin
 -- no run of the line touched the device, and no event of it stands there
 unfoldable pub is_calm_line : List Kind → RunStates → DeviceId → List Item → Bool
 is_calm_line kinds states d [] = true
-is_calm_line kinds states d (Ran r ∷ is) = not (at_device kinds states d has_used_device r.0) && is_calm_line kinds states d is
+is_calm_line kinds states d (Ran r ∷ is) =
+    not (at_device kinds states d has_used_device r.0) && is_calm_line kinds states d is
 is_calm_line kinds states d (Failed e k ∷ is) = not (e.0 == d) && is_calm_line kinds states d is
 is_calm_line kinds states d (Back e k ∷ is) = not (e.0 == d) && is_calm_line kinds states d is
 
--- the run with the effective write on the device: the last that wrote it and is not undone; the given one where the line has none
-unfoldable pub last_in_effect : List Kind → RunStates → DeviceId → Option RunId → List Item → Option RunId
+-- the run with the effective write on the device: the last that wrote it and is not undone; the
+-- given one where the line has none
+unfoldable pub last_in_effect : List Kind → RunStates → DeviceId → Option RunId
+    → List Item → Option RunId
 last_in_effect kinds states d o [] = o
-last_in_effect kinds states d o (Ran r ∷ is) = last_in_effect kinds states d (if at_device kinds states d is_in_effect r.0 then Some r.0 else o) is
+last_in_effect kinds states d o (Ran r ∷ is) =
+    last_in_effect kinds states d
+    (if at_device kinds states d is_in_effect r.0 then Some r.0 else o) is
 last_in_effect kinds states d o (Failed e k ∷ is) = last_in_effect kinds states d o is
 last_in_effect kinds states d o (Back e k ∷ is) = last_in_effect kinds states d o is
 
 -- the value at which the device is to stand: of the effective write, else the first one
 abbrev pub standing_value_on : List Kind → RunStates → DeviceId → ℕ → List Item → ℕ
-standing_value_on kinds states d first line = option_map_or (λ r. unwrap_or (device_summary kinds (states r) d).wrote first) (last_in_effect kinds states d None line) first
+standing_value_on kinds states d first line =
+    option_map_or (λ r. unwrap_or (device_summary kinds (states r) d).wrote first)
+    (last_in_effect kinds states d None line) first
 
 -- each run stands in the line once
 unfoldable pub RunsAreDistinct : List Item → Type 0

@@ -8,16 +8,30 @@ use Rattle.std.specs.Prelude.{Bool, List, [], false, true, ℕ, ◌≡◌}
 
 -- what is kept of a device, over plain lists and numbers
 pub record DeviceRecord : Type 0 where
-  pub order : List OrderEntry  -- the uses that runs make of it in line order, with its events among them
+  -- the uses that runs make of it in line order, with its events among them
+  pub order : List OrderEntry
   pub first_up : Bool
   pub first : ℕ
-  pub up : Bool  -- as it is counted now
-  pub held : ℕ  -- where it stands, or stood as it went out
+  -- as it is counted now
+  pub up : Bool
+  -- where it stands, or stood as it went out
+  pub held : ℕ
   pub probe : Probe
 
 -- the walk begins with a device that no run has used
 abbrev pub walk_start : Bool → ℕ → WalkState
-walk_start up v = record { up = up; value = v; stand = v; settled = true; undoing = false; opened = false; waiting = false; spanned = false; exposed = false; out = Home }
+walk_start up v = record {
+  up = up;
+  value = v;
+  stand = v;
+  settled = true;
+  undoing = false;
+  opened = false;
+  waiting = false;
+  spanned = false;
+  exposed = false;
+  out = Home;
+}
 
 -- the walk along these entries, from the device's first state
 abbrev pub walk_after : DeviceRecord → List OrderEntry → WalkState
@@ -30,4 +44,5 @@ pub record NothingIsOut (d : DeviceRecord) : Type 0 where
 
 -- a device that no run has used
 abbrev pub new_device : Bool → ℕ → DeviceRecord
-new_device up v = record { order = []; first_up = up; first = v; up = up; held = v; probe = Unprobed }
+new_device up v =
+    record { order = []; first_up = up; first = v; up = up; held = v; probe = Unprobed }

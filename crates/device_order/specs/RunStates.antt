@@ -1,4 +1,5 @@
--- What is known of each run of a window: from the entries of its history, and the grips that are out.
+-- What is known of each run of a window: from the entries of its history, and the grips that are
+-- out.
 use Rattle.command_rules.specs.Rosters.{is_on}
 use Rattle.device_order.specs.Summaries.{Answered, AnswersFit, AreHomed, DeviceSummary, NoCommandFails, Summary, blank, summary}
 use Rattle.device_order.specs.declared.records.HeldGrip.{HeldGrip}
@@ -54,7 +55,8 @@ summary_of kinds r = summary kinds blank (answered_commands r)
 abbrev pub device_summary : List Kind → RunState → DeviceId → DeviceSummary
 device_summary kinds r d = (summary_of kinds r).on d
 
--- all commands of the run are answered, each answer fits those before it, and no must command failed
+-- all commands of the run are answered, each answer fits those before it, and no must command
+-- failed
 pub record IsAllAnswered (kinds : List Kind) (devices : ℕ) (r : RunState) : Type 0 where
   pub all : length r.answers ≡ length r.commands
   pub fit : AnswersFit kinds blank (answered_commands r)

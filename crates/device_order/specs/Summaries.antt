@@ -1,4 +1,5 @@
--- What the answers of a run say, read from the first to the last, and when they are those of a serial execution.
+-- What the answers of a run say, read from the first to the last, and when they are those of a
+-- serial execution.
 use Rattle.device_order.specs.Usages.{is_seen_down, is_up}
 use Rattle.home_types.specs.Commands.{driven, fails, holds, reads, register_after}
 use Rattle.home_types.specs.HomeStates.{stand_at}
@@ -26,7 +27,8 @@ pair_command p = p.command
 abbrev pub pair_answer : Answered → Answer
 pair_answer p = p.answer
 
--- what the answers of a run on one device say: whether it was up at the first of them, the first value found before a write of its own, and its last write
+-- what the answers of a run on one device say: whether it was up at the first of them, the first
+-- value found before a write of its own, and its last write
 pub record DeviceSummary : Type 0 where
   pub view : Option View
   pub read : Option ℕ
@@ -53,7 +55,10 @@ first_view (Some seen) view = Some seen
 -- one more answer on the device, of a command that drives v if it writes
 abbrev pub device_summary_then : DeviceSummary → ℕ → Answer → DeviceSummary
 device_summary_then t v Fine = record t { view = first_view t.view Up; wrote = Some v }
-device_summary_then t v (Found x) = record t { view = first_view t.view Up; read = if is_some t.read || is_some t.wrote then t.read else Some x }
+device_summary_then t v (Found x) = record t {
+  view = first_view t.view Up;
+  read = if is_some t.read || is_some t.wrote then t.read else Some x;
+}
 device_summary_then t v Down = record t { view = first_view t.view ViewDown }
 device_summary_then t v Skipped = t
 
@@ -61,7 +66,9 @@ device_summary_then t v Skipped = t
 abbrev pub summary_then : List Kind → Summary → Answered → Summary
 summary_then kinds s p = record {
   register = register_after p.command.job p.answer s.register;
-  on = λ d. if d == p.command.device.0 then device_summary_then (s.on d) (driven (kind_at kinds p.command.device.0) p.command.job s.register) p.answer else s.on d;
+  on =
+      λ d. if d == p.command.device.0 then device_summary_then (s.on d)
+      (driven (kind_at kinds p.command.device.0) p.command.job s.register) p.answer else s.on d;
 }
 
 -- the summary s with these answers after it
@@ -76,14 +83,18 @@ was_done (Found x) = true
 was_done Down = true
 was_done Skipped = false
 
--- an answer that one execution of the run can give next, to a command that reads or writes: by what the device answered so far
+-- an answer that one execution of the run can give next, to a command that reads or writes: by what
+-- the device answered so far
 abbrev pub AnswerFits : Bool → DeviceSummary → Answer → Type 0
 AnswerFits reading t Fine = (reading ≡ false) × (is_seen_down t.view ≡ false)
-AnswerFits reading t (Found x) = (reading ≡ true) × (is_seen_down t.view ≡ false) × ((v : ℕ) → t.wrote ≡ Some v → x ≡ v) × (t.wrote ≡ None → (y : ℕ) → t.read ≡ Some y → x ≡ y)
+AnswerFits reading t (Found x) =
+    (reading ≡ true) × (is_seen_down t.view ≡ false) × ((v : ℕ) → t.wrote ≡ Some v → x ≡ v)
+    × (t.wrote ≡ None → (y : ℕ) → t.read ≡ Some y → x ≡ y)
 AnswerFits reading t Down = is_up t.view ≡ false
 AnswerFits reading t Skipped = Unit {0}
 
--- a command's answer fits those before it: it is done exactly where its guard holds of the register that they leave
+-- a command's answer fits those before it: it is done exactly where its guard holds of the register
+-- that they leave
 pub record FitsSummary (s : Summary) (p : Answered) : Type 0 where
   pub guard : holds p.command.when s.register ≡ was_done p.answer
   pub answer : AnswerFits (reads p.command.job) (s.on p.command.device.0) p.answer

@@ -55,25 +55,37 @@ abbrev pub after_entry : WalkState → OrderEntry → WalkState
 after_entry s (Occurred e) = record s { up = is_restart e }
 after_entry s (Used u) = after_usage s u
 
--- a run holds the grip for a command while it has one without an answer, sees no failure and is not undone, and for an undo while it is doomed and has a write to undo
+-- a run holds the grip for a command while it has one without an answer, sees no failure and is not
+-- undone, and for an undo while it is doomed and has a write to undo
 abbrev pub GripFits : HeldGrip → Usage → Type 0
 GripFits Free u = Unit {0}
 GripFits Reads u = (is_pending u.stage ≡ true) × (u.undid ≡ false) × (is_seen_down u.view ≡ false)
 GripFits Writes u = (is_pending u.stage ≡ true) × (u.undid ≡ false) × (is_seen_down u.view ≡ false)
-GripFits (Undoes v) u = (stage_is_doomed u.stage ≡ true) × (u.undid ≡ false) × (is_some u.wrote ≡ true)
+GripFits (Undoes v) u =
+    (stage_is_doomed u.stage ≡ true) × (u.undid ≡ false) × (is_some u.wrote ≡ true)
 
 -- a use fits what stands before it
 pub record UsageFits (s : WalkState) (u : Usage) : Type 0 where
-  pub read_up : is_some u.read ≡ true → is_up u.view ≡ true  -- a run sees the device up where it read, ..
-  pub wrote_up : is_some u.wrote ≡ true → is_up u.view ≡ true  -- .. or wrote, ..
-  pub why_up : is_up u.view ≡ true → (is_some u.read || is_some u.wrote) ≡ true  -- .. and only there
-  pub undid : u.undid ≡ true → (stage_is_doomed u.stage && is_some u.wrote) ≡ true  -- only a doomed run that wrote is undone
-  pub after_open : has_used_device u ≡ true → s.opened ≡ false  -- it touched the device behind no run that has more to do there, ..
-  pub after_command : has_used_device u ≡ true → is_command_out s.out ≡ false  -- .. and behind no command that is out
-  pub view : counts_serially u.stage ≡ true → is_some u.view ≡ true → is_up u.view ≡ s.up  -- where it counts, it sees the device as it is there, ..
-  pub read : counts_serially u.stage ≡ true → (x : ℕ) → u.read ≡ Some x → x ≡ s.value  -- .. and read the committed value there
-  pub covered : is_some u.read ≡ true → s.exposed ≡ false  -- it read behind no live write that no committed one covers
-  pub alone : is_free u.grip ≡ false → is_home s.out ≡ true  -- it holds the only grip
+  -- a run sees the device up where it read, ..
+  pub read_up : is_some u.read ≡ true → is_up u.view ≡ true
+  -- .. or wrote, ..
+  pub wrote_up : is_some u.wrote ≡ true → is_up u.view ≡ true
+  -- .. and only there
+  pub why_up : is_up u.view ≡ true → (is_some u.read || is_some u.wrote) ≡ true
+  -- only a doomed run that wrote is undone
+  pub undid : u.undid ≡ true → (stage_is_doomed u.stage && is_some u.wrote) ≡ true
+  -- it touched the device behind no run that has more to do there, ..
+  pub after_open : has_used_device u ≡ true → s.opened ≡ false
+  -- .. and behind no command that is out
+  pub after_command : has_used_device u ≡ true → is_command_out s.out ≡ false
+  -- where it counts, it sees the device as it is there, ..
+  pub view : counts_serially u.stage ≡ true → is_some u.view ≡ true → is_up u.view ≡ s.up
+  -- .. and read the committed value there
+  pub read : counts_serially u.stage ≡ true → (x : ℕ) → u.read ≡ Some x → x ≡ s.value
+  -- it read behind no live write that no committed one covers
+  pub covered : is_some u.read ≡ true → s.exposed ≡ false
+  -- it holds the only grip
+  pub alone : is_free u.grip ≡ false → is_home s.out ≡ true
   pub grip : GripFits u.grip u
 
 -- an event changes the device, and no run before it still awaits its first answer there
@@ -102,11 +114,13 @@ has p [] = false
 has p (Occurred e ∷ xs) = has p xs
 has p (Used u ∷ xs) = p u || has p xs
 
--- the order with an event at its place: before the first use that awaits its first answer, else at the end
+-- the order with an event at its place: before the first use that awaits its first answer, else at
+-- the end
 unfoldable pub with_event : Event → List OrderEntry → List OrderEntry
 with_event e [] = Occurred e ∷ []
 with_event e (Occurred x ∷ xs) = Occurred x ∷ with_event e xs
-with_event e (Used u ∷ xs) = if awaits_first u then (Occurred e ∷ Used u ∷ xs) else (Used u ∷ with_event e xs)
+with_event e (Used u ∷ xs) =
+    if awaits_first u then (Occurred e ∷ Used u ∷ xs) else (Used u ∷ with_event e xs)
 
 -- the use whose write is in effect behind the order, where it was this one before
 unfoldable pub effective : Option Usage → List OrderEntry → Option Usage

@@ -54,7 +54,8 @@ pub record IsHomeAt (kinds : List Kind) (s : WindowModel) (d : DeviceId) : Type 
   pub unprobed : s.probe d ≡ Unprobed
 
 -- a run gets an answer to its next command, and is doomed by it or not
-pub record GetsAnswer (r r' : RunState) (c : Command) (later : List Command) (a : Answer) (dooms : Bool) : Type 0 where
+pub record GetsAnswer (r r' : RunState) (c : Command) (later : List Command) (a : Answer)
+    (dooms : Bool) : Type 0 where
   pub next : rest r ≡ c ∷ later
   pub commands : r'.commands ≡ r.commands
   pub answers : r'.answers ≡ r.answers ++ a ∷ []
@@ -93,7 +94,8 @@ pub record HasDoneNothing (r : RunState) : Type 0 where
   pub undid : (d : DeviceId) → r.undid d ≡ false
   pub grip : (d : DeviceId) → r.grip d ≡ Free
 
--- a new run is placed: behind it no run has touched a device of it, and no event of one stands there
+-- a new run is placed: behind it no run has touched a device of it, and no event of one stands
+-- there
 pub record RunIsPlaced (kinds : List Kind) (s s' : WindowModel) (r : RunId) : Type 0 where
   pub front : List Item
   pub back : List Item
@@ -106,11 +108,15 @@ pub record RunIsPlaced (kinds : List Kind) (s s' : WindowModel) (r : RunId) : Ty
   pub others : SameBut r s.states s'.states
   pub commands : (s'.states r).commands ≡ (s.states r).commands
   pub new : HasDoneNothing (s'.states r)
-  pub calm : (d : DeviceId) → uses_device d (s'.states r).commands ≡ true → is_calm_line kinds s.states d back ≡ true
+  pub calm : (d : DeviceId) → uses_device d (s'.states r).commands ≡ true
+      → is_calm_line kinds s.states d back ≡ true
   pub still : (d : DeviceId) → IsStill s s' d
 
--- the grip goes out for the next command of a run: no run before it has a command left on the device, and where it reads what it has not written the effective write before it is a committed run's, or there is none
-pub record CommandGoesOut (kinds : List Kind) (s s' : WindowModel) (r : RunId) (c : Command) (later : List Command) : Type 0 where
+-- the grip goes out for the next command of a run: no run before it has a command left on the
+-- device, and where it reads what it has not written the effective write before it is a committed
+-- run's, or there is none
+pub record CommandGoesOut (kinds : List Kind) (s s' : WindowModel) (r : RunId) (c : Command)
+    (later : List Command) : Type 0 where
   pub place : ChangesInPlace s s' r
   pub keeps : KeepsElsewhere (s.states r) (s'.states r) c.device.0
   pub next : rest (s.states r) ≡ c ∷ later
@@ -122,11 +128,14 @@ pub record CommandGoesOut (kinds : List Kind) (s s' : WindowModel) (r : RunId) (
   pub up : s.up c.device.0 ≡ true
   pub view : is_seen_down (device_summary kinds (s.states r) c.device.0).view ≡ false
   pub none_before : any_run (at_device kinds s.states c.device.0 has_pending) place.front ≡ false
-  pub clean : reads c.job ≡ true → (device_summary kinds (s.states r) c.device.0).wrote ≡ None → option_map_or (λ q. (s.states q).committed) (last_in_effect kinds s.states c.device.0 None place.front) true ≡ true
+  pub clean : reads c.job ≡ true → (device_summary kinds (s.states r) c.device.0).wrote ≡ None
+      → option_map_or (λ q. (s.states q).committed)
+      (last_in_effect kinds s.states c.device.0 None place.front) true ≡ true
   pub still : (d : DeviceId) → IsStill s s' d
 
 -- a write is answered: the device stands at the value that the command drives
-pub record WriteIsAnswered (kinds : List Kind) (s s' : WindowModel) (r : RunId) (c : Command) (later : List Command) (dooms : Bool) : Type 0 where
+pub record WriteIsAnswered (kinds : List Kind) (s s' : WindowModel) (r : RunId) (c : Command)
+    (later : List Command) (dooms : Bool) : Type 0 where
   pub place : ChangesInPlace s s' r
   pub answer : GetsAnswer (s.states r) (s'.states r) c later Fine dooms
   pub guard : holds c.when (summary_of kinds (s.states r)).register ≡ true
@@ -134,12 +143,15 @@ pub record WriteIsAnswered (kinds : List Kind) (s s' : WindowModel) (r : RunId) 
   pub out : (s.states r).grip c.device.0 ≡ Writes
   pub job : reads c.job ≡ false
   pub up : s'.up c.device.0 ≡ s.up c.device.0
-  pub held : s'.held c.device.0 ≡ driven (kind_at kinds c.device.0) c.job (summary_of kinds (s.states r)).register
+  pub held : s'.held c.device.0
+      ≡ driven (kind_at kinds c.device.0) c.job (summary_of kinds (s.states r)).register
   pub probe : s'.probe c.device.0 ≡ s.probe c.device.0
   pub still : (d : DeviceId) → d ≢ c.device.0 → IsStill s s' d
 
--- a read is answered with the value at which the device stands; a must command that it refutes dooms the run
-pub record ReadIsAnswered (kinds : List Kind) (s s' : WindowModel) (r : RunId) (c : Command) (later : List Command) (x : ℕ) (dooms : Bool) : Type 0 where
+-- a read is answered with the value at which the device stands; a must command that it refutes
+-- dooms the run
+pub record ReadIsAnswered (kinds : List Kind) (s s' : WindowModel) (r : RunId) (c : Command)
+    (later : List Command) (x : ℕ) (dooms : Bool) : Type 0 where
   pub place : ChangesInPlace s s' r
   pub answer : GetsAnswer (s.states r) (s'.states r) c later (Found x) dooms
   pub guard : holds c.when (summary_of kinds (s.states r)).register ≡ true
@@ -150,8 +162,10 @@ pub record ReadIsAnswered (kinds : List Kind) (s s' : WindowModel) (r : RunId) (
   pub found : x ≡ s.held c.device.0
   pub still : (d : DeviceId) → IsStill s s' d
 
--- the device fails at a command of a run: the failure goes into the line, and dooms the run where the command is must or the run had an answer on the device
-pub record AccessDies (kinds : List Kind) (s s' : WindowModel) (r : RunId) (k : ℕ) (c : Command) (later : List Command) (dooms : Bool) : Type 0 where
+-- the device fails at a command of a run: the failure goes into the line, and dooms the run where
+-- the command is must or the run had an answer on the device
+pub record AccessDies (kinds : List Kind) (s s' : WindowModel) (r : RunId) (k : ℕ) (c : Command)
+    (later : List Command) (dooms : Bool) : Type 0 where
   pub place : ChangesInPlace (with_event_in kinds s c.device.0 (Failed c.device k)) s' r
   pub answer : GetsAnswer (s.states r) (s'.states r) c later Down dooms
   pub guard : holds c.when (summary_of kinds (s.states r)).register ≡ true
@@ -163,12 +177,17 @@ pub record AccessDies (kinds : List Kind) (s s' : WindowModel) (r : RunId) (k : 
   pub probe : s'.probe c.device.0 ≡ s.probe c.device.0
   pub still : (d : DeviceId) → d ≢ c.device.0 → IsStill s s' d
 
--- where a command is answered Down with no call: the run sees the device down already, or it is the run's first answer there, the device is home and counted down, and no run before has a command left on it
+-- where a command is answered Down with no call: the run sees the device down already, or it is the
+-- run's first answer there, the device is home and counted down, and no run before has a command
+-- left on it
 abbrev pub MayAnswerDown : List Kind → WindowModel → DeviceId → List Item → Option View → Type 0
-MayAnswerDown kinds s d front view = (view ≡ Some ViewDown) ⊎ ((view ≡ None) × (s.up d ≡ false) × IsHomeAt kinds s d × (any_run (at_device kinds s.states d has_pending) front ≡ false))
+MayAnswerDown kinds s d front view =
+    (view ≡ Some ViewDown) ⊎ ((view ≡ None) × (s.up d ≡ false) × IsHomeAt kinds s d
+    × (any_run (at_device kinds s.states d has_pending) front ≡ false))
 
 -- a command is answered Down with no call
-pub record DownIsAnswered (kinds : List Kind) (s s' : WindowModel) (r : RunId) (c : Command) (later : List Command) (dooms : Bool) : Type 0 where
+pub record DownIsAnswered (kinds : List Kind) (s s' : WindowModel) (r : RunId) (c : Command)
+    (later : List Command) (dooms : Bool) : Type 0 where
   pub place : ChangesInPlace s s' r
   pub answer : GetsAnswer (s.states r) (s'.states r) c later Down dooms
   pub guard : holds c.when (summary_of kinds (s.states r)).register ≡ true
@@ -176,11 +195,13 @@ pub record DownIsAnswered (kinds : List Kind) (s s' : WindowModel) (r : RunId) (
   pub counts : (s.states r).doomed ≡ false
   pub free : (s.states r).grip c.device.0 ≡ Free
   pub must : fails c Down ≡ true → dooms ≡ true
-  pub may : MayAnswerDown kinds s c.device.0 place.front (device_summary kinds (s.states r) c.device.0).view
+  pub may : MayAnswerDown kinds s c.device.0 place.front
+      (device_summary kinds (s.states r) c.device.0).view
   pub still : (d : DeviceId) → IsStill s s' d
 
 -- a command is skipped: its guard does not hold of the run's register
-pub record SkipIsAnswered (kinds : List Kind) (s s' : WindowModel) (r : RunId) (c : Command) (later : List Command) : Type 0 where
+pub record SkipIsAnswered (kinds : List Kind) (s s' : WindowModel) (r : RunId) (c : Command)
+    (later : List Command) : Type 0 where
   pub place : ChangesInPlace s s' r
   pub answer : GetsAnswer (s.states r) (s'.states r) c later Skipped false
   pub guard : holds c.when (summary_of kinds (s.states r)).register ≡ false
@@ -209,7 +230,8 @@ pub record RunCommits (s s' : WindowModel) (r : RunId) : Type 0 where
   pub doomed : (s'.states r).doomed ≡ false
   pub still : (d : DeviceId) → IsStill s s' d
 
--- a doomed run is aborted and leaves the line: of no device of it does it hold the grip, or has it the effective write
+-- a doomed run is aborted and leaves the line: of no device of it does it hold the grip, or has it
+-- the effective write
 pub record RunLeaves (kinds : List Kind) (s s' : WindowModel) (r : RunId) : Type 0 where
   pub front : List Item
   pub back : List Item
@@ -220,29 +242,36 @@ pub record RunLeaves (kinds : List Kind) (s s' : WindowModel) (r : RunId) : Type
   pub first : s'.first ≡ s.first
   pub live : (s.states r).committed ≡ false
   pub doomed : (s.states r).doomed ≡ true
-  pub free : (d : DeviceId) → uses_device d (s.states r).commands ≡ true → (s.states r).grip d ≡ Free
-  pub undone : (d : DeviceId) → uses_device d (s.states r).commands ≡ true → last_in_effect kinds s.states d None s.line ≢ Some r
+  pub free : (d : DeviceId) → uses_device d (s.states r).commands ≡ true
+      → (s.states r).grip d ≡ Free
+  pub undone : (d : DeviceId) → uses_device d (s.states r).commands ≡ true
+      → last_in_effect kinds s.states d None s.line ≢ Some r
   pub still : (d : DeviceId) → IsStill s s' d
 
--- the undo of a doomed run can be done on the device: the device is home, and the run has the effective write
+-- the undo of a doomed run can be done on the device: the device is home, and the run has the
+-- effective write
 pub record MayUndo (kinds : List Kind) (s : WindowModel) (r : RunId) (d : DeviceId) : Type 0 where
   pub live : (s.states r).committed ≡ false
   pub doomed : (s.states r).doomed ≡ true
   pub effective : last_in_effect kinds s.states d None s.line ≡ Some r
   pub home : IsHomeAt kinds s d
 
--- the grip goes out for an undo: it drives the value at which the device would stand without the run
-pub record UndoGoesOut (kinds : List Kind) (s s' : WindowModel) (r : RunId) (d : DeviceId) : Type 0 where
+-- the grip goes out for an undo: it drives the value at which the device would stand without the
+-- run
+pub record UndoGoesOut (kinds : List Kind) (s s' : WindowModel) (r : RunId)
+    (d : DeviceId) : Type 0 where
   pub place : ChangesInPlace s s' r
   pub keeps : KeepsElsewhere (s.states r) (s'.states r) d
   pub may : MayUndo kinds s r d
   pub up : s.up d ≡ true
   pub undid : (s'.states r).undid d ≡ (s.states r).undid d
-  pub out : (s'.states r).grip d ≡ Undoes (standing_value_on kinds s.states d (stand_at s.first d).value (place.front ++ place.back))
+  pub out : (s'.states r).grip d ≡ Undoes
+      (standing_value_on kinds s.states d (stand_at s.first d).value (place.front ++ place.back))
   pub still : (e : DeviceId) → IsStill s s' e
 
 -- an undo on a device that is counted down is dropped
-pub record UndoIsDropped (kinds : List Kind) (s s' : WindowModel) (r : RunId) (d : DeviceId) : Type 0 where
+pub record UndoIsDropped (kinds : List Kind) (s s' : WindowModel) (r : RunId)
+    (d : DeviceId) : Type 0 where
   pub place : ChangesInPlace s s' r
   pub keeps : KeepsElsewhere (s.states r) (s'.states r) d
   pub may : MayUndo kinds s r d
@@ -265,7 +294,8 @@ pub record UndoIsAnswered (s s' : WindowModel) (r : RunId) (d : DeviceId) (v : �
   pub still : (e : DeviceId) → e ≢ d → IsStill s s' e
 
 -- the device fails at an undo
-pub record UndoDies (kinds : List Kind) (s s' : WindowModel) (r : RunId) (d : DeviceId) (k v : ℕ) : Type 0 where
+pub record UndoDies (kinds : List Kind) (s s' : WindowModel) (r : RunId) (d : DeviceId)
+    (k v : ℕ) : Type 0 where
   pub place : ChangesInPlace (with_event_in kinds s d (Failed (device_no d) k)) s' r
   pub keeps : KeepsElsewhere (s.states r) (s'.states r) d
   pub homed : d < length s.first
@@ -284,14 +314,16 @@ pub record KeepsRuns (s s' : WindowModel) (d : DeviceId) : Type 0 where
   pub first : s'.first ≡ s.first
   pub still : (e : DeviceId) → e ≢ d → IsStill s s' e
 
--- a probe of a device that is home goes out: it asks where the device is counted up, and else restores the value at which it is to stand
+-- a probe of a device that is home goes out: it asks where the device is counted up, and else
+-- restores the value at which it is to stand
 pub record ProbeGoesOut (kinds : List Kind) (s s' : WindowModel) (d : DeviceId) : Type 0 where
   pub keeps : KeepsRuns s s' d
   pub line : s'.line ≡ s.line
   pub home : IsHomeAt kinds s d
   pub up : s'.up d ≡ s.up d
   pub held : s'.held d ≡ s.held d
-  pub probe : s'.probe d ≡ probe_for (s.up d) (standing_value_on kinds s.states d (stand_at s.first d).value s.line)
+  pub probe : s'.probe d
+      ≡ probe_for (s.up d) (standing_value_on kinds s.states d (stand_at s.first d).value s.line)
 
 -- a probe finds the device up, as it is counted
 pub record ProbeFindsUp (s s' : WindowModel) (d : DeviceId) : Type 0 where
@@ -310,7 +342,8 @@ pub record ProbeFindsDown (s s' : WindowModel) (d : DeviceId) (v : ℕ) : Type 0
   pub up : s'.up d ≡ s.up d
   pub probe : s'.probe d ≡ Unprobed
 
--- a probe finds that the device has failed, and no run that counts sees it up and has a command left on it
+-- a probe finds that the device has failed, and no run that counts sees it up and has a command
+-- left on it
 pub record ProbeDies (kinds : List Kind) (s s' : WindowModel) (d : DeviceId) (k : ℕ) : Type 0 where
   pub keeps : KeepsRuns s s' d
   pub homed : d < length s.first
@@ -321,7 +354,8 @@ pub record ProbeDies (kinds : List Kind) (s s' : WindowModel) (d : DeviceId) (k 
   pub probe : s'.probe d ≡ Unprobed
 
 -- .. or one does, and is doomed
-pub record ProbeDiesUnderRun (kinds : List Kind) (s s' : WindowModel) (r : RunId) (d : DeviceId) (k : ℕ) : Type 0 where
+pub record ProbeDiesUnderRun (kinds : List Kind) (s s' : WindowModel) (r : RunId) (d : DeviceId)
+    (k : ℕ) : Type 0 where
   pub place : ChangesInPlace (with_event_in kinds s d (Failed (device_no d) k)) s' r
   pub keeps : KeepsGrips (s.states r) (s'.states r)
   pub homed : d < length s.first
@@ -334,7 +368,8 @@ pub record ProbeDiesUnderRun (kinds : List Kind) (s s' : WindowModel) (r : RunId
   pub still : (e : DeviceId) → e ≢ d → IsStill s s' e
 
 -- a probe brings the device back, and it stands at the value
-pub record DeviceRestarts (kinds : List Kind) (s s' : WindowModel) (d : DeviceId) (k v : ℕ) : Type 0 where
+pub record DeviceRestarts (kinds : List Kind) (s s' : WindowModel) (d : DeviceId)
+    (k v : ℕ) : Type 0 where
   pub keeps : KeepsRuns s s' d
   pub homed : d < length s.first
   pub line : s'.line ≡ line_with_event kinds s.states d (Back (device_no d) k) s.line
@@ -343,7 +378,8 @@ pub record DeviceRestarts (kinds : List Kind) (s s' : WindowModel) (d : DeviceId
   pub held : s'.held d ≡ v
   pub probe : s'.probe d ≡ Unprobed
 
--- a window at its start: its line is empty, no run has done anything, each device stands as the home does, and no probe is out
+-- a window at its start: its line is empty, no run has done anything, each device stands as the
+-- home does, and no probe is out
 pub record WindowStarts (s : WindowModel) : Type 0 where
   pub line : s.line ≡ []
   pub new : (r : RunId) → HasDoneNothing (s.states r)

@@ -17,7 +17,8 @@ pub fn change_law()
 
 /// What a read finds, where its grip is out.
 pub fn read_law()
-    ensures { (d : DeviceRecord) (a b : List OrderEntry) (u : Usage) → DeviceInvariant d → d.order ≡ a ++ Used u ∷ b → u.grip ≡ Reads → ReadFinds d a u d.held }
+    ensures { (d : DeviceRecord) (a b : List OrderEntry) (u : Usage) → DeviceInvariant d
+        → d.order ≡ a ++ Used u ∷ b → u.grip ≡ Reads → ReadFinds d a u d.held }
 {}
 
 /// The device stands at its standing value, and each drive that is out drives that value.

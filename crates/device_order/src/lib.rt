@@ -1,5 +1,5 @@
-// The order of the runs on each device of a home, with its failures and restarts, and why a line of runs is a serial
-// execution.
+// The order of the runs on each device of a home, with its failures and restarts, and why a line of
+// runs is a serial execution.
 #![tactic(auto)]
 
 pub mod device_laws;

@@ -32,7 +32,8 @@ pub struct WalkState {
     pub waiting: bool,
     /// Whether such a run sees the device up.
     pub spanned: bool,
-    /// Whether some run that is not committed has a write that no entry undid, with no committed write behind it.
+    /// Whether some run that is not committed has a write that no entry undid, with no committed
+    /// write behind it.
     pub exposed: bool,
     pub out: GripOut,
 }

@@ -3,8 +3,8 @@ use Rattle.device_states.specs.declared.devices.Dead.{Dead}
 use Rattle.std.specs.List.{list_any}
 use Rattle.std.specs.Prelude.{Bool, Err, List, Ok, Result, if◌then◌else◌, nat_le, nat_lt, ℕ, ◌&&◌, ◌+◌}
 
--- its number, the ranges of calls in which it is down, where it stands, how many calls of all three kinds were made,
--- and its counts
+-- its number, the ranges of calls in which it is down, where it stands, how many calls of all three
+-- kinds were made, and its counts
 pub record SimState : Type 0 where
   pub tag : ℕ
   pub plan : List (ℕ × ℕ)

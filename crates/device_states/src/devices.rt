@@ -10,8 +10,8 @@ pub struct Dead;
 
 /// A device of a home.
 ///
-/// It may fail at any call, and each failure raises its count of faults by one. A call asks that the three counts are
-/// below 2^63, so that none of them overflows.
+/// It may fail at any call, and each failure raises its count of faults by one. A call asks that
+/// the three counts are below 2^63, so that none of them overflows.
 pub trait Device: Drop {
     ghost use Rattle.std.specs.Prelude.{ℕ, List, Option, None};
 

@@ -1,4 +1,5 @@
-// Devices and benches, known by what their calls tell, a device that never fails, and one that fails by a plan.
+// Devices and benches, known by what their calls tell, a device that never fails, and one that
+// fails by a plan.
 #![tactic(auto)]
 
 pub mod benches;

@@ -11,13 +11,15 @@ use std::marker::Model;
 
 /// A device in memory that is down in calls of listed numbers. It tells its plan.
 ///
-/// Its calls of all three kinds are numbered together, from 1. A call that dies leaves the device where it stands.
+/// Its calls of all three kinds are numbered together, from 1. A call that dies leaves the device
+/// where it stands.
 #[derive(Drop)]
 pub struct SimDevice {
     parts: Box<SimParts>,
 }
 
-/// What a simulated device keeps. It stands in a box, since a device goes from hand to hand at each call.
+/// What a simulated device keeps. It stands in a box, since a device goes from hand to hand at each
+/// call.
 #[derive(Drop)]
 struct SimParts {
     number: DeviceNo,
@@ -38,7 +40,15 @@ impl Model for SimDevice {
     ghost Value = { SimState };
 
     // Each call was answered or has died.
-    ghost view = { λ s. record { tag = s.parts.value.number.0; plan = s.parts.value.downs.items; stands = s.parts.value.value; calls = s.parts.value.turns + s.parts.value.answered + s.parts.value.faults; turns = s.parts.value.turns; probes = s.parts.value.probes; faults = s.parts.value.faults } };
+    ghost view = { λ s. record {
+      tag = s.parts.value.number.0;
+      plan = s.parts.value.downs.items;
+      stands = s.parts.value.value;
+      calls = s.parts.value.turns + s.parts.value.answered + s.parts.value.faults;
+      turns = s.parts.value.turns;
+      probes = s.parts.value.probes;
+      faults = s.parts.value.faults;
+    } };
 
     ghost invariant = { λ s. s.parts.value.answered ≤ s.parts.value.probes };
 }
@@ -140,8 +150,8 @@ impl Device for SimDevice {
     }
 }
 
-/// The bench of simulated devices. A device takes memory for itself and for a copy of its ranges, so building one may answer
-/// `NoMemory`.
+/// The bench of simulated devices. A device takes memory for itself and for a copy of its ranges,
+/// so building one may answer `NoMemory`.
 #[derive(Clone, Copy, Debug, PartialEq, Eq)]
 pub struct SimBench;
 

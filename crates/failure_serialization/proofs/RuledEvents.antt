@@ -187,7 +187,8 @@ dooms_of s table line history parts q = ap (λ h. is_none (doom_of h q)) (sym pa
 lineage_of : (s : Configuration) (table : List LineageState) (line : List Mark) (history : List Kept) (d : ℕ) → IsStandingOf s table line history s.setting.runs → d < length table → IsLineageOf s.setting (read_of s) s.grips d (lineage_at table d)
 lineage_of s table line history d parts inside = let size = parts.its_table.devices in parts.its_table.each d (omega (arith, size, inside))
 
-pub event_of : (table : List LineageState) (line : List Mark) (history : List Kept) (first : Option RunNo) (d : DeviceNo) (x : Item) (after : List Mark) → d.0 < length table → after ≡ with_item (event_place history first (accesses_at table d.0) line) x line → IsEventOf table line history first d x after
+pub event_of : (table : List LineageState) (line : List Mark) (history : List Kept) (first : Option RunNo) (d : DeviceNo) (x : Item) (after : List Mark) → d.0
+    < length table → after ≡ with_item (event_place history first (accesses_at table d.0) line) x line → IsEventOf table line history first d x after
 event_of table line history first d x after inside placing s parts none =
     let own = lineage_of s table line history d.0 parts inside in
     ap items_of placing ∙ placed s.setting (read_of s) s.grips (facts_of s table line history s.setting.runs parts) d.0 history parts.ordered (dooms_of s table line history parts) first (accesses_at table d.0) line x none own.runs own.each parts.its_line.items

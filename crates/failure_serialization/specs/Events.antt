@@ -1,4 +1,5 @@
--- Where an event of a device stands in the line, and which run its failure loses: as the accesses to the device, the line and the history's dooms tell.
+-- Where an event of a device stands in the line, and which run its failure loses: as the accesses
+-- to the device, the line and the history's dooms tell.
 use Rattle.history_book.specs.Books.{doom_of}
 use Rattle.history_book.specs.declared.entries.Kept.{Kept}
 use Rattle.home_types.specs.Numbers.{LinePlace}
@@ -21,7 +22,8 @@ is_sound history x = is_none (doom_of history x.run.0)
 abbrev pub is_access_of : Option RunNo → Access → Bool
 is_access_of run x = unwrap_or (option_map (λ q. q.0 == x.run.0) run) false
 
--- the run has not touched the device: it has no answer there, or is the one whose first access has just died; and it is not doomed
+-- the run has not touched the device: it has no answer there, or is the one whose first access has
+-- just died; and it is not doomed
 abbrev pub waits : List Kept → Option RunNo → Access → Bool
 waits history first x = (is_scheduled x.status || is_access_of first x) && is_sound history x
 
@@ -46,7 +48,8 @@ is_up_view Down = false
 
 -- the run sees the device up, is not done with it, and is not doomed
 abbrev pub is_lost : List Kept → Access → Bool
-is_lost history x = is_acquired x.status && unwrap_or (option_map is_up_view x.view) false && is_sound history x
+is_lost history x =
+    is_acquired x.status && unwrap_or (option_map is_up_view x.view) false && is_sound history x
 
 -- the first such run
 abbrev pub lost_run : List Kept → List Access → Option RunNo

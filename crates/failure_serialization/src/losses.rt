@@ -17,7 +17,8 @@ pub(crate) fn lost_run(table: &Table, book: &Book, d: DeviceNo) -> Option<RunNo>
     table.first_before(d, RunNo(0), |access| is_lost(book, access))
 }
 
-/// Whether the run of an access is lost: it sees the device up, is not done with it, and is not doomed.
+/// Whether the run of an access is lost: it sees the device up, is not done with it, and is not
+/// doomed.
 fn is_lost(book: &Book, access: Access) -> bool
     ensures { result ≡ is_lost book.now.items access }
 {

@@ -12,8 +12,8 @@ use home_types::{DeviceNo, Item, RunNo};
 use lineage_table::{Access, Status, Table};
 use serial_line::Line;
 
-/// The place, counted from 0, where an event of the device stands: before the first run that waits there, else at the
-/// end. The first access of the run `first` has just died.
+/// The place, counted from 0, where an event of the device stands: before the first run that waits
+/// there, else at the end. The first access of the run `first` has just died.
 pub(crate) fn event_place(
     line: &Line,
     table: &Table,
@@ -23,8 +23,10 @@ pub(crate) fn event_place(
 ) -> u32
     requires device { d.0 < length table.now }
     requires runs { has_access 0 (accesses_at table.now d.0) ≡ false }
-    requires unsealed { list_any (λ x. is_sealed (Ran x.run) line.now) (accesses_at table.now d.0) ≡ false }
-    ensures place { result ≡ event_place book.now.items first (accesses_at table.now d.0) line.now.marks }
+    requires unsealed { list_any (λ x. is_sealed (Ran x.run) line.now) (accesses_at table.now d.0)
+        ≡ false }
+    ensures place { result
+        ≡ event_place book.now.items first (accesses_at table.now d.0) line.now.marks }
     ensures within { result ≤ length line.now.marks }
     ensures unsealed { line.now.sealed ≤ result }
 {
@@ -43,8 +45,8 @@ fn first_waiting(table: &Table, book: &Book, d: DeviceNo, first: Option<RunNo>) 
     table.first_before(d, RunNo(0), |access| waits(book, first, access))
 }
 
-/// Whether the run of an access waits: it is not doomed, and has no answer on the device, or is the one whose first
-/// access has just died.
+/// Whether the run of an access waits: it is not doomed, and has no answer on the device, or is the
+/// one whose first access has just died.
 fn waits(book: &Book, first: Option<RunNo>, access: Access) -> bool
     ensures { result ≡ waits book.now.items first access }
 {

@@ -8,7 +8,10 @@ use Rattle.lock_leasing.specs.Places.{At, scheduled_place}
 use Rattle.serial_line.specs.Marks.{Mark, items_of}
 use Rattle.std.specs.Prelude.{List, ◌≡◌}
 
--- the scheduler gives the place in each configuration with this line in which it is first come first served, at each moment
+-- the scheduler gives the place in each configuration with this line in which it is first come
+-- first served, at each moment
 abbrev pub IsServedAt : List Mark → RunId → LinePlace → Type 0
 IsServedAt line r place =
-    (s : Configuration) (moment : Moment) → items_of line ≡ (read_of s).line → scheduler_of s.setting.mode ≡ Fcfs → scheduled_place s.setting (read_of s) s.grips r moment ≡ At (split_at (read_of s).line place)
+    (s : Configuration) (moment : Moment) → items_of line ≡ (read_of s).line
+    → scheduler_of s.setting.mode ≡ Fcfs
+    → scheduled_place s.setting (read_of s) s.grips r moment ≡ At (split_at (read_of s).line place)

@@ -11,7 +11,15 @@ DeskName = TableId
 
 -- the name of no desk
 abbrev pub no_desk : DeskName
-no_desk = record { words = 0; slots = 0; views_name = 0; atom = 0; block = 0; offset = 0; slot_names = [] }
+no_desk = record {
+  words = 0;
+  slots = 0;
+  views_name = 0;
+  atom = 0;
+  block = 0;
+  offset = 0;
+  slot_names = [];
+}
 
 -- the name of the desk, and what is out of each place
 pub record DeskState (T : Type 0) : Type 0 where

@@ -41,19 +41,24 @@ out_after_claim out (Some c) = slice_set out c.0 None
 abbrev pub returned : {T : Type 0} → SeatView T → SeatView T
 returned v = record { keeps = v.keeps; out = out_after_claim v.out v.claim; claim = None }
 
--- what the seat knows fits what is out: the desk's seat is this one and knows it all, and what is claimed is out of its place
-pub record Fits {T : Type 0} (seat : ℕ) (out : List (Option T)) (by : ℕ) (v : SeatView T) : Type 0 where
+-- what the seat knows fits what is out: the desk's seat is this one and knows it all, and what is
+-- claimed is out of its place
+pub record Fits {T : Type 0} (seat : ℕ) (out : List (Option T)) (by : ℕ)
+    (v : SeatView T) : Type 0 where
   pub own : v.keeps ≡ true → by ≡ seat
   pub known : v.keeps ≡ true → v.out ≡ out
   pub claimed : (d : ℕ) (x : T) → v.claim ≡ Some (d, x) → slice_get out d ≡ Some (Some x)
 
 -- .. and each of these seats does
 abbrev pub AllFit : {T : Type 0} → ℕ → List (Option T) → List (SeatView T) → Type 0
-AllFit {T} seat out views = (by : ℕ) (v : SeatView T) → get_elem? views by ≡ some v → Fits seat out by v
+AllFit {T} seat out views =
+    (by : ℕ) (v : SeatView T) → get_elem? views by ≡ some v → Fits seat out by v
 
 -- of no place do two seats claim what is out
 abbrev pub ClaimOnce : {T : Type 0} → List (SeatView T) → Type 0
-ClaimOnce {T} views = (by other : ℕ) (v w : SeatView T) (d : ℕ) (x y : T) → get_elem? views by ≡ some v → get_elem? views other ≡ some w
+ClaimOnce {T} views =
+    (by other : ℕ) (v w : SeatView T) (d : ℕ) (x y : T) → get_elem? views by ≡ some v
+    → get_elem? views other ≡ some w
     → v.claim ≡ Some (d, x) → w.claim ≡ Some (d, y) → by ≡ other
 
 -- the rule of all seats
@@ -67,9 +72,13 @@ abbrev pub AreKept : {T : Type 0} → State (ℕ × T) (SeatView T) → Type 0
 AreKept s = SeatsAreKept s.views
 
 -- what a step tells that lets something out
-abbrev pub HasLent : {T : Type 0} → Step (ℕ × T) → Me (ℕ × T) (SeatView T) → ℕ → Me (ℕ × T) (SeatView T) → Type 0
+abbrev pub HasLent : {T : Type 0} → Step (ℕ × T) → Me (ℕ × T) (SeatView T) → ℕ
+    → Me (ℕ × T) (SeatView T) → Type 0
 HasLent step before found after = after ≡ (lent before.0 step.said, before.1)
 
 -- .. and one that takes it in
-abbrev pub HasReturned : {T : Type 0} → Step (ℕ × T) → Me (ℕ × T) (SeatView T) → ℕ → Me (ℕ × T) (SeatView T) → Type 0
-HasReturned step before found after = (after ≡ (returned before.0, before.1)) × IfSome before.0.claim (λ c. slice_get before.0.out c.0 ≡ Some (Some c.1))
+abbrev pub HasReturned : {T : Type 0} → Step (ℕ × T) → Me (ℕ × T) (SeatView T) → ℕ
+    → Me (ℕ × T) (SeatView T) → Type 0
+HasReturned step before found after =
+    (after ≡ (returned before.0, before.1))
+    × IfSome before.0.claim (λ c. slice_get before.0.out c.0 ≡ Some (Some c.1))

@@ -4,8 +4,8 @@ ghost use Rattle.std.specs.Prelude.{ℕ};
 use atomic_table::{Join, Play, Split, TableRule};
 use std::collections::LinkedList;
 
-/// What a seat knows: whether it is the desk's, and then what is out of each place; and what it claims is out of which
-/// place. No value of it is made.
+/// What a seat knows: whether it is the desk's, and then what is out of each place; and what it
+/// claims is out of which place. No value of it is made.
 pub struct SeatView<T> {
     pub keeps: bool,
     pub out: LinkedList<Option<T>>,

@@ -1,4 +1,5 @@
-//! The answer to a call that was made elsewhere, handed in for the grip with which the device is out.
+//! The answer to a call that was made elsewhere, handed in for the grip with which the device is
+//! out.
 ghost use Rattle.std.specs.Prelude.{◌≡◌, ◌+◌, IfErr, IfOk, false, true};
 ghost use Rattle.device_gate.specs.Calls.{answered_turns, failed, may_tell, probed};
 ghost use Rattle.device_gate.specs.Grips.{WasCalled};
@@ -9,8 +10,8 @@ use crate::devices::HandedDevice;
 use device_gate::{Done, Grip, Ready, Slip, Task, Told};
 use home_types::Value;
 
-/// Whether the device of the slip may tell this of the task: of a drive or a probe that it worked, of a sense the value
-/// at which it stood, and of each of them that it died.
+/// Whether the device of the slip may tell this of the task: of a drive or a probe that it worked,
+/// of a sense the value at which it stood, and of each of them that it died.
 pub fn may_tell(slip: Slip, task: Task, told: Told) -> bool
     ensures { result ≡ may_tell task slip.stood told }
 {
@@ -23,8 +24,8 @@ pub fn may_tell(slip: Slip, task: Task, told: Told) -> bool
     }
 }
 
-/// Hands in what the device of the grip told elsewhere, for its one task: for a probe with a value to restore that it
-/// answered both the probe and the drive, or that it did not answer one of them.
+/// Hands in what the device of the grip told elsewhere, for its one task: for a probe with a value
+/// to restore that it answered both the probe and the drive, or that it did not answer one of them.
 ///
 /// An answer that the device may not tell is refused, and the grip comes back as it is.
 pub fn hand_in(
@@ -34,7 +35,8 @@ pub fn hand_in(
     ensures told { IfOk result (λ done. done.stage.told ≡ told) }
     ensures slip { IfOk result (λ done. done.slip ≡ grip.slip) }
     ensures task { IfOk result (λ done. done.task ≡ grip.task) }
-    ensures value { IfOk result (λ done. done.device.value ≡ known_value told grip.task grip.slip.stood) }
+    ensures value { IfOk result
+        (λ done. done.device.value ≡ known_value told grip.task grip.slip.stood) }
     ensures same { IfErr result (λ back. back ≡ grip) }
     ensures refused { IfErr result (λ back. may_tell grip.task grip.slip.stood told ≡ false) }
 {
@@ -50,7 +52,8 @@ pub fn hand_in(
 fn after_call(slip: Slip, task: Task, told: Told) -> HandedDevice
     requires room { HasRoom slip.turns (slip.probes + 1) slip.faults }
     requires fits { may_tell task slip.stood told ≡ true }
-    ensures called { WasCalled told task slip result.number.0 result.value result.turns result.probes result.faults }
+    ensures called { WasCalled told task slip result.number.0 result.value result.turns
+        result.probes result.faults }
     ensures value { result.value ≡ known_value told task slip.stood }
 {
     HandedDevice {
@@ -62,8 +65,8 @@ fn after_call(slip: Slip, task: Task, told: Told) -> HandedDevice
     }
 }
 
-/// Where a device that stood at the value is taken to stand: as the task leaves it, and as before where a call died,
-/// since nothing tells then.
+/// Where a device that stood at the value is taken to stand: as the task leaves it, and as before
+/// where a call died, since nothing tells then.
 fn known_value(task: Task, stood: Value, told: Told) -> Value
     ensures { result ≡ known_value told task stood }
 {

@@ -3,7 +3,8 @@ use device_states::{Bench, Dead, Device};
 use home_types::{DeviceNo, NoMemory, Value};
 use std::alloc::Global;
 
-/// A device whose calls are made elsewhere: no more than what the answers to them have told. It tells no plan.
+/// A device whose calls are made elsewhere: no more than what the answers to them have told. It
+/// tells no plan.
 ///
 /// There is nothing behind it, so a call that is made of it itself is never answered.
 #[derive(Clone, Copy, Debug, PartialEq, Eq)]

@@ -1,4 +1,5 @@
-//! Answers to the calls of a lamp, which are made elsewhere, through an open gate: those that it may tell, and others.
+//! Answers to the calls of a lamp, which are made elsewhere, through an open gate: those that it
+//! may tell, and others.
 ghost use Rattle.std.specs.Prelude.{◌≡◌, ◌+◌, ◌<◌, ◌≤◌, IfOk};
 
 use crate::answers::hand_in;
@@ -27,8 +28,8 @@ fn gate(alloc: Global) -> Result<Gate<HandedDevice>, NoMemory>
     }
 }
 
-/// Hands the lamp out, and hands in that it told this of its task. Answers what is then taken of it: this, or that it
-/// died, where it may not tell it.
+/// Hands the lamp out, and hands in that it told this of its task. Answers what is then taken of
+/// it: this, or that it died, where it may not tell it.
 fn tell(gate: &mut Gate<HandedDevice>, task: Task, told: Told) -> Option<Told>
     requires { gate.old.tickets < 100 }
     ensures { gate.new.tickets ≤ gate.old.tickets + 1 }

@@ -106,7 +106,9 @@ noted_at places q n r within = by_cases (nat_lt q (length places) && is_none (sl
         filled (slice_index_or places r None) (grind (arith, common_steps))
     kept_all stays inside false f = sym (or_none (slice_index_or places r None))
 
-    by_cases : (b : Bool) → (nat_lt q (length places) && is_none (slice_index_or places q None)) ≡ b → r < length (if b then slice_set places q (Some n) else places) → slice_index_or (if b then slice_set places q (Some n) else places) r None ≡ option_or (slice_index_or places r None) (if q == r then Some n else None)
+    by_cases : (b : Bool) → (nat_lt q (length places) && is_none (slice_index_or places q None)) ≡ b
+        → r < length (if b then slice_set places q (Some n) else places)
+        → slice_index_or (if b then slice_set places q (Some n) else places) r None ≡ option_or (slice_index_or places r None) (if q == r then Some n else None)
     by_cases true e inside = set_one (grind (arith, common_steps)) (grind (arith, common_steps)) (q == r) refl
     by_cases false e inside = kept_all e inside (q == r) refl
 

@@ -86,7 +86,9 @@ last_after w n r k q a =
 
 event_after : (w : Setting) (n : Reading) (r k q : ℕ) (a : Answer) → list_any (is_event_of q) (log_after w n r k a) ≡ list_any (is_event_of q) (n.log (command_at w.runs r k).device.0)
 event_after w n r k q a =
-    any_more (is_event_of q) (not (touches_from w.runs r (command_at w.runs r k).device.0 (k + 1))) (Last r) _ ∙ unmoved (list_any (is_event_of q) (more_if (is_access a && is_none ((n.run r).on (command_at w.runs r k).device.0).view) (First r) (n.log (command_at w.runs r k).device.0))) (not (touches_from w.runs r (command_at w.runs r k).device.0 (k + 1)))
+    any_more (is_event_of q) (not (touches_from w.runs r (command_at w.runs r k).device.0 (k + 1))) (Last r) _ ∙ unmoved (list_any (is_event_of q)
+    (more_if (is_access a && is_none ((n.run r).on (command_at w.runs r k).device.0).view) (First r) (n.log (command_at w.runs r k).device.0)))
+    (not (touches_from w.runs r (command_at w.runs r k).device.0 (k + 1)))
     ∙ any_more (is_event_of q) (is_access a && is_none ((n.run r).on (command_at w.runs r k).device.0).view) (First r) (n.log (command_at w.runs r k).device.0)
     ∙ unmoved (list_any (is_event_of q) (n.log (command_at w.runs r k).device.0)) (is_access a && is_none ((n.run r).on (command_at w.runs r k).device.0).view)
   where
@@ -219,10 +221,12 @@ logged w h ok = logged_from w (nothing_read w) h (record { firsts = λ r d. refl
 -- what is added to the log while the run's span is open stands in the span
 pub span_more : (r : ℕ) (marks more : List LogMark) → list_any (is_first_mark r) marks ≡ true → list_any (is_last_mark r) marks ≡ false → span_of r (marks ++ more) ≡ span_of r marks ++ take_while (λ x. not (is_last_mark r x)) more
 span_more r [] more first last = absurd (cc)
-span_more r (m ∷ ms) more first last = elim (is_first_mark r m) as (λ b. is_first_mark r m ≡ b → (if b then take_while (λ x. not (is_last_mark r x)) (ms ++ more) else span_of r (ms ++ more)) ≡ (if b then take_while (λ x. not (is_last_mark r x)) ms else span_of r ms) ++ take_while (λ x. not (is_last_mark r x)) more) [
-  | true ↦ (λ e. all_taken ms (grind (arith, common_steps)))
-  | false ↦ (λ e. span_more r ms more (grind (arith, common_steps)) (grind (arith, common_steps)))
-] refl
+span_more r (m ∷ ms) more first last =
+    elim (is_first_mark r m) as (λ b. is_first_mark r m ≡ b → (if b then take_while (λ x. not (is_last_mark r x)) (ms ++ more) else span_of r (ms ++ more))
+    ≡ (if b then take_while (λ x. not (is_last_mark r x)) ms else span_of r ms) ++ take_while (λ x. not (is_last_mark r x)) more) [
+      | true ↦ (λ e. all_taken ms (grind (arith, common_steps)))
+      | false ↦ (λ e. span_more r ms more (grind (arith, common_steps)) (grind (arith, common_steps)))
+    ] refl
   where
     all_taken : (xs : List LogMark) → list_any (is_last_mark r) xs ≡ false → take_while (λ x. not (is_last_mark r x)) (xs ++ more) ≡ take_while (λ x. not (is_last_mark r x)) xs ++ take_while (λ x. not (is_last_mark r x)) more
     all_taken [] none = refl

@@ -413,7 +413,10 @@ pub shapes_step : (w : Setting) (n : Reading) (e : Entry) → IsTrue (may_follow
 shapes_step w n (Arrived r m) ok s = put_all (IsShaped w) n.run r.0 _ s (arrives w r.0 m (n.run r.0) (grind (arith, common_steps)) (s r.0))
 shapes_step w n (Placed r at m) ok s = put_all (IsShaped w) n.run r.0 _ s (places w r.0 (n.run r.0) _ _ (grind (arith, common_steps)) (s r.0))
 shapes_step w n (Did r c a) ok s =
-    put_all (IsShaped w) n.run r.0 _ s (let number : c ≡ length (n.run r.0).answers = grind (arith, common_steps) in rw number (answers w r.0 (n.run r.0) a _ (grind (arith, common_steps)) (grind (arith, common_steps)) (grind (arith, common_steps)) (subst (λ k. is_always (command_at w.runs r.0 k).when ≡ true → is_access a ≡ true) number (suited_access w n r.0 (command_at w.runs r.0 c) a (grind (arith, common_steps)))) (s r.0)))
+    put_all (IsShaped w) n.run r.0 _ s
+    (let number : c ≡ length (n.run r.0).answers = grind (arith, common_steps) in rw number (answers w r.0 (n.run r.0) a _ (grind (arith, common_steps))
+    (grind (arith, common_steps)) (grind (arith, common_steps)) (subst (λ k. is_always (command_at w.runs r.0 k).when ≡ true → is_access a ≡ true) number
+    (suited_access w n r.0 (command_at w.runs r.0 c) a (grind (arith, common_steps)))) (s r.0)))
 shapes_step w n (Undid r d drove) ok s = put_all (IsShaped w) n.run r.0 _ s (undoes w r.0 d.0 (n.run r.0) (grind (arith, common_steps)) (grind (arith, common_steps)) (grind (arith, common_steps)) (s r.0))
 shapes_step w n (Fell d) ok s = s
 shapes_step w n (Rose d) ok s = s

@@ -17,14 +17,19 @@ use Rattle.std.specs.Prelude.{Bool, List, [], if◌then◌else◌, map, nat_lt, 
 
 -- The base
 
--- every item up to the first one of which the first test holds, and from there on those of which the second one does
+-- every item up to the first one of which the first test holds, and from there on those of which
+-- the second one does
 abbrev pub base_flags : (Item → Bool) → (Item → Bool) → List Item → List Bool
 base_flags live needed [] = []
-base_flags live needed (i ∷ is) = if live i then map needed (i ∷ is) else true ∷ base_flags live needed is
+base_flags live needed (i ∷ is) =
+    if live i then map needed (i ∷ is) else true ∷ base_flags live needed is
 
--- the item must stand before the run: it has an access on one of its devices, or its next command is on one, or it is the committed run that it follows
+-- the item must stand before the run: it has an access on one of its devices, or its next command
+-- is on one, or it is the committed run that it follows
 abbrev pub is_needed : Setting → Reading → RunId → Item → Bool
-is_needed w n r (Ran x) = list_any (λ d. did n x.0 d || (is_live n x.0 && is_next_on w n x.0 d)) (devices_of w r) || (follows w.runs r x.0 && is_committed n x.0)
+is_needed w n r (Ran x) =
+    list_any (λ d. did n x.0 d || (is_live n x.0 && is_next_on w n x.0 d)) (devices_of w r)
+    || (follows w.runs r x.0 && is_committed n x.0)
 is_needed w n r (Failed d k) = touches w.runs r d.0
 is_needed w n r (Back d k) = touches w.runs r d.0
 
@@ -37,7 +42,8 @@ base_of w n r = base_flags (of_run (is_live n)) (is_needed w n r) n.line
 -- the item is a live run that is planned to start on a device before the run, planned so, is off it
 abbrev pub is_overlapped : Setting → Reading → RunId → List Planned → Item → Bool
 is_overlapped w n r planned i =
-    of_run (λ x. is_live n x && list_any (λ d. touches w.runs x d && not (passed_by w n x d) && nat_lt (planned_start (n.run x).planned d) (planned_end planned d)) (devices_of w r)) i
+    of_run (λ x. is_live n x && list_any (λ d. touches w.runs x d && not (passed_by w n x d)
+    && nat_lt (planned_start (n.run x).planned d) (planned_end planned d)) (devices_of w r)) i
 
 -- .. planned at this moment behind the items of this set
 abbrev pub bars : Setting → Reading → RunId → Moment → List Bool → Item → Bool
@@ -48,7 +54,8 @@ bars w n r m set = is_overlapped w n r (planned_times w n r (chosen set n.line) 
 unfoldable pub gap_set : Setting → Reading → RunId → Moment → List Bool
 gap_set w n r m = grown (meet w.runs) (base_of w n r) (bars w n r m) n.line
 
--- the line as it stands when a run is placed at this moment: under the timeline with that set in front
+-- the line as it stands when a run is placed at this moment: under the timeline with that set in
+-- front
 abbrev pub line_for : Setting → Reading → RunId → Moment → List Item
 line_for w n r m = by_scheduler (scheduler_of w.mode)
   where
@@ -57,7 +64,8 @@ line_for w n r m = by_scheduler (scheduler_of w.mode)
     by_scheduler JustInTime = n.line
     by_scheduler Timeline = rearranged (gap_set w n r m) n.line
 
--- the items behind which the run is planned: those before its place, under the timeline those of the set
+-- the items behind which the run is planned: those before its place, under the timeline those of
+-- the set
 abbrev pub front_for : Setting → Reading → RunId → LinePlace → Moment → List Item
 front_for w n r at m = by_scheduler (scheduler_of w.mode)
   where

@@ -29,9 +29,12 @@ use Rattle.home_types.specs.declared.numbers.RunNo.{RunNo}
 use Rattle.std.specs.Option.{option_or}
 use Rattle.std.specs.Prelude.{Bool, List, None, Option, Some, [], false, filter_map, fold, if◌then◌else◌, is_none, is_some, map, max, not, option_to_list, true, ℕ, ◌&&◌, ◌++◌, ◌+◌, ◌==◌, ◌||◌, ◌∷◌}
 
--- the device's next event stands before the first open run that has no access there, under the weak model at the end
+-- the device's next event stands before the first open run that has no access there, under the weak
+-- model at the end
 abbrev pub with_event : Setting → Reading → DeviceNo → Item → List Item
-with_event w n d x = put_before (of_run (λ r. not (is_weak w.mode) && is_open w n r d.0 && not (did n r d.0))) x n.line
+with_event w n d x =
+    put_before (of_run (λ r. not (is_weak w.mode) && is_open w n r d.0 && not (did n r d.0))) x
+    n.line
 
 -- what the answer says of the run on the command's device
 abbrev pub answered : Kind → Command → Bool → ℕ → Answer → OnDevice → OnDevice
@@ -77,7 +80,10 @@ with_run_told n r q = record n { run = put n.run r q; size = n.size + 1 }
 
 abbrev pub with_placed : Reading → RunNo → LinePlace → Moment → List Planned → Split → Reading
 with_placed n r at m planned s =
-    record (with_run_told n r.0 (record (n.run r.0) { placed = Some (record { place = at; moment = m; stamp = n.size }); planned = planned })) {
+    record (with_run_told n r.0 (record (n.run r.0) {
+      placed = Some (record { place = at; moment = m; stamp = n.size });
+      planned = planned;
+    })) {
       moment = max n.moment m;
       line = with_run_in s r;
     }
@@ -89,32 +95,62 @@ with_answer w n r c k a =
       answers = q.answers ++ a ∷ [];
       register = register_after c.job a q.register;
       answered_doomed = q.answered_doomed || is_some q.doomed;
-      on = put q.on c.device.0 (answered (kind_at w.kinds c.device.0) c (is_some q.doomed) q.register a (q.on c.device.0));
+      on =
+          put q.on c.device.0 (answered (kind_at w.kinds c.device.0) c
+          (is_some q.doomed) q.register a (q.on c.device.0));
     })) {
-      last = (if is_fine a then put n.last c.device.0 (driven (kind_at w.kinds c.device.0) c.job q.register) else n.last);
-      log = put n.log c.device.0 (more_if (not (touches_from w.runs r c.device.0 (k + 1))) (Last r) (more_if (is_access a && is_none (q.on c.device.0).view) (First r) (n.log c.device.0)));
+      last =
+          (if is_fine a then put n.last c.device.0
+          (driven (kind_at w.kinds c.device.0) c.job q.register) else n.last);
+      log =
+          put n.log c.device.0 (more_if (not (touches_from w.runs r c.device.0 (k + 1))) (Last r)
+          (more_if (is_access a && is_none (q.on c.device.0).view) (First r) (n.log c.device.0)));
     }
   where
     q : OfRun
     q = n.run r
 
 abbrev pub with_undo : Reading → RunNo → DeviceNo → Reading
-with_undo n r d = with_run_told n r.0 (record (n.run r.0) { on = put (n.run r.0).on d.0 (record ((n.run r.0).on d.0) { undid = true }) })
+with_undo n r d =
+    with_run_told n r.0 (record (n.run r.0) {
+      on = put (n.run r.0).on d.0 (record ((n.run r.0).on d.0) { undid = true });
+    })
 
 -- the device's event: it is counted up or down from then on
 abbrev pub with_turn : Setting → Reading → DeviceNo → Item → Bool → Reading
-with_turn w n d x up = record n { up = put n.up d.0 up; line = with_event w n d x; log = put n.log d.0 (n.log d.0 ++ Event x ∷ []); size = n.size + 1 }
+with_turn w n d x up = record n {
+  up = put n.up d.0 up;
+  line = with_event w n d x;
+  log = put n.log d.0 (n.log d.0 ++ Event x ∷ []);
+  size = n.size + 1;
+}
 
 -- the reading with one entry more
 abbrev pub entry : Setting → Reading → Entry → Reading
-entry w n (Arrived r m) = record (with_run_told n r.0 (record (n.run r.0) { arrived = Some m })) { moment = max n.moment m }
-entry w n (Placed r at m) = with_placed n r at m (planned_times w n r.0 (front_for w n r.0 at m) m) (split_of w n r.0 at m)
+entry w n (Arrived r m) =
+    record (with_run_told n r.0 (record (n.run r.0) { arrived = Some m })) {
+      moment = max n.moment m;
+    }
+entry w n (Placed r at m) =
+    with_placed n r at m (planned_times w n r.0 (front_for w n r.0 at m) m) (split_of w n r.0 at m)
 entry w n (Did r c a) = with_answer w n r.0 (command_at w.runs r.0 c) c a
 entry w n (Undid r d drove) = with_undo n r d
-entry w n (Fell d) = record (with_turn w n d (Failed d (n.fell d.0 + 1)) false) { fell = put n.fell d.0 (n.fell d.0 + 1) }
-entry w n (Rose d) = record (with_turn w n d (Back d (n.rose d.0 + 1)) true) { rose = put n.rose d.0 (n.rose d.0 + 1) }
-entry w n (Doomed r cause) = record (with_run_told n r.0 (record (n.run r.0) { doomed = Some cause })) { moment = moment_of cause n.moment }
-entry w n (Ended r e) = record (with_run_told n r.0 (record (n.run r.0) { ended = Some e })) { line = line_after r.0 e n.line }
+entry w n (Fell d) =
+    record (with_turn w n d (Failed d (n.fell d.0 + 1)) false) {
+      fell = put n.fell d.0 (n.fell d.0 + 1);
+    }
+entry w n (Rose d) =
+    record (with_turn w n d (Back d (n.rose d.0 + 1)) true) {
+      rose = put n.rose d.0 (n.rose d.0 + 1);
+    }
+entry w n (Doomed r cause) =
+    record (with_run_told n r.0 (record (n.run r.0) { doomed = Some cause })) {
+      moment = moment_of cause n.moment;
+    }
+entry w n (Ended r e) =
+    record (with_run_told n r.0 (record (n.run r.0) { ended = Some e })) {
+      line = line_after r.0 e n.line;
+    }
 
 -- what a history says
 abbrev pub reading : Setting → List Entry → Reading

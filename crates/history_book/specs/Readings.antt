@@ -16,7 +16,8 @@ use Rattle.std.specs.Prelude.{Bool, List, None, Option, Some, [], false, filter_
 
 -- of one run on one device
 pub record OnDevice : Type 0 where
-  -- whether the run sees the device up, by its first answer there that is an access; none before that
+  -- whether the run sees the device up, by its first answer there that is an access; none before
+  -- that
   pub view : Option Bool
   -- the first value that it found before it had written
   pub found : Option ℕ
@@ -86,7 +87,17 @@ untouched_device = record { view = None; found = None; wrote = None; undid = fal
 
 -- nothing has happened to the run
 abbrev pub unread : OfRun
-unread = record { arrived = None; placed = None; planned = []; answers = []; register = 0; doomed = None; answered_doomed = false; ended = None; on = λ d. untouched_device }
+unread = record {
+  arrived = None;
+  placed = None;
+  planned = [];
+  answers = [];
+  register = 0;
+  doomed = None;
+  answered_doomed = false;
+  ended = None;
+  on = λ d. untouched_device;
+}
 
 -- the reading of an empty history
 abbrev pub nothing_read : Setting → Reading
@@ -163,7 +174,9 @@ is_next_on w n r d = unwrap_or (option_map (is_on d) (next_command w n r)) false
 
 -- .. and the guard of that command holds of its register
 abbrev pub asks_on : Setting → Reading → RunId → DeviceId → Bool
-asks_on w n r d = unwrap_or (option_map (λ c. is_on d c && holds c.when (n.run r).register) (next_command w n r)) false
+asks_on w n r d =
+    unwrap_or (option_map (λ c. is_on d c && holds c.when (n.run r).register) (next_command w n r))
+    false
 
 -- Runs and devices
 
@@ -222,10 +235,12 @@ is_fall (Event i) = is_failure i
     is_failure (Back d k) = false
 is_fall (Last r) = false
 
--- the run's span in the log: what stands behind its first access, up to the answer to its last command
+-- the run's span in the log: what stands behind its first access, up to the answer to its last
+-- command
 abbrev pub span_of : RunId → List LogMark → List LogMark
 span_of r [] = []
-span_of r (m ∷ ms) = if is_first_mark r m then take_while (λ x. not (is_last_mark r x)) ms else span_of r ms
+span_of r (m ∷ ms) =
+    if is_first_mark r m then take_while (λ x. not (is_last_mark r x)) ms else span_of r ms
 
 -- the failures and restarts of the log, in history order
 abbrev pub events_of : List LogMark → List Item

@@ -22,11 +22,15 @@ abbrev pub IsPlacedBehind : Reading → Entry → Type 0
 IsPlacedBehind n (Placed r at m) = sealed_in n ≤ at
 IsPlacedBehind n e = ⊤
 
--- the final items of the one line are, in order, the first ones of the other, and no fewer are final there
+-- the final items of the one line are, in order, the first ones of the other, and no fewer are
+-- final there
 pub record StaysSealed (before after : Reading) : Type 0 where
   pub first : take (sealed_in before) after.line ≡ take (sealed_in before) before.line
   pub grows : sealed_in before ≤ sealed_in after
 
--- at each point of the history the items that were final then are, in order, the first ones of this order
+-- at each point of the history the items that were final then are, in order, the first ones of this
+-- order
 abbrev pub BeginsWithSealed : Setting → List Entry → List Item → Type 0
-BeginsWithSealed w history order = (k : ℕ) → take (sealed_of w (take k history)) order ≡ take (sealed_of w (take k history)) (line_of w (take k history))
+BeginsWithSealed w history order =
+    (k : ℕ) → take (sealed_of w (take k history)) order
+    ≡ take (sealed_of w (take k history)) (line_of w (take k history))

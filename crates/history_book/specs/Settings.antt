@@ -1,4 +1,5 @@
--- What is fixed while a window is open: its runs, its mode, and the kinds and the first state of the home's devices.
+-- What is fixed while a window is open: its runs, its mode, and the kinds and the first state of
+-- the home's devices.
 use Rattle.command_rules.specs.Rosters.{Run, touches}
 use Rattle.home_types.specs.Numbers.{DeviceId, RunId}
 use Rattle.home_types.specs.declared.kinds.Kind.{Kind}

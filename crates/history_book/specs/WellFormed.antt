@@ -33,7 +33,8 @@ abbrev pub same_cause : Cause → Cause → Bool
 same_cause (MustDown c) (MustDown k) = c == k
 same_cause (Refuted c x) (Refuted k y) = (c == k) && (x == y)
 same_cause (Lost d) (Lost e) = d.0 == e.0
-same_cause (Revoked l d t m) (Revoked k e s n) = (l.0 == k.0) && (d.0 == e.0) && (t == s) && (m == n)
+same_cause (Revoked l d t m) (Revoked k e s n) =
+    (l.0 == k.0) && (d.0 == e.0) && (t == s) && (m == n)
 same_cause (DownAtEnd d) (DownAtEnd e) = d.0 == e.0
 same_cause a b = false
 
@@ -41,20 +42,23 @@ same_cause a b = false
 abbrev pub may_act : Setting → Reading → RunId → Bool
 may_act w n r = is_run w.runs r && is_live n r
 
--- a write is answered Fine, a read with a value of its device, and each of them Down; it is Skipped exactly where its guard does not hold
--- of the run's register, and a doomed run skips none
+-- a write is answered Fine, a read with a value of its device, and each of them Down; it is Skipped
+-- exactly where its guard does not hold of the run's register, and a doomed run skips none
 abbrev pub suits : Setting → Reading → RunId → Command → Answer → Bool
 suits w n r c Fine = holds c.when (n.run r).register && writes c.job
-suits w n r c (Found x) = holds c.when (n.run r).register && reads c.job && has_value (kind_at w.kinds c.device.0) x
+suits w n r c (Found x) =
+    holds c.when (n.run r).register && reads c.job && has_value (kind_at w.kinds c.device.0) x
 suits w n r c Down = holds c.when (n.run r).register
 suits w n r c Skipped = not (holds c.when (n.run r).register) && not (is_doomed n r)
 
--- the cause names commands of the run, and devices and runs that there are; a revocation's moment is not before the last one
+-- the cause names commands of the run, and devices and runs that there are; a revocation's moment
+-- is not before the last one
 abbrev pub cause_fits : Setting → Reading → RunId → Cause → Bool
 cause_fits w n r (MustDown c) = nat_lt c (length (commands_of w.runs r))
 cause_fits w n r (Refuted c x) = nat_lt c (length (commands_of w.runs r))
 cause_fits w n r (Lost d) = is_device w d.0
-cause_fits w n r (Revoked lender d deadline m) = is_run w.runs lender.0 && is_device w d.0 && nat_le n.moment m
+cause_fits w n r (Revoked lender d deadline m) =
+    is_run w.runs lender.0 && is_device w d.0 && nat_le n.moment m
 cause_fits w n r (DownAtEnd d) = is_device w d.0
 
 -- the run was doomed for this cause
@@ -64,15 +68,22 @@ is_cause_of n r cause = unwrap_or (option_map (same_cause cause) (n.run r).doome
 -- the entry may stand after what was read
 abbrev pub may_follow : Setting → Reading → Entry → Bool
 may_follow w n (Arrived r m) = is_run w.runs r.0 && is_none (n.run r.0).arrived && nat_le n.moment m
-may_follow w n (Placed r at m) = is_run w.runs r.0 && is_some (n.run r.0).arrived && is_none (n.run r.0).placed && nat_le n.moment m
+may_follow w n (Placed r at m) =
+    is_run w.runs r.0 && is_some (n.run r.0).arrived && is_none (n.run r.0).placed
+    && nat_le n.moment m
 may_follow w n (Did r c a) =
-    may_act w n r.0 && (c == next_of n r.0) && nat_lt c (length (commands_of w.runs r.0)) && suits w n r.0 (command_at w.runs r.0 c) a
+    may_act w n r.0 && (c == next_of n r.0) && nat_lt c (length (commands_of w.runs r.0))
+    && suits w n r.0 (command_at w.runs r.0 c) a
     && not (n.run r.0).answered_doomed
-may_follow w n (Undid r d drove) = may_act w n r.0 && is_device w d.0 && is_doomed n r.0 && has_written n r.0 d.0 && not ((n.run r.0).on d.0).undid
+may_follow w n (Undid r d drove) =
+    may_act w n r.0 && is_device w d.0 && is_doomed n r.0 && has_written n r.0 d.0
+    && not ((n.run r.0).on d.0).undid
 may_follow w n (Fell d) = is_device w d.0 && n.up d.0
 may_follow w n (Rose d) = is_device w d.0 && not (n.up d.0)
-may_follow w n (Doomed r cause) = may_act w n r.0 && not (is_doomed n r.0) && cause_fits w n r.0 cause
-may_follow w n (Ended r Committed) = may_act w n r.0 && not (is_doomed n r.0) && (next_of n r.0 == length (commands_of w.runs r.0))
+may_follow w n (Doomed r cause) =
+    may_act w n r.0 && not (is_doomed n r.0) && cause_fits w n r.0 cause
+may_follow w n (Ended r Committed) =
+    may_act w n r.0 && not (is_doomed n r.0) && (next_of n r.0 == length (commands_of w.runs r.0))
 may_follow w n (Ended r (Aborted cause)) = may_act w n r.0 && is_cause_of n r.0 cause
 
 abbrev pub is_well_formed : Setting → List Entry → Bool

@@ -1,5 +1,5 @@
-//! The history of a window, a list that only grows, with each run's end, doom and placing found at once, and the number of
-//! its answers.
+//! The history of a window, a list that only grows, with each run's end, doom and placing found at
+//! once, and the number of its answers.
 ghost use Rattle.std.specs.Prelude.{◌≡◌, ◌+◌, ◌<◌, ◌≤◌, ◌^◌, [], ◌∷◌, ◌++◌, is_some, length, max, OnOk, OnErr, slice_get, slice_index_or};
 ghost use Rattle.history_book.specs.BookParts.{counted, entry_at, noted};
 ghost use Rattle.history_book.specs.Books.{answer_count, doom_in, doom_of, end_in, end_of, is_answer_of, placing_in, placing_of};
@@ -9,14 +9,17 @@ use home_types::{List, NoMemory, RunNo, limits};
 use std::alloc::Global;
 use std::marker::Model;
 
-/// The places that are kept: one for each run that a window may have, by its number, and the detector's 0.
+/// The places that are kept: one for each run that a window may have, by its number, and the
+/// detector's 0.
 const PLACES: usize = limits::RUNS as usize + 1;
 
-/// The history of a window. Contracts see its entries, and beside them how many more it takes with no memory.
+/// The history of a window. Contracts see its entries, and beside them how many more it takes with
+/// no memory.
 #[derive(Drop)]
 pub struct Book {
     kept: List<Kept>,
-    // the places of each run's first `Ended`, `Doomed` and `Placed` entry, so that a question about them reads no others
+    // the places of each run's first `Ended`, `Doomed` and `Placed` entry, so that a question about
+    // them reads no others
     ends: [Option<u64>; PLACES],
     dooms: [Option<u64>; PLACES],
     placings: [Option<u64>; PLACES],
@@ -51,8 +54,8 @@ impl Book {
         }
     }
 
-    /// Makes room for `n` more entries and for no more than these, or answers `NoMemory`. The entries stay in both cases,
-    /// and so does the room that there was.
+    /// Makes room for `n` more entries and for no more than these, or answers `NoMemory`. The
+    /// entries stay in both cases, and so does the room that there was.
     pub fn reserve(&mut self, n: u64) -> Result<(), NoMemory>
         ensures items { self.new.items ≡ self.old.items }
         ensures room { OnOk result (self.new.spare ≡ max self.old.spare n) }
@@ -135,7 +138,8 @@ impl Book {
         }
     }
 
-    /// How many entries stood before the first `Placed` entry of the run `r`. `None` where it has none.
+    /// How many entries stood before the first `Placed` entry of the run `r`. `None` where it has
+    /// none.
     pub fn placing_of(&self, r: RunNo) -> Option<u64>
         ensures { result ≡ placing_of self.now.items r.0 }
     {

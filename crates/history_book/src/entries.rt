@@ -10,14 +10,16 @@ pub enum Cause {
     Refuted(u32, Value),
     /// The device failed between the run's first and last command on it.
     Lost(DeviceNo),
-    /// The run kept the device past the deadline of its lease, when `lender` asked for it. Both times are in ms.
+    /// The run kept the device past the deadline of its lease, when `lender` asked for it. Both
+    /// times are in ms.
     Revoked {
         lender: RunNo,
         device: DeviceNo,
         deadline: u64,
         moment: u64,
     },
-    /// Under a strict model: the device, which the run has touched, was down when the run came to its end.
+    /// Under a strict model: the device, which the run has touched, was down when the run came to
+    /// its end.
     DownAtEnd(DeviceNo),
 }
 

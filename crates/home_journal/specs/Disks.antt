@@ -5,7 +5,8 @@ use Rattle.std.specs.Prelude.{List, drop, length, max, take, ℕ, ◌++◌, ◌+
 abbrev pub Holds : List ℕ → ℕ → List ℕ → List ℕ → Type 0
 Holds old at bytes new = new ≡ take at old ++ bytes ++ drop (at + length bytes) old
 
--- any bytes in the range and past the old end, a length between the old and the written end, and the same elsewhere
+-- any bytes in the range and past the old end, a length between the old and the written end, and
+-- the same elsewhere
 pub record Torn (at n : ℕ) (old new : List ℕ) : Type 0 where
   pub before : take at new ≡ take at old
   pub after : drop (at + n) new ≡ drop (at + n) old
@@ -24,15 +25,19 @@ NoneAdded old new = (c : List ℕ) → new c → old c
 abbrev pub LeavesThis : List ℕ → (List ℕ → Type 0) → Type 0
 LeavesThis bytes images = (c : List ℕ) → images c → c ≡ bytes
 
--- time goes on: a crash since t might have left what it might have left before, or what it may leave now
-pub record Elapses {D : Type 0} (moment : D → ℕ) (since : D → ℕ → List ℕ → Type 0) (images : D → List ℕ → Type 0)
+-- time goes on: a crash since t might have left what it might have left before, or what it may
+-- leave now
+pub record Elapses {D : Type 0} (moment : D → ℕ) (since : D → ℕ → List ℕ → Type 0)
+    (images : D → List ℕ → Type 0)
     (old new : D) : Type 0 where
   pub later : moment old ≤ moment new
-  pub nothing_else : (t : ℕ) (c : List ℕ) → t ≤ moment old → since new t c → since old t c ⊎ images new c
+  pub nothing_else : (t : ℕ) (c : List ℕ) → t ≤ moment old → since new t c
+      → since old t c ⊎ images new c
   pub keeps : (t : ℕ) (c : List ℕ) → t ≤ moment old → since old t c → since new t c
 
 -- a crash at any moment from old to new leaves what has P
-pub record LeavesOnly {D : Type 0} (moment : D → ℕ) (since : D → ℕ → List ℕ → Type 0) (old new : D) (P : List ℕ → Type 0)
+pub record LeavesOnly {D : Type 0} (moment : D → ℕ) (since : D → ℕ → List ℕ → Type 0) (old new : D)
+    (P : List ℕ → Type 0)
     : Type 0 where
   pub later : moment old ≤ moment new
   pub each : (c : List ℕ) → since new (moment old) c → P c

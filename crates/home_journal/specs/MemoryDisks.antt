@@ -11,9 +11,9 @@ pub record Unsynced : Type 0 where
   pub stable : List ℕ
   pub ranges : List Range
 
--- the bytes at the last sync; those that a read gives; the ranges written since; how both were before each call that
--- changed them, the newest first; for how many bytes there is room; how many calls were made, from which on each fails,
--- and how many have failed
+-- the bytes at the last sync; those that a read gives; the ranges written since; how both were
+-- before each call that changed them, the newest first; for how many bytes there is room; how many
+-- calls were made, from which on each fails, and how many have failed
 pub record MemoryState : Type 0 where
   pub stable : List ℕ
   pub current : List ℕ
@@ -26,12 +26,14 @@ pub record MemoryState : Type 0 where
 
 abbrev pub past_of : Option (Snapshot MemoryState) → List Unsynced
 past_of None = []
-past_of (Some before) = (record { stable = before.value.stable; ranges = before.value.ranges }) ∷ before.value.past
+past_of (Some before) =
+    (record { stable = before.value.stable; ranges = before.value.ranges }) ∷ before.value.past
 
 -- what a crash may leave of these bytes where these ranges were written since, the newest first
 abbrev pub CrashMayLeave : List ℕ → List Range → List ℕ → Type 0
 CrashMayLeave stable [] c = c ≡ stable
-CrashMayLeave stable (r ∷ ranges) c = (d : List ℕ) × CrashMayLeave stable ranges d × Torn r.at r.len d c
+CrashMayLeave stable (r ∷ ranges) c =
+    (d : List ℕ) × CrashMayLeave stable ranges d × Torn r.at r.len d c
 
 -- what a crash at the moment t or later might have left, of these moments, the newest first
 abbrev pub HadLeft : ℕ → List Unsynced → List ℕ → Type 0
@@ -50,14 +52,24 @@ none_since t (m ∷ past) c le (inl here) = absurd (omega (arith, here.0))
 none_since t (m ∷ past) c le (inr there) = none_since t past c (omega arith) there
 
 -- since the last moment there is what may be left now
-pub only_images : (m : MemoryState) (c : List ℕ) → images_since_of m (length m.past) c → images_of m c
+pub only_images : (m : MemoryState) (c : List ℕ) → images_since_of m (length m.past) c
+    → images_of m c
 only_images m c (inl now) = now
 only_images m c (inr had) = absurd (none_since (length m.past) m.past c (omega arith) had)
 
 -- a disk with these bytes, all of them synced
 abbrev pub fresh_disk : List ℕ → ℕ → Option ℕ → MemoryState
 fresh_disk bytes room fails_from =
-    record { stable = bytes; current = bytes; ranges = []; past = []; room = room; calls = 0; fails_from = fails_from; faults = 0 }
+    record {
+      stable = bytes;
+      current = bytes;
+      ranges = [];
+      past = [];
+      room = room;
+      calls = 0;
+      fails_from = fails_from;
+      faults = 0;
+    }
 
 -- the number of the next call: one more, up to 2^64 - 1
 abbrev pub next_disk_call : MemoryState → ℕ
@@ -111,10 +123,12 @@ has_room m at n = nat_le (at + n) m.room
 abbrev pub disk_write_answer : MemoryState → ℕ → ℕ → Result ⊤ Failed
 disk_write_answer m at n = if has_room m at n then call_answer m tt else Err (record {})
 
--- the disk after the next call, a write: one that is to fail writes all the same, and one with no room writes nothing
+-- the disk after the next call, a write: one that is to fail writes all the same, and one with no
+-- room writes nothing
 abbrev pub disk_after_write : MemoryState → ℕ → List ℕ → MemoryState
 disk_after_write m at bytes =
-    if has_room m at (length bytes) then after_plain_call (bytes_written at bytes m) else disk_faulted (disk_called m)
+    if has_room m at (length bytes) then after_plain_call (bytes_written at bytes m)
+    else disk_faulted (disk_called m)
 
 -- the disk after the next call, a sync
 abbrev pub after_sync : MemoryState → MemoryState

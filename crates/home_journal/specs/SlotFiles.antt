@@ -42,7 +42,8 @@ pub record IsFound (size most : ℕ) (bytes : List ℕ) (found : Found) : Type 0
   pub some : 0 < found.count → 0 < length rest
   pub shut : found.is_shut ≡ true → AreSlots size (open_slots size most bytes) bytes
   pub short : found.is_shut ≡ false → found.count < most → length rest ≤ size + 1
-  pub to_shut : found.is_shut ≡ false → found.count < most → is_to_shut (slice_get bytes (found.count * (size + 1))) ≡ true
+  pub to_shut : found.is_shut ≡ false → found.count < most
+      → is_to_shut (slice_get bytes (found.count * (size + 1))) ≡ true
 
 -- a crash leaves one of these, or what has the same open slots
 abbrev pub IsOldOrSame : (List ℕ → Type 0) → ℕ → ℕ → List (List ℕ) → List ℕ → Type 0
@@ -54,14 +55,17 @@ IsBeforeOrAfter size most bodies body c =
     (open_slots size most c ≡ bodies) ⊎ (open_slots size most c ≡ bodies ++ body ∷ [])
 
 -- bytes were read, and nothing else is changed
-pub record ReadsBytes {D : Type 0} (seen : D → List ℕ) (images : D → List ℕ → Type 0) (moment : D → ℕ)
+pub record ReadsBytes {D : Type 0} (seen : D → List ℕ) (images : D → List ℕ → Type 0)
+    (moment : D → ℕ)
     (since : D → ℕ → List ℕ → Type 0) (old new : D) : Type 0 where
   pub same : seen new ≡ seen old
   pub fewer : NoneAdded (images old) (images new)
   pub run : LeavesOnly moment since old new (images old)
 
--- a file of slots is open, of a home with devices of these kinds, and the last state that it keeps is known
-pub record IsOpen (kinds : List Kind) (size most count : ℕ) (last : List Stand) (room : ℕ) (told : Bool) (seen : List ℕ)
+-- a file of slots is open, of a home with devices of these kinds, and the last state that it keeps
+-- is known
+pub record IsOpen (kinds : List Kind) (size most count : ℕ) (last : List Stand) (room : ℕ)
+    (told : Bool) (seen : List ℕ)
     (images : List ℕ → Type 0) : Type 0 where
   pub sized : size ≡ body_size (length kinds)
   pub devices : length kinds ≤ most_devices

@@ -1,4 +1,5 @@
--- The slots of a journal's file: a gate byte each, and behind it the bytes that tell one state of the home.
+-- The slots of a journal's file: a gate byte each, and behind it the bytes that tell one state of
+-- the home.
 use Rattle.home_types.specs.Kinds.{has_value}
 use Rattle.home_types.specs.declared.kinds.Kind.{Kind}
 use Rattle.home_types.specs.declared.worlds.Stand.{Stand}
@@ -11,13 +12,14 @@ use Rattle.std.specs.Prelude.{Bool, List, None, Option, Some, [], drop, if◌the
 abbrev pub body_size : ℕ → ℕ
 body_size devices = 6 + 5 * devices
 
--- what stands behind the gates of the slots before the first that is not open, at most so many. A slot is open where its
--- gate is 1 and the gate behind it is there
+-- what stands behind the gates of the slots before the first that is not open, at most so many. A
+-- slot is open where its gate is 1 and the gate behind it is there
 abbrev pub open_slots : ℕ → ℕ → List ℕ → List (List ℕ)
 open_slots size zero bytes = []
 open_slots size (suc most) [] = []
 open_slots size (suc most) (gate ∷ rest) =
-    if (gate == 1) && nat_lt size (length rest) then take size rest ∷ open_slots size most (drop size rest) else []
+    if (gate == 1) && nat_lt size (length rest)
+    then take size rest ∷ open_slots size most (drop size rest) else []
 
 -- where a device stands, as bytes: its value, and 1 for up and 0 for down
 abbrev pub stand_bytes : Stand → List ℕ
@@ -25,9 +27,11 @@ stand_bytes s = to_le_bytes w32 s.value ++ (if s.up then 1 else 0) ∷ []
 
 -- what stands behind the gate of the slot that tells this state, of the window of this number
 abbrev pub state_bytes : ℕ → List Stand → List ℕ
-state_bytes number home = to_le_bytes w32 number ++ to_le_bytes w16 (length home) ++ flat_map stand_bytes home
+state_bytes number home =
+    to_le_bytes w32 number ++ to_le_bytes w16 (length home) ++ flat_map stand_bytes home
 
--- where devices of these kinds stand by these bytes; none where a value is not one of its kind, or a last byte above 1
+-- where devices of these kinds stand by these bytes; none where a value is not one of its kind, or
+-- a last byte above 1
 abbrev pub stands_of : List Kind → List ℕ → Option (List Stand)
 stands_of [] bytes = Some []
 stands_of (kind ∷ kinds) (a ∷ b ∷ c ∷ d ∷ up ∷ rest) =
@@ -37,10 +41,12 @@ stands_of (kind ∷ kinds) (a ∷ b ∷ c ∷ d ∷ up ∷ rest) =
     else None
 stands_of (kind ∷ kinds) bytes = None
 
--- the state that is told behind the gate of the slot of this window; none where that slot is not good
+-- the state that is told behind the gate of the slot of this window; none where that slot is not
+-- good
 abbrev pub slot_state : List Kind → ℕ → List ℕ → Option (List Stand)
 slot_state kinds number (a ∷ b ∷ c ∷ d ∷ e ∷ f ∷ rest) =
-    if (from_le_bytes w32 (a ∷ b ∷ c ∷ d ∷ []) == number) && (from_le_bytes w16 (e ∷ f ∷ []) == length kinds)
+    if (from_le_bytes w32 (a ∷ b ∷ c ∷ d ∷ []) == number)
+    && (from_le_bytes w16 (e ∷ f ∷ []) == length kinds)
     then stands_of kinds rest
     else None
 slot_state kinds number bytes = None
@@ -50,7 +56,8 @@ abbrev pub is_to_shut : Option ℕ → Bool
 is_to_shut None = true
 is_to_shut (Some gate) = gate == 1
 
--- the file once it was opened: where one slot more may be opened, and its gate is to be shut, that gate is 0
+-- the file once it was opened: where one slot more may be opened, and its gate is to be shut, that
+-- gate is 0
 abbrev pub with_shut_gate : ℕ → ℕ → List ℕ → List ℕ
 with_shut_gate size most bytes =
     let at = length (open_slots size most bytes) * (size + 1) in
@@ -58,6 +65,7 @@ with_shut_gate size most bytes =
     then take at bytes ++ 0 ∷ drop (at + 1) bytes
     else bytes
 
--- the file once one slot more is kept: this stands behind an open gate at this place, and behind it a gate that is shut
+-- the file once one slot more is kept: this stands behind an open gate at this place, and behind it
+-- a gate that is shut
 abbrev pub with_slot : ℕ → List ℕ → List ℕ → List ℕ
 with_slot at body bytes = take at bytes ++ 1 ∷ (body ++ 0 ∷ drop (at + length body + 2) bytes)

@@ -33,29 +33,36 @@ pub trait Disk {
         ensures later { faults self.old ≤ faults self.new }
         ensures failed { OnErr result (faults self.old < faults self.new) };
 
-    /// Reads the bytes from `at` on into the front of `into`, as many as are there and fit, and answers how many.
+    /// Reads the bytes from `at` on into the front of `into`, as many as are there and fit, and
+    /// answers how many.
     fn read(&mut self, at: u64, into: &mut [u8]) -> Result<usize, Failed>
         ensures fits { IfOk result (λ n. n ≤ length into.old) }
-        ensures count { told ≡ true → IfOk result (λ n. n ≡ min (length into.old) (length (seen self.old) - at)) }
-        ensures given { told ≡ true → IfOk result (λ n. take n into.new ≡ take n (drop at (seen self.old))) }
+        ensures count { told ≡ true
+            → IfOk result (λ n. n ≡ min (length into.old) (length (seen self.old) - at)) }
+        ensures given { told ≡ true
+            → IfOk result (λ n. take n into.new ≡ take n (drop at (seen self.old))) }
         ensures seen { told ≡ true → seen self.new ≡ seen self.old }
         ensures images { told ≡ true → NoneAdded (images self.old) (images self.new) }
         ensures time { told ≡ true → Elapses moment images_since images self.old self.new }
         ensures later { faults self.old ≤ faults self.new }
         ensures failed { OnErr result (faults self.old < faults self.new) };
 
-    /// Writes over what is there from `at` on, and past the end. Until a sync that succeeds, a crash may leave any bytes
-    /// in the range and past the old end; after `Failed` a read may give such bytes too.
+    /// Writes over what is there from `at` on, and past the end. Until a sync that succeeds, a
+    /// crash may leave any bytes in the range and past the old end; after `Failed` a read may give
+    /// such bytes too.
     fn write_at(&mut self, at: u64, from: &[u8]) -> Result<(), Failed>
         requires { told ≡ true → at ≤ length (seen self.old) }
-        ensures written { told ≡ true → OnOk result (Holds (seen self.old) at from.now (seen self.new)) }
+        ensures written { told ≡ true
+            → OnOk result (Holds (seen self.old) at from.now (seen self.new)) }
         ensures torn { told ≡ true → Torn at (length from.now) (seen self.old) (seen self.new) }
-        ensures images { told ≡ true → Follows (Torn at (length from.now)) (images self.old) (images self.new) }
+        ensures images { told ≡ true
+            → Follows (Torn at (length from.now)) (images self.old) (images self.new) }
         ensures time { told ≡ true → Elapses moment images_since images self.old self.new }
         ensures later { faults self.old ≤ faults self.new }
         ensures failed { OnErr result (faults self.old < faults self.new) };
 
-    /// Waits until all that was written is on the disk: from `Ok` on a crash leaves what a read gives.
+    /// Waits until all that was written is on the disk: from `Ok` on a crash leaves what a read
+    /// gives.
     fn sync(&mut self) -> Result<(), Failed>
         ensures durable { told ≡ true → OnOk result (LeavesThis (seen self.old) (images self.new)) }
         ensures seen { told ≡ true → seen self.new ≡ seen self.old }
@@ -69,8 +76,10 @@ pub trait Disk {
         ensures { told ≡ true → images self.now (seen self.now) };
 
     /// This moment is one of those since an earlier one.
-    ghost counts_now: { (disk : Self) (t : ℕ) (c : List ℕ) → t ≤ moment disk → images disk c → images_since disk t c };
+    ghost counts_now: { (disk : Self) (t : ℕ) (c : List ℕ) → t ≤ moment disk → images disk c
+        → images_since disk t c };
 
     /// Since this moment there is no other.
-    ghost only_now: { (disk : Self) (c : List ℕ) → images_since disk (moment disk) c → images disk c };
+    ghost only_now: { (disk : Self) (c : List ℕ) → images_since disk (moment disk) c
+        → images disk c };
 }

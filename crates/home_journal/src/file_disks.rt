@@ -11,7 +11,8 @@ use std::rt::Files;
 /// The name of the file, in the current folder.
 pub const FILE_NAME: &str = "home.journal";
 
-/// The file `home.journal` in the current folder. The first call opens it, and makes it where there is none.
+/// The file `home.journal` in the current folder. The first call opens it, and makes it where there
+/// is none.
 #[derive(Drop)]
 pub struct FileDisk<R: Files> {
     files: R,
@@ -32,7 +33,8 @@ impl<R: Files> FileDisk<R> {
     }
 }
 
-// Opens the file, where that is not done. A new file is also made known to the disk as one of its folder.
+// Opens the file, where that is not done. A new file is also made known to the disk as one of its
+// folder.
 fn open_first<R: Files>(files: &R, file: &mut Option<R::File>) -> io::Result<()> {
     if file.is_some() {
         return Ok(());

@@ -37,9 +37,16 @@ impl<Q: Disk> Model for Journal<Q> {
 
     ghost Value = { JournalState Q };
 
-    ghost view = { λ j. record { disk = j.disk; kinds = j.kinds.value.items; most = j.layout.most; kept = j.count; last = last_kept j.count j.last.devices.items } };
+    ghost view = { λ j. record {
+      disk = j.disk;
+      kinds = j.kinds.value.items;
+      most = j.layout.most;
+      kept = j.count;
+      last = last_kept j.count j.last.devices.items;
+    } };
 
-    ghost invariant = { λ j. IsOpen j.kinds.value.items j.layout.size j.layout.most j.count j.last.devices.items (vec_capacity j.slot) Q.told (Q.seen j.disk) (Q.images j.disk) };
+    ghost invariant = { λ j. IsOpen j.kinds.value.items j.layout.size j.layout.most j.count
+        j.last.devices.items (vec_capacity j.slot) Q.told (Q.seen j.disk) (Q.images j.disk) };
 }
 
 /// Why a journal was not opened.
@@ -49,14 +56,16 @@ pub enum OpenFault {
     NoMemory,
     /// A call of the disk failed.
     Failed,
-    /// The first slot, counted from 0, that is open and not good: its numbers are wrong, or a value is none of its kind.
+    /// The first slot, counted from 0, that is open and not good: its numbers are wrong, or a value
+    /// is none of its kind.
     Damaged(u32),
 }
 
 impl<Q: Disk> Journal<Q> {
-    /// Opens the journal on a disk that a crash may have left, for a home with devices of these kinds and a script with
-    /// at most `most` windows. It begins with a sync. Where fewer than `most` states are kept and the gate of the next
-    /// slot is missing or open, it is shut. What is kept does not change.
+    /// Opens the journal on a disk that a crash may have left, for a home with devices of these
+    /// kinds and a script with at most `most` windows. It begins with a sync. Where fewer than
+    /// `most` states are kept and the gate of the next slot is missing or open, it is shut. What is
+    /// kept does not change.
     ///
     /// All memory is taken before the disk is called: `NoMemory` leaves the disk as it is.
     pub fn open(
@@ -67,16 +76,23 @@ impl<Q: Disk> Journal<Q> {
     ) -> Result<Journal<Q>, (Q, OpenFault)>
         requires devices { length kinds.now.items ≤ most_devices }
         requires windows { most ≤ most_windows }
-        ensures home { IfOk result (λ j. (j.kinds ≡ kinds.now.items) × (j.most ≡ most) × (j.kept ≤ most)) }
-        ensures knows { Q.told ≡ true → IfOk result (λ j. KnowsKept kinds.now.items most (Q.seen disk) j.kept j.last) }
-        ensures same { Q.told ≡ true → IfOk result (λ j. states_kept Q.seen j ≡ kept_states kinds.now.items most (Q.seen disk)) }
-        ensures shut { Q.told ≡ true → IfOk result (λ j. Q.seen j.disk ≡ with_shut_gate (body_size (length kinds.now.items)) most (Q.seen disk)) }
-        ensures damaged { Q.told ≡ true → IfErr result (λ e. IsDamage e.1 (kept_states kinds.now.items most (Q.seen disk)) (Q.seen disk) (Q.seen e.0)) }
+        ensures home { IfOk result
+            (λ j. (j.kinds ≡ kinds.now.items) × (j.most ≡ most) × (j.kept ≤ most)) }
+        ensures knows { Q.told ≡ true
+            → IfOk result (λ j. KnowsKept kinds.now.items most (Q.seen disk) j.kept j.last) }
+        ensures same { Q.told ≡ true → IfOk result
+            (λ j. states_kept Q.seen j ≡ kept_states kinds.now.items most (Q.seen disk)) }
+        ensures shut { Q.told ≡ true → IfOk result (λ j. Q.seen j.disk
+            ≡ with_shut_gate (body_size (length kinds.now.items)) most (Q.seen disk)) }
+        ensures damaged { Q.told ≡ true → IfErr result (λ e. IsDamage e.1
+            (kept_states kinds.now.items most (Q.seen disk)) (Q.seen disk) (Q.seen e.0)) }
         ensures failed { IfErr result (λ e. e.1 ≡ OpenFault.Failed → Q.faults disk < Q.faults e.0) }
         ensures no_memory { IfErr result (λ e. e.1 ≡ OpenFault.NoMemory → e.0 ≡ disk) }
         ensures later { Q.faults disk ≤ Q.faults (disk_of result) }
-        // A crash at any moment of the call leaves one of the images that there were, or what keeps the same.
-        ensures any_moment { Q.told ≡ true → LeavesOldOrSame Q.seen Q.images Q.moment Q.images_since kinds.now.items most disk (disk_of result) }
+        // A crash at any moment of the call leaves one of the images that there were, or what keeps
+        // the same.
+        ensures any_moment { Q.told ≡ true → LeavesOldOrSame Q.seen Q.images Q.moment Q.images_since
+            kinds.now.items most disk (disk_of result) }
     {
         let layout = Layout::of(kinds.len(), most);
         let Ok(room) = take_room(alloc, layout, kinds.len()) else {
@@ -128,11 +144,14 @@ impl<Q: Disk> Journal<Q> {
         }
     }
 
-    /// What stands in every journal: it knows what its disk keeps, and a crash leaves all of it. It does no work.
+    /// What stands in every journal: it knows what its disk keeps, and a crash leaves all of it. It
+    /// does no work.
     pub fn settled(&self)
         ensures few { self.now.kept ≤ self.now.most }
-        ensures knows { Q.told ≡ true → KnowsKept self.now.kinds self.now.most (Q.seen self.now.disk) self.now.kept self.now.last }
-        ensures durable { Q.told ≡ true → LeavesThis (Q.seen self.now.disk) (Q.images self.now.disk) }
+        ensures knows { Q.told ≡ true → KnowsKept self.now.kinds self.now.most
+            (Q.seen self.now.disk) self.now.kept self.now.last }
+        ensures durable { Q.told ≡ true
+            → LeavesThis (Q.seen self.now.disk) (Q.images self.now.disk) }
     {
         let _ = &self.count;
     }
@@ -152,21 +171,24 @@ impl<Q: Disk> Journal<Q> {
         disk
     }
 
-    /// Keeps one more state, with two syncs. From `Ok` on every crash leaves it; a crash at any moment of the call leaves
-    /// what was kept, with the new one or without. Takes no memory.
+    /// Keeps one more state, with two syncs. From `Ok` on every crash leaves it; a crash at any
+    /// moment of the call leaves what was kept, with the new one or without. Takes no memory.
     ///
     /// After `Failed` the disk is opened again, to learn whether the state is kept.
     pub fn keep(self, world: &World) -> Result<Journal<Q>, (Q, Failed)>
         requires next { self.kept < self.most }
         requires home { IsStateOf self.kinds world.now.devices.items }
         ensures home { IfOk result (λ j. (j.kinds ≡ self.kinds) × (j.most ≡ self.most)) }
-        ensures last { IfOk result (λ j. (j.kept ≡ self.kept + 1) × (j.last ≡ Some world.now.devices.items)) }
-        ensures kept { Q.told ≡ true → IfOk result (λ j. AddsStates (states_kept Q.seen self) (states_kept Q.seen j) (world.now.devices.items ∷ [])) }
+        ensures last { IfOk result
+            (λ j. (j.kept ≡ self.kept + 1) × (j.last ≡ Some world.now.devices.items)) }
+        ensures kept { Q.told ≡ true → IfOk result (λ j. AddsStates (states_kept Q.seen self)
+            (states_kept Q.seen j) (world.now.devices.items ∷ [])) }
         ensures written { Q.told ≡ true → IfOk result (λ j. Q.seen j.disk ≡ with_slot
             (self.kept * (body_size (length self.kinds) + 1))
             (state_bytes (self.kept + 1) world.now.devices.items) (Q.seen self.disk)) }
         // A crash at any moment of the call leaves what was kept, with the new state or without.
-        ensures any_moment { Q.told ≡ true → LeavesFirst Q.seen Q.moment Q.images_since self (disk_of result) (world.now.devices.items ∷ []) }
+        ensures any_moment { Q.told ≡ true → LeavesFirst Q.seen Q.moment Q.images_since self
+            (disk_of result) (world.now.devices.items ∷ []) }
         ensures later { IfOk result (λ j. Q.faults self.disk ≤ Q.faults j.disk) }
         ensures failed { IfErr result (λ e. Q.faults self.disk < Q.faults e.0) }
     {
@@ -195,17 +217,20 @@ impl<Q: Disk> Journal<Q> {
         }
     }
 
-    /// Keeps these states, one after another. A crash at any moment of the call leaves what was kept and a first part of
-    /// these. Takes no memory.
+    /// Keeps these states, one after another. A crash at any moment of the call leaves what was
+    /// kept and a first part of these. Takes no memory.
     ///
     /// After `Failed` the disk is opened again, to learn how many of them are kept.
     pub fn keep_all(self, worlds: &List<World>) -> Result<Journal<Q>, (Q, Failed)>
         requires room { self.kept + length worlds.now.items ≤ self.most }
         requires homes { All (λ w. IsStateOf self.kinds w.devices.items) worlds.now.items }
-        ensures home { IfOk result (λ j. (j.kinds ≡ self.kinds) × (j.most ≡ self.most) × (j.kept ≡ self.kept + length worlds.now.items)) }
-        ensures kept { Q.told ≡ true → IfOk result (λ j. AddsStates (states_kept Q.seen self) (states_kept Q.seen j) (map (λ w. w.devices.items) worlds.now.items)) }
+        ensures home { IfOk result (λ j. (j.kinds ≡ self.kinds) × (j.most ≡ self.most)
+            × (j.kept ≡ self.kept + length worlds.now.items)) }
+        ensures kept { Q.told ≡ true → IfOk result (λ j. AddsStates (states_kept Q.seen self)
+            (states_kept Q.seen j) (map (λ w. w.devices.items) worlds.now.items)) }
         // A crash at any moment of the call leaves what was kept, and the first of the new states.
-        ensures any_moment { Q.told ≡ true → LeavesFirst Q.seen Q.moment Q.images_since self (disk_of result) (map (λ w. w.devices.items) worlds.now.items) }
+        ensures any_moment { Q.told ≡ true → LeavesFirst Q.seen Q.moment Q.images_since self
+            (disk_of result) (map (λ w. w.devices.items) worlds.now.items) }
         ensures later { IfOk result (λ j. Q.faults self.disk ≤ Q.faults j.disk) }
         ensures failed { IfErr result (λ e. Q.faults self.disk < Q.faults e.0) }
     {
@@ -221,7 +246,8 @@ impl<Q: Disk> Journal<Q> {
     }
 }
 
-// The room of a journal: for the bytes of a slot, for the file while it is read, and for the last state.
+// The room of a journal: for the bytes of a slot, for the file while it is read, and for the last
+// state.
 #[derive(Drop)]
 struct Room {
     slot: Vec<u8>,

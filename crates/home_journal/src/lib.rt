@@ -1,4 +1,5 @@
-// The state of a home after each of its windows, kept on a disk, so that what was acknowledged survives any crash.
+// The state of a home after each of its windows, kept on a disk, so that what was acknowledged
+// survives any crash.
 #![tactic(auto)]
 
 mod disks;

@@ -16,7 +16,8 @@ pub struct MemoryDisk {
     stable: Vec<u8>,
     current: Vec<u8>,
     room: usize,
-    // The ranges written since the last sync, and the disk as it was before: both for contracts alone.
+    // The ranges written since the last sync, and the disk as it was before: both for contracts
+    // alone.
     ranges: WrittenRanges,
     before: Option<Snapshot<MemoryDisk>>,
     // How many calls were made. From the number 2^64 - 1 on each call has that number.
@@ -31,9 +32,20 @@ impl Model for MemoryDisk {
 
     ghost Value = { MemoryState };
 
-    ghost view = { λ m. record { stable = m.stable.items; current = m.current.items; ranges = m.ranges; past = past_of m.before; room = m.room; calls = m.calls; fails_from = m.fails_from; faults = m.faults } };
+    ghost view = { λ m. record {
+      stable = m.stable.items;
+      current = m.current.items;
+      ranges = m.ranges;
+      past = past_of m.before;
+      room = m.room;
+      calls = m.calls;
+      fails_from = m.fails_from;
+      faults = m.faults;
+    } };
 
-    ghost invariant = { λ m. CrashMayLeave m.stable.items m.ranges m.current.items × (length m.current.items ≤ m.room) × (length m.stable.items ≤ m.room) × (m.room ≤ vec_capacity m.current) × (m.room ≤ vec_capacity m.stable) };
+    ghost invariant = { λ m. CrashMayLeave m.stable.items m.ranges m.current.items
+        × (length m.current.items ≤ m.room) × (length m.stable.items ≤ m.room)
+        × (m.room ≤ vec_capacity m.current) × (m.room ≤ vec_capacity m.stable) };
 
     ghost size = { λ m. length m.past };
 
@@ -43,18 +55,21 @@ impl Model for MemoryDisk {
 }
 
 impl MemoryDisk {
-    /// Makes a disk that holds `bytes`, all of them synced, and has room for `room` bytes, or for `bytes` where these
-    /// are more. Every call from number `fails_from`, counted from 1, fails; so does a write for which there is no room.
+    /// Makes a disk that holds `bytes`, all of them synced, and has room for `room` bytes, or for
+    /// `bytes` where these are more. Every call from number `fails_from`, counted from 1, fails; so
+    /// does a write for which there is no room.
     ///
-    /// The room is taken here twice, for what a read gives and for what a crash leaves; `NoMemory` comes where there is
-    /// none for it. The record of what was written takes no memory, since contracts alone read it.
+    /// The room is taken here twice, for what a read gives and for what a crash leaves; `NoMemory`
+    /// comes where there is none for it. The record of what was written takes no memory, since
+    /// contracts alone read it.
     pub fn new(
         alloc: Global,
         bytes: Bytes,
         room: u64,
         fails_from: Option<u64>,
     ) -> Result<MemoryDisk, NoMemory>
-        ensures { IfOk result (λ disk. disk ≡ fresh_disk bytes (max room (length bytes)) fails_from) }
+        ensures { IfOk result
+            (λ disk. disk ≡ fresh_disk bytes (max room (length bytes)) fails_from) }
     {
         let room = (room as usize).max(bytes.as_slice().len());
         let stable = copy_of(alloc, bytes.as_slice(), room)?;
@@ -71,12 +86,13 @@ impl MemoryDisk {
         })
     }
 
-    /// The disk as a crash leaves it, with the same room and an empty record, which fails no more: it holds the bytes
-    /// at the last sync that succeeded, or, where `kept`, those with every write made since. A write that has failed
-    /// counts as made, but for one for which there was no room.
+    /// The disk as a crash leaves it, with the same room and an empty record, which fails no more:
+    /// it holds the bytes at the last sync that succeeded, or, where `kept`, those with every write
+    /// made since. A write that has failed counts as made, but for one for which there was no room.
     pub fn crashed(self, kept: bool) -> MemoryDisk
         ensures image { images_of self result.current }
-        ensures fresh { result ≡ fresh_disk (if kept then self.current else self.stable) self.room None }
+        ensures fresh { result
+            ≡ fresh_disk (if kept then self.current else self.stable) self.room None }
     {
         let MemoryDisk {
             mut stable,
@@ -154,7 +170,8 @@ fn settle(stable: &mut Vec<u8>, current: &mut Vec<u8>, kept: bool)
     requires current { length stable.old.items ≤ vec_capacity current.old }
     ensures bytes { current.new.items ≡ (if kept then current.old.items else stable.old.items) }
     ensures same { stable.new.items ≡ current.new.items }
-    ensures room { (vec_capacity stable.old ≤ vec_capacity stable.new) × (vec_capacity current.old ≤ vec_capacity current.new) }
+    ensures room { (vec_capacity stable.old ≤ vec_capacity stable.new)
+        × (vec_capacity current.old ≤ vec_capacity current.new) }
 {
     if kept {
         copy(stable, current.as_slice());
@@ -177,7 +194,8 @@ fn copy(to: &mut Vec<u8>, from: &[u8])
 fn overwrite(to: &mut Vec<u8>, at: usize, from: &[u8])
     requires at { at ≤ length to.old.items }
     requires room { at + length from.now ≤ vec_capacity to.old }
-    ensures items { to.new.items ≡ prefix at to.old.items ++ from.now ++ drop (at + length from.now) to.old.items }
+    ensures items { to.new.items
+        ≡ prefix at to.old.items ++ from.now ++ drop (at + length from.now) to.old.items }
     ensures room { vec_capacity to.old ≤ vec_capacity to.new }
 {
     let end = at + from.len();
@@ -237,7 +255,8 @@ impl Disk for MemoryDisk {
     }
 
     fn read(&mut self, at: u64, into: &mut [u8]) -> Result<usize, Failed>
-        ensures answer { result ≡ call_answer self.old (min (length into.old) (length self.old.current - at)) }
+        ensures answer { result
+            ≡ call_answer self.old (min (length into.old) (length self.old.current - at)) }
         ensures given { IfOk result (λ n. prefix n into.new ≡ prefix n (drop at self.old.current)) }
         ensures after { self.new ≡ after_plain_call self.old }
     {

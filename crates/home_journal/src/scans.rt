@@ -17,8 +17,8 @@ pub(crate) struct Found {
     pub(crate) is_shut: bool,
 }
 
-/// Reads the slots that are open, one after another; the state of the last one is in `last` then. Answers the place of
-/// the first that is not good, where there is one.
+/// Reads the slots that are open, one after another; the state of the last one is in `last` then.
+/// Answers the place of the first that is not good, where there is one.
 pub(crate) fn scan(
     bytes: &[u8],
     layout: Layout,
@@ -30,8 +30,10 @@ pub(crate) fn scan(
     requires windows { layout.most ≤ most_windows }
     requires blank { length last.old.devices.items ≡ length kinds.now }
     ensures found { IfOk result (λ found. IsFound layout.size layout.most bytes.now found) }
-    ensures good { IfOk result (λ found. KnowsKept kinds.now layout.most bytes.now found.count (last_kept found.count last.new.devices.items)) }
-    ensures damaged { IfErr result (λ place. kept_states kinds.now layout.most bytes.now ≡ Err place) }
+    ensures good { IfOk result (λ found. KnowsKept kinds.now layout.most bytes.now found.count
+        (last_kept found.count last.new.devices.items)) }
+    ensures damaged { IfErr result
+        (λ place. kept_states kinds.now layout.most bytes.now ≡ Err place) }
     ensures blank { length last.new.devices.items ≡ length kinds.now }
 {
     let size = layout.size as usize;

@@ -14,8 +14,9 @@ use crate::states::fill_slot;
 use day_clock::Failed;
 use home_types::{Kind, Stand, World};
 
-/// Syncs, reads the file into `block`, which has room for all slots, and shuts the gate behind those that are open.
-/// Answers how many they are, or which is the first that is not good; the state of the last one is in `last` then.
+/// Syncs, reads the file into `block`, which has room for all slots, and shuts the gate behind
+/// those that are open. Answers how many they are, or which is the first that is not good; the
+/// state of the last one is in `last` then.
 pub(crate) fn prepare<Q: Disk>(
     disk: &mut Q,
     layout: Layout,
@@ -28,16 +29,25 @@ pub(crate) fn prepare<Q: Disk>(
     requires windows { layout.most ≤ most_windows }
     requires blank { length last.old.devices.items ≡ length kinds.now }
     requires block { length block.old ≡ layout.most * (layout.size + 1) + 1 }
-    ensures settled { Q.told ≡ true → IfOk result (λ found. IfOk found (λ count. IsSettled layout.size layout.most count (Q.seen disk.new) (Q.images disk.new))) }
+    ensures settled { Q.told ≡ true → IfOk result (λ found. IfOk found
+        (λ count. IsSettled layout.size layout.most count (Q.seen disk.new) (Q.images disk.new))) }
     ensures few { IfOk result (λ found. IfOk found (λ count. count ≤ layout.most)) }
-    ensures knows { Q.told ≡ true → IfOk result (λ found. IfOk found (λ count. KnowsKept kinds.now layout.most (Q.seen disk.old) count (last_kept count last.new.devices.items))) }
-    ensures shut { Q.told ≡ true → IfOk result (λ found. IfOk found (λ _. Q.seen disk.new ≡ with_shut_gate layout.size layout.most (Q.seen disk.old))) }
-    ensures damaged { Q.told ≡ true → IfOk result (λ found. IfErr found (λ place. kept_states kinds.now layout.most (Q.seen disk.old) ≡ Err place)) }
-    ensures unwritten { Q.told ≡ true → IfOk result (λ found. IfErr found (λ _. Q.seen disk.new ≡ Q.seen disk.old)) }
-    ensures same { Q.told ≡ true → IfOk result (λ found. slots_in layout (Q.seen disk.new) ≡ slots_in layout (Q.seen disk.old)) }
+    ensures knows { Q.told ≡ true → IfOk result (λ found. IfOk found (λ count. KnowsKept kinds.now
+        layout.most (Q.seen disk.old) count (last_kept count last.new.devices.items))) }
+    ensures shut { Q.told ≡ true → IfOk result (λ found. IfOk found
+        (λ _. Q.seen disk.new ≡ with_shut_gate layout.size layout.most (Q.seen disk.old))) }
+    ensures damaged { Q.told ≡ true → IfOk result (λ found. IfErr found
+        (λ place. kept_states kinds.now layout.most (Q.seen disk.old) ≡ Err place)) }
+    ensures unwritten { Q.told ≡ true
+        → IfOk result (λ found. IfErr found (λ _. Q.seen disk.new ≡ Q.seen disk.old)) }
+    ensures same { Q.told ≡ true → IfOk result
+        (λ found. slots_in layout (Q.seen disk.new) ≡ slots_in layout (Q.seen disk.old)) }
     ensures blank { length last.new.devices.items ≡ length kinds.now }
-    ensures of_kinds { IfOk result (λ found. IfOk found (λ count. 0 < count → IsStateOf kinds.now last.new.devices.items)) }
-    ensures any_moment { Q.told ≡ true → LeavesOnly Q.moment Q.images_since disk.old disk.new (IsOldOrSame (Q.images disk.old) layout.size layout.most (slots_in layout (Q.seen disk.old))) }
+    ensures of_kinds { IfOk result
+        (λ found. IfOk found (λ count. 0 < count → IsStateOf kinds.now last.new.devices.items)) }
+    ensures any_moment { Q.told ≡ true
+        → LeavesOnly Q.moment Q.images_since disk.old disk.new (IsOldOrSame (Q.images disk.old)
+        layout.size layout.most (slots_in layout (Q.seen disk.old))) }
     ensures later { Q.faults disk.old ≤ Q.faults disk.new }
     ensures failed { OnErr result (Q.faults disk.old < Q.faults disk.new) }
 {
@@ -54,9 +64,12 @@ pub(crate) fn prepare<Q: Disk>(
 // Syncs, and reads the front of the file; an empty file is not read.
 fn load<Q: Disk>(disk: &mut Q, block: &mut [u8]) -> Result<usize, Failed>
     ensures fits { IfOk result (λ n. n ≤ length block.new) }
-    ensures bytes { Q.told ≡ true → IfOk result (λ n. take n block.new ≡ take (length block.old) (Q.seen disk.old)) }
-    ensures reads { Q.told ≡ true → ReadsBytes Q.seen Q.images Q.moment Q.images_since disk.old disk.new }
-    ensures durable { Q.told ≡ true → OnOk result (LeavesThis (Q.seen disk.new) (Q.images disk.new)) }
+    ensures bytes { Q.told ≡ true
+        → IfOk result (λ n. take n block.new ≡ take (length block.old) (Q.seen disk.old)) }
+    ensures reads { Q.told ≡ true
+        → ReadsBytes Q.seen Q.images Q.moment Q.images_since disk.old disk.new }
+    ensures durable { Q.told ≡ true
+        → OnOk result (LeavesThis (Q.seen disk.new) (Q.images disk.new)) }
     ensures later { Q.faults disk.old ≤ Q.faults disk.new }
     ensures failed { OnErr result (Q.faults disk.old < Q.faults disk.new) }
 {
@@ -70,8 +83,10 @@ fn load<Q: Disk>(disk: &mut Q, block: &mut [u8]) -> Result<usize, Failed>
 
 // Syncs.
 fn sync_first<Q: Disk>(disk: &mut Q) -> Result<(), Failed>
-    ensures reads { Q.told ≡ true → ReadsBytes Q.seen Q.images Q.moment Q.images_since disk.old disk.new }
-    ensures durable { Q.told ≡ true → OnOk result (LeavesThis (Q.seen disk.new) (Q.images disk.new)) }
+    ensures reads { Q.told ≡ true
+        → ReadsBytes Q.seen Q.images Q.moment Q.images_since disk.old disk.new }
+    ensures durable { Q.told ≡ true
+        → OnOk result (LeavesThis (Q.seen disk.new) (Q.images disk.new)) }
     ensures later { Q.faults disk.old ≤ Q.faults disk.new }
     ensures failed { OnErr result (Q.faults disk.old < Q.faults disk.new) }
 {
@@ -80,7 +95,8 @@ fn sync_first<Q: Disk>(disk: &mut Q) -> Result<(), Failed>
 
 // How many bytes there are.
 fn length_of<Q: Disk>(disk: &mut Q) -> Result<u64, Failed>
-    ensures reads { Q.told ≡ true → ReadsBytes Q.seen Q.images Q.moment Q.images_since disk.old disk.new }
+    ensures reads { Q.told ≡ true
+        → ReadsBytes Q.seen Q.images Q.moment Q.images_since disk.old disk.new }
     ensures size { Q.told ≡ true → IfOk result (λ n. n ≡ length (Q.seen disk.old)) }
     ensures later { Q.faults disk.old ≤ Q.faults disk.new }
     ensures failed { OnErr result (Q.faults disk.old < Q.faults disk.new) }
@@ -91,25 +107,32 @@ fn length_of<Q: Disk>(disk: &mut Q) -> Result<u64, Failed>
 // Reads from the front on, as much as is there and fits.
 fn front_of<Q: Disk>(disk: &mut Q, block: &mut [u8]) -> Result<usize, Failed>
     ensures fits { IfOk result (λ n. n ≤ length block.new) }
-    ensures bytes { Q.told ≡ true → IfOk result (λ n. take n block.new ≡ take (length block.old) (Q.seen disk.old)) }
-    ensures reads { Q.told ≡ true → ReadsBytes Q.seen Q.images Q.moment Q.images_since disk.old disk.new }
+    ensures bytes { Q.told ≡ true
+        → IfOk result (λ n. take n block.new ≡ take (length block.old) (Q.seen disk.old)) }
+    ensures reads { Q.told ≡ true
+        → ReadsBytes Q.seen Q.images Q.moment Q.images_since disk.old disk.new }
     ensures later { Q.faults disk.old ≤ Q.faults disk.new }
     ensures failed { OnErr result (Q.faults disk.old < Q.faults disk.new) }
 {
     disk.read(0, block)
 }
 
-// Shuts the gate behind the open slots, where it is not there or is open. Where all are open nothing is written.
+// Shuts the gate behind the open slots, where it is not there or is open. Where all are open
+// nothing is written.
 fn shut_gate<Q: Disk>(disk: &mut Q, layout: Layout, found: Found) -> Result<(), Failed>
     requires size { layout.size ≤ body_size most_devices }
     requires windows { layout.most ≤ most_windows }
     requires few { found.count ≤ layout.most }
     requires found { Q.told ≡ true → IsFound layout.size layout.most (Q.seen disk.old) found }
     requires durable { Q.told ≡ true → LeavesThis (Q.seen disk.old) (Q.images disk.old) }
-    ensures settled { Q.told ≡ true → OnOk result (IsSettled layout.size layout.most found.count (Q.seen disk.new) (Q.images disk.new)) }
-    ensures same { Q.told ≡ true → OnOk result (slots_in layout (Q.seen disk.new) ≡ slots_in layout (Q.seen disk.old)) }
-    ensures shut { Q.told ≡ true → OnOk result (Q.seen disk.new ≡ with_shut_gate layout.size layout.most (Q.seen disk.old)) }
-    ensures any_moment { Q.told ≡ true → LeavesOnly Q.moment Q.images_since disk.old disk.new (λ c. slots_in layout c ≡ slots_in layout (Q.seen disk.old)) }
+    ensures settled { Q.told ≡ true → OnOk result
+        (IsSettled layout.size layout.most found.count (Q.seen disk.new) (Q.images disk.new)) }
+    ensures same { Q.told ≡ true
+        → OnOk result (slots_in layout (Q.seen disk.new) ≡ slots_in layout (Q.seen disk.old)) }
+    ensures shut { Q.told ≡ true
+        → OnOk result (Q.seen disk.new ≡ with_shut_gate layout.size layout.most (Q.seen disk.old)) }
+    ensures any_moment { Q.told ≡ true → LeavesOnly Q.moment Q.images_since disk.old disk.new
+        (λ c. slots_in layout c ≡ slots_in layout (Q.seen disk.old)) }
     ensures later { Q.faults disk.old ≤ Q.faults disk.new }
     ensures failed { OnErr result (Q.faults disk.old < Q.faults disk.new) }
 {
@@ -119,8 +142,8 @@ fn shut_gate<Q: Disk>(disk: &mut Q, layout: Layout, found: Found) -> Result<(), 
     write_synced(disk, layout.gate_of(found.count), &[0])
 }
 
-/// Keeps the state in the next slot: writes what stands behind its gate, with a gate that is not open behind that, and
-/// opens its gate once that is on the disk. Takes no memory.
+/// Keeps the state in the next slot: writes what stands behind its gate, with a gate that is not
+/// open behind that, and opens its gate once that is on the disk. Takes no memory.
 pub(crate) fn write_slot<Q: Disk>(
     disk: &mut Q,
     layout: Layout,
@@ -128,16 +151,22 @@ pub(crate) fn write_slot<Q: Disk>(
     slot: &mut Vec<u8>,
     home: &[Stand],
 ) -> Result<(), Failed>
-    requires settled { Q.told ≡ true → IsSettled layout.size layout.most count (Q.seen disk.old) (Q.images disk.old) }
+    requires settled { Q.told ≡ true
+        → IsSettled layout.size layout.most count (Q.seen disk.old) (Q.images disk.old) }
     requires next { count < layout.most }
     requires size { layout.size ≡ body_size (length home.now) }
     requires devices { length home.now ≤ most_devices }
     requires windows { layout.most ≤ most_windows }
     requires room { layout.size < vec_capacity slot.old }
-    ensures kept { Q.told ≡ true → OnOk result (slots_in layout (Q.seen disk.new) ≡ slots_in layout (Q.seen disk.old) ++ state_bytes (count + 1) home.now ∷ []) }
-    ensures written { Q.told ≡ true → OnOk result (Q.seen disk.new ≡ with_slot (count * (layout.size + 1)) (state_bytes (count + 1) home.now) (Q.seen disk.old)) }
-    ensures settled { Q.told ≡ true → OnOk result (IsSettled layout.size layout.most (count + 1) (Q.seen disk.new) (Q.images disk.new)) }
-    ensures any_moment { Q.told ≡ true → LeavesOnly Q.moment Q.images_since disk.old disk.new (IsBeforeOrAfter layout.size layout.most (slots_in layout (Q.seen disk.old)) (state_bytes (count + 1) home.now)) }
+    ensures kept { Q.told ≡ true → OnOk result (slots_in layout (Q.seen disk.new)
+        ≡ slots_in layout (Q.seen disk.old) ++ state_bytes (count + 1) home.now ∷ []) }
+    ensures written { Q.told ≡ true → OnOk result (Q.seen disk.new ≡ with_slot
+        (count * (layout.size + 1)) (state_bytes (count + 1) home.now) (Q.seen disk.old)) }
+    ensures settled { Q.told ≡ true → OnOk result
+        (IsSettled layout.size layout.most (count + 1) (Q.seen disk.new) (Q.images disk.new)) }
+    ensures any_moment { Q.told ≡ true
+        → LeavesOnly Q.moment Q.images_since disk.old disk.new (IsBeforeOrAfter layout.size
+        layout.most (slots_in layout (Q.seen disk.old)) (state_bytes (count + 1) home.now)) }
     ensures room { layout.size < vec_capacity slot.new }
     ensures small { All (λ s. s.value < 2 ^ 32) home.now }
     ensures later { Q.faults disk.old ≤ Q.faults disk.new }
@@ -153,9 +182,12 @@ pub(crate) fn write_slot<Q: Disk>(
 fn write_synced<Q: Disk>(disk: &mut Q, at: u64, from: &[u8]) -> Result<(), Failed>
     requires at { Q.told ≡ true → at ≤ length (Q.seen disk.old) }
     requires durable { Q.told ≡ true → LeavesThis (Q.seen disk.old) (Q.images disk.old) }
-    ensures written { Q.told ≡ true → OnOk result (Holds (Q.seen disk.old) at from.now (Q.seen disk.new)) }
-    ensures durable { Q.told ≡ true → OnOk result (LeavesThis (Q.seen disk.new) (Q.images disk.new)) }
-    ensures any_moment { Q.told ≡ true → LeavesOnly Q.moment Q.images_since disk.old disk.new (Torn at (length from.now) (Q.seen disk.old)) }
+    ensures written { Q.told ≡ true
+        → OnOk result (Holds (Q.seen disk.old) at from.now (Q.seen disk.new)) }
+    ensures durable { Q.told ≡ true
+        → OnOk result (LeavesThis (Q.seen disk.new) (Q.images disk.new)) }
+    ensures any_moment { Q.told ≡ true → LeavesOnly Q.moment Q.images_since disk.old disk.new
+        (Torn at (length from.now) (Q.seen disk.old)) }
     ensures later { Q.faults disk.old ≤ Q.faults disk.new }
     ensures failed { OnErr result (Q.faults disk.old < Q.faults disk.new) }
 {

@@ -31,8 +31,8 @@ pub(crate) fn copy_state(to: &mut World, from: &[Stand])
     }
 }
 
-/// Puts what stands behind the gate of the slot of this state, and a gate that is not open, in place of the bytes that
-/// are there. Takes no memory.
+/// Puts what stands behind the gate of the slot of this state, and a gate that is not open, in
+/// place of the bytes that are there. Takes no memory.
 pub(crate) fn fill_slot(slot: &mut Vec<u8>, number: u32, home: &[Stand])
     requires room { body_size (length home.now) < vec_capacity slot.old }
     requires devices { length home.now ≤ most_devices }
@@ -71,11 +71,12 @@ fn put(bytes: &mut Vec<u8>, more: &[u8])
     done.unwrap();
 }
 
-/// Reads what stands behind the gate of the slot of this window, and tells whether the slot is good: the state is in
-/// `home` then, which has as many devices as there are kinds.
+/// Reads what stands behind the gate of the slot of this window, and tells whether the slot is
+/// good: the state is in `home` then, which has as many devices as there are kinds.
 pub(crate) fn read_state(body: &[u8], number: u32, kinds: &[Kind], home: &mut World) -> bool
     requires devices { length home.old.devices.items ≡ length kinds.now }
-    ensures good { result ≡ true → slot_state kinds.now number body.now ≡ Some home.new.devices.items }
+    ensures good { result ≡ true
+        → slot_state kinds.now number body.now ≡ Some home.new.devices.items }
     ensures bad { result ≡ false → slot_state kinds.now number body.now ≡ None }
     ensures devices { length home.new.devices.items ≡ length kinds.now }
 {
@@ -91,7 +92,8 @@ pub(crate) fn read_state(body: &[u8], number: u32, kinds: &[Kind], home: &mut Wo
     read_stands(stands, kinds, home)
 }
 
-// Reads where the devices stand, and tells whether each value is one of its kind and each last byte 0 or 1.
+// Reads where the devices stand, and tells whether each value is one of its kind and each last byte
+// 0 or 1.
 fn read_stands(stands: &[u8], kinds: &[Kind], home: &mut World) -> bool
     requires devices { length home.old.devices.items ≡ length kinds.now }
     ensures good { result ≡ true → stands_of kinds.now stands.now ≡ Some home.new.devices.items }

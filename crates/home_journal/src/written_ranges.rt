@@ -1,4 +1,5 @@
-//! The ranges of a disk that were written. They are for contracts alone: the program keeps no more than the newest.
+//! The ranges of a disk that were written. They are for contracts alone: the program keeps no more
+//! than the newest.
 ghost use Rattle.std.specs.Prelude.{◌≡◌, [], ◌∷◌};
 ghost use Rattle.home_journal.specs.WrittenRanges.{Range};
 

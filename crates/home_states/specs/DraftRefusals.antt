@@ -18,7 +18,8 @@ use Rattle.std.specs.Prelude.{IsUtf8, List, Option, Some, [], false, length, ℕ
 
 -- the text tells no time at which the next window may be
 abbrev pub TellsNoTime : Script → List ℕ → Type 0
-TellsNoTime script text = IsUtf8 text → (at : When) → time_of text ≡ Some at → is_later_than_last script at ≡ false
+TellsNoTime script text =
+    IsUtf8 text → (at : When) → time_of text ≡ Some at → is_later_than_last script at ≡ false
 
 abbrev pub CannotBeginIn : Script → List ℕ → ℕ → NotBegun → Type 0
 CannotBeginIn script text probes IsInWindow = ⊥

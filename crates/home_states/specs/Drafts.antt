@@ -16,7 +16,8 @@ use Rattle.routine_reader.specs.declared.scripts.Script.{Script}
 use Rattle.std.specs.Prelude.{List, None, Option, Some, false, length, slice_get, true, ℕ, ◌≡◌, ◌≤◌}
 
 -- a window without runs stands last in the script, at the time that the text tells
-pub record HasBegunWindow (s : LiveState) (text : List ℕ) (probes k : ℕ) (t : LiveState) : Type 0 where
+pub record HasBegunWindow (s : LiveState) (text : List ℕ) (probes k : ℕ)
+    (t : LiveState) : Type 0 where
   pub at : When
   pub script : Script
   pub between : IsBetweenWindows s
@@ -25,14 +26,16 @@ pub record HasBegunWindow (s : LiveState) (text : List ℕ) (probes k : ℕ) (t 
   pub is : t ≡ record s { script = script; is_draft = true; closed = None }
 
 -- the window that was begun has one run more
-pub record HasAddedRun (s : LiveState) (routine : ℕ) (follows : Option RunNo) (r : ℕ) (t : LiveState) : Type 0 where
+pub record HasAddedRun (s : LiveState) (routine : ℕ) (follows : Option RunNo) (r : ℕ)
+    (t : LiveState) : Type 0 where
   pub script : Script
   pub draft : s.is_draft ≡ true
   pub added : HasRun s.script routine follows r script
   pub is : t ≡ record s { script = script }
 
 -- the device stands for the home where it was found, and is up
-pub record WasRestood (home : HomeState HandedDevice) (d value : ℕ) (after : HomeState HandedDevice) : Type 0 where
+pub record WasRestood (home : HomeState HandedDevice) (d value : ℕ)
+    (after : HomeState HandedDevice) : Type 0 where
   pub device : HandedDevice
   pub stood : slice_get home.devices d ≡ Some device
   pub has : has_value (kind_at home.kinds d) value ≡ true

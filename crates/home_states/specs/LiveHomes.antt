@@ -14,7 +14,8 @@ use Rattle.routine_reader.specs.Sound.{IsSound}
 use Rattle.routine_reader.specs.declared.scripts.Script.{Script}
 use Rattle.std.specs.Prelude.{Bool, IsTrue, List, None, Ok, Option, Some, [], false, ℕ, ⊤, ◌≡◌}
 
--- what a live home shows: its script, the mode of its windows, what it is in, whether the last window was begun and none opened since, the window closed last, and the text made last
+-- what a live home shows: its script, the mode of its windows, what it is in, whether the last
+-- window was begun and none opened since, the window closed last, and the text made last
 pub record LiveState : Type 0 where
   pub script : Script
   pub mode : Mode
@@ -62,7 +63,8 @@ hub_of Moving = None
 abbrev pub hub_in : LiveState → Option (OpenHub HandedDevice)
 hub_in s = hub_of s.phase
 
--- a live home as it begins: the bytes are read as its script, every device is up at its start, and no window was opened
+-- a live home as it begins: the bytes are read as its script, every device is up at its start, and
+-- no window was opened
 pub record BeginsAs (bytes : List ℕ) (mode : Mode) (s : LiveState) : Type 0 where
   pub home : HomeState HandedDevice
   pub reading : script_reading bytes ≡ Ok (plain_script s.script)

@@ -33,13 +33,16 @@ faults_of device = device.faults
 
 -- the window of the script with this number, on the home as it is
 abbrev pub live_setting_on : Script → Mode → ℕ → HomeState HandedDevice → Setting
-live_setting_on script mode k home = record { runs = script_runs script k; mode = mode; kinds = home.kinds; first = home.world }
+live_setting_on script mode k home =
+    record { runs = script_runs script k; mode = mode; kinds = home.kinds; first = home.world }
 
 -- that window was opened on the home, with the rounds of probes that the script says
-pub record IsOpenedOn (script : Script) (mode : Mode) (k : ℕ) (home : HomeState HandedDevice) (hub : OpenHub HandedDevice) : Type 0 where
+pub record IsOpenedOn (script : Script) (mode : Mode) (k : ℕ) (home : HomeState HandedDevice)
+    (hub : OpenHub HandedDevice) : Type 0 where
   pub window : WindowText
   pub at : slice_get script.windows.items k ≡ Some window
-  pub opened : IsOpened handed_turns handed_probes faults_of (live_setting_on script mode k home) window.probes home hub
+  pub opened : IsOpened handed_turns handed_probes faults_of
+      (live_setting_on script mode k home) window.probes home hub
 
 -- why it cannot be
 abbrev pub CannotOpen : Script → ℕ → HomeState HandedDevice → NotOpened → Type 0
@@ -73,8 +76,12 @@ pub record HasClosed (s t : LiveState) : Type 0 where
   pub was : s.phase ≡ InWindow number hub
   pub is_closed : WindowIsClosed handed_turns handed_probes faults_of hub home closed
   pub quiet : not_quiet (configuration_of hub) ≡ None
-  pub sealed : is_weak hub.setting.mode ≡ false → BeginsWithSealed hub.setting (history_of closed) closed.order.items
-  pub is : t ≡ record s { phase = Between home; closed = Some (record { number = number; closed = closed }) }
+  pub sealed : is_weak hub.setting.mode ≡ false
+      → BeginsWithSealed hub.setting (history_of closed) closed.order.items
+  pub is : t ≡ record s {
+    phase = Between home;
+    closed = Some (record { number = number; closed = closed });
+  }
 
 -- why it cannot be closed
 abbrev pub MayNotCloseIn : Phase → NotClosed → Type 0

@@ -24,7 +24,8 @@ use Rattle.lock_leasing.specs.Configurations.{read_of}
 use Rattle.std.specs.Prelude.{Option, Some, option_map, slice_get, ℕ, ◌≡◌}
 
 -- the window in which the live home was goes on as this hub, and nothing else is changed
-pub record WindowGoesOn (s : LiveState) (hub : OpenHub HandedDevice) (next : OpenHub HandedDevice) (t : LiveState) : Type 0 where
+pub record WindowGoesOn (s : LiveState) (hub : OpenHub HandedDevice) (next : OpenHub HandedDevice)
+    (t : LiveState) : Type 0 where
   pub number : ℕ
   pub was : s.phase ≡ InWindow number hub
   pub is : t ≡ record s { phase = InWindow number next }
@@ -42,7 +43,8 @@ pub record HasTaken (s : LiveState) (r m : ℕ) (taken : Taken) (t : LiveState) 
   pub told : taken ≡ taken_of turn
 
 -- the device was out with this ticket, told this, and is back
-pub record HasAnswered (s : LiveState) (d ticket : ℕ) (told : Told) (m : ℕ) (made : Made) (t : LiveState) : Type 0 where
+pub record HasAnswered (s : LiveState) (d ticket : ℕ) (told : Told) (m : ℕ) (made : Made)
+    (t : LiveState) : Type 0 where
   pub hub : OpenHub HandedDevice
   pub next : OpenHub HandedDevice
   pub goes : WindowGoesOn s hub next t
@@ -52,14 +54,16 @@ pub record HasAnswered (s : LiveState) (d ticket : ℕ) (told : Told) (m : ℕ) 
 abbrev pub IsNoAnswerIn : Phase → ℕ → ℕ → Told → NotAnswered → Type 0
 IsNoAnswerIn (Between home) d ticket told why = why ≡ NoWindow
 IsNoAnswerIn (InWindow k hub) d ticket told NoWindow = ⊥
-IsNoAnswerIn (InWindow k hub) d ticket told (NotTaken why) = refusal (kept_of (slice_get hub.places d)) ticket told ≡ Some why
+IsNoAnswerIn (InWindow k hub) d ticket told (NotTaken why) =
+    refusal (kept_of (slice_get hub.places d)) ticket told ≡ Some why
 IsNoAnswerIn Moving d ticket told why = ⊥
 
 abbrev pub IsNoAnswer : LiveState → ℕ → ℕ → Told → NotAnswered → Type 0
 IsNoAnswer s d ticket told why = IsNoAnswerIn s.phase d ticket told why
 
 -- a probe of the device went out, with this slip and this task, or none may
-pub record HasProbed (s : LiveState) (d : ℕ) (probe : Option SlipAndTask) (t : LiveState) : Type 0 where
+pub record HasProbed (s : LiveState) (d : ℕ) (probe : Option SlipAndTask)
+    (t : LiveState) : Type 0 where
   pub hub : OpenHub HandedDevice
   pub next : OpenHub HandedDevice
   pub goes : WindowGoesOn s hub next t

@@ -15,12 +15,14 @@ use std::alloc::Global;
 use std::str;
 
 impl LiveHome {
-    /// Appends a window without runs to the script, at the time that the text tells and with so many rounds of probes,
-    /// and answers its number, from 0. The record of the window closed last cannot be asked for from then on.
+    /// Appends a window without runs to the script, at the time that the text tells and with so
+    /// many rounds of probes, and answers its number, from 0. The record of the window closed last
+    /// cannot be asked for from then on.
     ///
-    /// Refused in a window, where the text is no time or one that is not later than that of the window before, and where
-    /// the window would have too many rounds of probes. A script has at most the windows of a day: those of a full day
-    /// are dropped, and the new one is the first of the next.
+    /// Refused in a window, where the text is no time or one that is not later than that of the
+    /// window before, and where the window would have too many rounds of probes. A script has at
+    /// most the windows of a day: those of a full day are dropped, and the new one is the first of
+    /// the next.
     pub fn begin_window(&mut self, alloc: Global, at: &[u8], probes: u32) -> Result<u32, NotBegun>
         ensures begun { IfOk result (λ k. HasBegunWindow self.old at.now probes k self.new) }
         ensures refused { IfErr result (λ why. MayNotBegin self.old at.now probes why) }
@@ -46,11 +48,12 @@ impl LiveHome {
         }
     }
 
-    /// Appends a run of the routine, counted from 0, to the window that was begun last, and answers its number there,
-    /// from 1. It waits for the end of the run that it follows.
+    /// Appends a run of the routine, counted from 0, to the window that was begun last, and answers
+    /// its number there, from 1. It waits for the end of the run that it follows.
     ///
-    /// Refused where no window was begun since one was opened, where there is no such routine, where the run that is
-    /// followed is not before it, and where the window has as many runs as it may.
+    /// Refused where no window was begun since one was opened, where there is no such routine,
+    /// where the run that is followed is not before it, and where the window has as many runs as it
+    /// may.
     pub fn add_run(&mut self, routine: u32, follows: Option<RunNo>) -> Result<RunNo, NotBegun>
         ensures added { IfOk result (λ r. HasAddedRun self.old routine follows r.0 self.new) }
         ensures refused { IfErr result (λ why. MayNotAdd self.old routine follows why) }
@@ -69,9 +72,11 @@ impl LiveHome {
         }
     }
 
-    /// Tells the home, between two windows, that the device was found up at this value, as somebody turned it by hand.
+    /// Tells the home, between two windows, that the device was found up at this value, as somebody
+    /// turned it by hand.
     ///
-    /// Refused in a window, where the home has no such device, and where the device has no such value.
+    /// Refused in a window, where the home has no such device, and where the device has no such
+    /// value.
     pub fn restand(&mut self, d: DeviceNo, value: Value) -> Result<(), NotRestood>
         ensures restood { IfOk result (λ _. HasRestood self.old d.0 value self.new) }
         ensures refused { IfErr result (λ why. MayNotRestand self.old d.0 value why) }

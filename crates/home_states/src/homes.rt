@@ -35,10 +35,11 @@ pub struct ClosedWindow {
     pub closed: WindowRecord,
 }
 
-/// A home with its script, between its windows or in one. Its device calls are made elsewhere, and their answers are
-/// handed in.
+/// A home with its script, between its windows or in one. Its device calls are made elsewhere, and
+/// their answers are handed in.
 ///
-/// The type keeps that it is in a window or between two, and that its home is of the script's kinds of devices.
+/// The type keeps that it is in a window or between two, and that its home is of the script's kinds
+/// of devices.
 #[derive(Drop)]
 pub struct LiveHome {
     pub(crate) script: LiveScript,
@@ -57,20 +58,35 @@ impl Model for LiveHome {
 
     ghost Value = { LiveState };
 
-    ghost view = { λ s. record { script = s.script; mode = s.mode; phase = s.phase; is_draft = s.is_draft; closed = s.closed; text = s.text } };
+    ghost view = { λ s. record {
+      script = s.script;
+      mode = s.mode;
+      phase = s.phase;
+      is_draft = s.is_draft;
+      closed = s.closed;
+      text = s.text;
+    } };
 
-    ghost invariant = { λ s. IsLive (record { script = s.script; mode = s.mode; phase = s.phase; is_draft = s.is_draft; closed = s.closed; text = s.text }) };
+    ghost invariant = { λ s. IsLive (record {
+      script = s.script;
+      mode = s.mode;
+      phase = s.phase;
+      is_draft = s.is_draft;
+      closed = s.closed;
+      text = s.text;
+    }) };
 }
 
 impl LiveHome {
-    /// Reads the script, and builds its home: every device up at its start, and no window open. All windows are opened
-    /// in this mode.
+    /// Reads the script, and builds its home: every device up at its start, and no window open. All
+    /// windows are opened in this mode.
     ///
     /// Answers why the script is refused, also `NoMemory`, which may come at any point.
     pub fn open(alloc: Global, bytes: &[u8], mode: Mode) -> Result<LiveHome, ReadFault>
         requires goes { IsTrue (is_mode mode) }
         ensures opened { IfOk result (λ live. BeginsAs bytes.now mode live) }
-        ensures refused { IfErr result (λ fault. is_memory fault ≡ false → script_reading bytes.now ≡ Err fault) }
+        ensures refused { IfErr result
+            (λ fault. is_memory fault ≡ false → script_reading bytes.now ≡ Err fault) }
     {
         let text = match Bytes::of(alloc, &[]) {
             Ok(text) => text,

@@ -1,4 +1,5 @@
-// A home that is stepped from outside, its device calls made elsewhere: between its windows, or in one.
+// A home that is stepped from outside, its device calls made elsewhere: between its windows, or in
+// one.
 #![tactic(auto)]
 
 mod drafts;

@@ -18,10 +18,11 @@ use std::mem;
 const WINDOWS_OF_A_HOME: u32 = 1 << 31;
 
 impl LiveHome {
-    /// Opens the window of the script with this number, counted from 0. Takes all memory of the window.
+    /// Opens the window of the script with this number, counted from 0. Takes all memory of the
+    /// window.
     ///
-    /// Refused in a window, where there is no such window, where the home has had as many windows as it may, and where
-    /// there is no memory: then nothing has changed.
+    /// Refused in a window, where there is no such window, where the home has had as many windows
+    /// as it may, and where there is no memory: then nothing has changed.
     pub fn window(&mut self, alloc: Global, number: u32) -> Result<(), NotOpened>
         ensures opened { IfOk result (λ _. HasOpened self.old number self.new) }
         ensures refused { IfErr result (λ why. MayNotOpen self.old number why) }
@@ -52,7 +53,8 @@ impl LiveHome {
 
     /// Closes the window that is open, whose record can then be asked for.
     ///
-    /// Refused where none is open, and where something is left to do: then nothing has changed. Takes no memory.
+    /// Refused where none is open, and where something is left to do: then nothing has changed.
+    /// Takes no memory.
     pub fn close_window(&mut self) -> Result<(), NotClosed>
         ensures closed { IfOk result (λ _. HasClosed self.old self.new) }
         ensures refused { IfErr result (λ why. MayNotClose self.old why) }

@@ -7,7 +7,8 @@ use crate::refusals::NotStanding;
 use home_types::{DeviceNo, Stand, Value};
 
 impl LiveHome {
-    /// How the device stands between two windows. Refused in a window, and of a device that there is not.
+    /// How the device stands between two windows. Refused in a window, and of a device that there
+    /// is not.
     pub fn stand(&self, d: DeviceNo) -> Result<Stand, NotStanding>
         ensures stands { IfOk result (λ stand. DeviceStandsAt self.now d.0 stand) }
         ensures refused { IfErr result (λ why. MayNotStand self.now d.0 why) }

@@ -13,8 +13,9 @@ use hub_core::NotQuiet;
 use hub_table::Taken;
 
 impl LiveHome {
-    /// Makes the step of the run at this moment, in ms from the window's beginning, or at the last one where that is
-    /// later. `None` where no window is open, and then nothing has changed. Takes no memory.
+    /// Makes the step of the run at this moment, in ms from the window's beginning, or at the last
+    /// one where that is later. `None` where no window is open, and then nothing has changed. Takes
+    /// no memory.
     pub fn take(&mut self, r: RunNo, moment: u64) -> Option<Taken>
         ensures taken { IfSome result (λ taken. HasTaken self.old r.0 moment taken self.new) }
         ensures none { IfNone result (IsBetweenWindows self.old) }
@@ -27,10 +28,11 @@ impl LiveHome {
         }
     }
 
-    /// Hands in what the device told elsewhere to the call with this ticket, at this moment, in ms, or at the last one
-    /// where that is later, and answers the entries that it makes.
+    /// Hands in what the device told elsewhere to the call with this ticket, at this moment, in ms,
+    /// or at the last one where that is later, and answers the entries that it makes.
     ///
-    /// Where it is refused nothing has changed, and a device that is out stays out. Takes no memory.
+    /// Where it is refused nothing has changed, and a device that is out stays out. Takes no
+    /// memory.
     pub fn answer(
         &mut self,
         d: DeviceNo,
@@ -38,7 +40,8 @@ impl LiveHome {
         told: Told,
         moment: u64,
     ) -> Result<Made, NotAnswered>
-        ensures answered { IfOk result (λ made. HasAnswered self.old d.0 ticket told moment made self.new) }
+        ensures answered { IfOk result
+            (λ made. HasAnswered self.old d.0 ticket told moment made self.new) }
         ensures refused { IfErr result (λ why. IsNoAnswer self.old d.0 ticket told why) }
         ensures same { IfErr result (λ _. self.new ≡ self.old) }
     {
@@ -52,8 +55,8 @@ impl LiveHome {
         }
     }
 
-    /// Sends a probe to the device, where one may be sent, and tells its slip and its task. `None` where no window is
-    /// open, and then nothing has changed. Takes no memory.
+    /// Sends a probe to the device, where one may be sent, and tells its slip and its task. `None`
+    /// where no window is open, and then nothing has changed. Takes no memory.
     pub fn probe(&mut self, d: DeviceNo) -> Option<Option<(Slip, Task)>>
         ensures probed { IfSome result (λ probe. HasProbed self.old d.0 probe self.new) }
         ensures none { IfNone result (IsBetweenWindows self.old) }
@@ -66,7 +69,8 @@ impl LiveHome {
         }
     }
 
-    /// Whether the run is known to wait, at every moment, until another step may free it. `None` where no window is open.
+    /// Whether the run is known to wait, at every moment, until another step may free it. `None`
+    /// where no window is open.
     pub fn is_blocked(&self, r: RunNo) -> Option<bool>
         ensures blocked { IfSome result (λ yes. IsTrue yes → IsBlockedRun self.now r.0) }
         ensures none { IfNone result (IsBetweenWindows self.now) }
@@ -78,8 +82,8 @@ impl LiveHome {
         }
     }
 
-    /// Why the window cannot be closed yet: the smallest run that has not ended, else the smallest device that is out.
-    /// `None` where no window is open.
+    /// Why the window cannot be closed yet: the smallest run that has not ended, else the smallest
+    /// device that is out. `None` where no window is open.
     pub fn quiet(&self) -> Option<Option<NotQuiet>>
         ensures quiet { result ≡ left_to_do (hub_in self.now) }
         ensures none { IfNone result (hub_in self.now ≡ None) }

@@ -1,4 +1,5 @@
-//! The texts that a live home makes: of the window closed last, of an entry, of the head of its record.
+//! The texts that a live home makes: of the window closed last, of an entry, of the head of its
+//! record.
 ghost use Rattle.std.specs.Prelude.{◌≡◌, Err, IfErr, IfOk, None, length, slice_get};
 ghost use Rattle.day_report.specs.Days as said;
 ghost use Rattle.home_states.specs.Texts.{HasToldEntry, HasToldWindow, IsEntryText, window_entries_told};
@@ -18,10 +19,11 @@ impl LiveHome {
         self.text.as_slice()
     }
 
-    /// Makes the text of the window that was closed last, as a record has it, and with its trace where that is asked for.
+    /// Makes the text of the window that was closed last, as a record has it, and with its trace
+    /// where that is asked for.
     ///
-    /// Refused where no window was closed since the last one was begun or opened, or there is no memory; it may be asked
-    /// again.
+    /// Refused where no window was closed since the last one was begun or opened, or there is no
+    /// memory; it may be asked again.
     pub fn tell_window(&mut self, alloc: Global, trace: bool) -> Result<(), NotTold>
         ensures told { IfOk result (λ _. HasToldWindow self.old trace self.new) }
         ensures absent { result ≡ Err NotTold.Absent → self.old.closed ≡ None }
@@ -49,7 +51,8 @@ impl LiveHome {
 
     /// Makes the head of a record of this home's windows: its two lines.
     pub fn tell_head(&mut self, alloc: Global) -> Result<(), NotTold>
-        ensures told { IfOk result (λ _. self.new ≡ record self.old { text = said.head_text self.old.mode }) }
+        ensures told { IfOk result
+            (λ _. self.new ≡ record self.old { text = said.head_text self.old.mode }) }
         ensures same { IfErr result (λ _. self.new ≡ self.old) }
     {
         match head_text(alloc, self.mode) {
@@ -61,7 +64,8 @@ impl LiveHome {
         }
     }
 
-    /// How many entries the window that is open has so far, or the one closed last where none is open.
+    /// How many entries the window that is open has so far, or the one closed last where none is
+    /// open.
     pub fn entry_count(&self) -> u64
         ensures { result ≡ length (window_entries_told self.now) }
     {
@@ -75,7 +79,8 @@ impl LiveHome {
         }
     }
 
-    /// The entry at this place, counted from 0, of the window that is open, or of the one closed last where none is.
+    /// The entry at this place, counted from 0, of the window that is open, or of the one closed
+    /// last where none is.
     pub fn entry(&self, at: u64) -> Option<Kept>
         ensures { result ≡ slice_get (window_entries_told self.now) at }
     {

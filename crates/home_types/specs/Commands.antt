@@ -44,19 +44,24 @@ up_at v = record { value = v; up = true }
 -- on a device that is up at the value x
 abbrev pub up_effect : Kind → Job → ℕ → ℕ → Effect
 up_effect kind (Set v) register x = record { answer = Fine; register = register; stand = up_at v }
-up_effect kind (Check v) register x = record { answer = Found x; register = register; stand = up_at x }
+up_effect kind (Check v) register x =
+    record { answer = Found x; register = register; stand = up_at x }
 up_effect kind Load register x = record { answer = Found x; register = x; stand = up_at x }
-up_effect kind Store register x = record { answer = Fine; register = register; stand = up_at (nearest kind register) }
+up_effect kind Store register x =
+    record { answer = Fine; register = register; stand = up_at (nearest kind register) }
 
 -- a device that is down answers so, and nothing changes
 abbrev pub done_effect : Kind → Job → ℕ → Stand → Effect
 done_effect kind job register s =
-    if s.up then up_effect kind job register s.value else record { answer = Down; register = register; stand = s }
+    if s.up then up_effect kind job register s.value
+    else record { answer = Down; register = register; stand = s }
 
--- where the guard does not hold the command is skipped, and nothing changes, on an up or a down device
+-- where the guard does not hold the command is skipped, and nothing changes, on an up or a down
+-- device
 abbrev pub command_effect : Kind → Guard → Job → ℕ → Stand → Effect
 command_effect kind guard job register s =
-    if holds guard register then done_effect kind job register s else record { answer = Skipped; register = register; stand = s }
+    if holds guard register then done_effect kind job register s
+    else record { answer = Skipped; register = register; stand = s }
 
 -- a must command with this answer has failed: it is Down, or a check found another value
 abbrev pub refutes : Job → Answer → Bool
@@ -106,8 +111,12 @@ with_effect x c e =
     }
 
 abbrev pub execute : List Kind → Execution → Command → Execution
-execute kinds x c = with_effect x c (command_effect (kind_at kinds c.device.0) c.when c.job x.register (stand_at x.home c.device.0))
+execute kinds x c =
+    with_effect x c
+    (command_effect (kind_at kinds c.device.0) c.when c.job x.register (stand_at x.home c.device.0))
 
 -- the execution of a whole routine: its commands in order, from the register 0
 abbrev pub routine_execution : List Kind → List Command → List Stand → Execution
-routine_execution kinds commands home = fold (execute kinds) (record { home = home; register = 0; answers = []; refused = false }) commands
+routine_execution kinds commands home =
+    fold (execute kinds)
+    (record { home = home; register = 0; answers = []; refused = false }) commands

@@ -30,4 +30,5 @@ Meet a b = (d : DeviceId) × (set.contains a d ≡ true) × (set.contains b d �
 -- the smallest number from this one on that passes the test; none where none passes
 abbrev pub IsFirstFrom : (ℕ → Bool) → ℕ → Option ℕ → Type 0
 IsFirstFrom test from None = (q : ℕ) → from ≤ q → test q ≡ false
-IsFirstFrom test from (Some d) = (from ≤ d) × (test d ≡ true) × ((q : ℕ) → from ≤ q → q < d → test q ≡ false)
+IsFirstFrom test from (Some d) =
+    (from ≤ d) × (test d ≡ true) × ((q : ℕ) → from ≤ q → q < d → test q ≡ false)

@@ -9,7 +9,8 @@ abbrev pub has_value : Kind → ℕ → Bool
 has_value (States n) v = nat_lt v n
 has_value (Range low high) v = nat_le low v && nat_le v high
 
--- the value of the kind that is nearest: the smaller of it and the last state, or brought into the range
+-- the value of the kind that is nearest: the smaller of it and the last state, or brought into the
+-- range
 abbrev pub nearest : Kind → ℕ → ℕ
 nearest (States n) v = min v (n - 1)
 nearest (Range low high) v = max (min v high) low

@@ -75,7 +75,8 @@ impl Routine {
         })
     }
 
-    /// The same routine for one more owner: no command is copied. `NoMemory` where it has 2^63 owners.
+    /// The same routine for one more owner: no command is copied. `NoMemory` where it has 2^63
+    /// owners.
     pub fn share(&self) -> Result<Routine, NoMemory>
         ensures { IfOk result (λ routine. routine ≡ self.now) }
     {

@@ -75,7 +75,8 @@ impl DeviceSet {
 
     /// The devices that are in both. Looks at four words.
     pub fn both(&self, other: &DeviceSet) -> DeviceSet
-        ensures { (d : ℕ) → set.contains result d ≡ (set.contains self.now d && set.contains other.now d) }
+        ensures { (d : ℕ) → set.contains result d
+            ≡ (set.contains self.now d && set.contains other.now d) }
     {
         DeviceSet {
             words: [
@@ -89,7 +90,8 @@ impl DeviceSet {
 
     /// The devices that are in one of them. Looks at four words.
     pub fn either(&self, other: &DeviceSet) -> DeviceSet
-        ensures { (d : ℕ) → set.contains result d ≡ (set.contains self.now d || set.contains other.now d) }
+        ensures { (d : ℕ) → set.contains result d
+            ≡ (set.contains self.now d || set.contains other.now d) }
     {
         DeviceSet {
             words: [

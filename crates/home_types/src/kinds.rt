@@ -26,7 +26,8 @@ impl Kind {
 
     /// Gives the value of this kind that is nearest to `v`: what a `store` drives.
     ///
-    /// A kind with no value answers all the same: 0 for `States(0)`, `low` where `low` is above `high`.
+    /// A kind with no value answers all the same: 0 for `States(0)`, `low` where `low` is above
+    /// `high`.
     pub fn nearest(&self, v: Value) -> Value
         ensures { result ≡ nearest_value self.now v }
     {

@@ -18,7 +18,10 @@ impl<T> Model for List<T> {
 
     ghost Value = { Listed T };
 
-    ghost view = { λ s. record { items = s.items.items; spare = vec_capacity s.items - vec_len s.items } };
+    ghost view = { λ s. record {
+      items = s.items.items;
+      spare = vec_capacity s.items - vec_len s.items;
+    } };
 }
 
 impl<T> List<T> {
@@ -32,8 +35,8 @@ impl<T> List<T> {
         }
     }
 
-    /// Makes room for `n` more items and for no more than these, or answers `NoMemory`. The items stay in both cases, and
-    /// so does the room that there was.
+    /// Makes room for `n` more items and for no more than these, or answers `NoMemory`. The items
+    /// stay in both cases, and so does the room that there was.
     pub fn reserve(&mut self, n: u64) -> Result<(), NoMemory>
         ensures items { self.new.items ≡ self.old.items }
         ensures room { OnOk result (self.new.spare ≡ max self.old.spare n) }

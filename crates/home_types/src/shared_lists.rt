@@ -7,7 +7,8 @@ use std::alloc::Global;
 use std::marker::Model;
 use std::sync::Arc;
 
-/// A list that is never changed, so that many own it together and none has a copy. Contracts see the list.
+/// A list that is never changed, so that many own it together and none has a copy. Contracts see
+/// the list.
 #[derive(Drop)]
 pub struct SharedList<T> {
     list: Arc<List<T>>,

@@ -44,7 +44,10 @@ trial_within (word ∷ []) n is = by_number (trial_number word) refl is
 trial_within (word ∷ next ∷ words) n is = absurd (cc)
 
 command_within : (run replay watch keep check trial : Bool) (words : List (List ℕ)) (n : ℕ)
-    → (if run then option_map Run (options_by_words words) else (if replay then option_map Replay (options_by_words words) else (if watch then option_map Watch (options_by_words words) else (if keep then option_map Keep (options_by_words words) else (if check then check_of words else (if trial then trial_of words else None)))))) ≡ Some (Trial n) → IsWithin n
+    → (if run then option_map Run (options_by_words words)
+    else (if replay then option_map Replay (options_by_words words) else (if watch then option_map Watch (options_by_words words)
+    else (if keep then option_map Keep (options_by_words words) else (if check then check_of words else (if trial then trial_of words else None))))))
+    ≡ Some (Trial n) → IsWithin n
 command_within true replay watch keep check trial words n is = absurd (options_no_trial Run (options_by_words words) n (λ options same. absurd (cc)) is)
 command_within false true watch keep check trial words n is = absurd (options_no_trial Replay (options_by_words words) n (λ options same. absurd (cc)) is)
 command_within false false true keep check trial words n is = absurd (options_no_trial Watch (options_by_words words) n (λ options same. absurd (cc)) is)

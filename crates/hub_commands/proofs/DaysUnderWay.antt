@@ -227,7 +227,9 @@ pub cut_is_legal : {D : Type 0} (works : Setting → WindowText → WindowRecord
 cut_is_legal works tag plan stands turns probes faults course mode home records day = record { count = day.played.count; legal = day.played.legal; left = day.left }
 
 -- the windows of a day under way with one window more
-pub gone_on : {D : Type 0} (works : Setting → WindowText → WindowRecord → (ℕ → ℕ) → Type 0) (tag : D → ℕ) (plan : D → Option (List (ℕ × ℕ))) (stands turns probes faults : D → ℕ) (course : DayCourse) (mode : Mode) (k : ℕ) (before after : HomeState D) (records more : List WindowRecord) (closed : WindowRecord)
+pub gone_on : {D : Type 0} (works : Setting → WindowText → WindowRecord → (ℕ → ℕ) → Type 0) (tag : D → ℕ) (plan : D → Option (List (ℕ × ℕ)))
+    (stands turns probes faults : D → ℕ) (course : DayCourse) (mode : Mode) (k : ℕ) (before after : HomeState D) (records more : List WindowRecord)
+    (closed : WindowRecord)
     → IsUnderWayOn works tag plan stands turns probes faults course mode before records → HomeIsKept tag stands turns probes faults after → k ≡ length records
     → IsPlayed works tag plan turns probes faults (script_of course) mode k before after closed → more ≡ records ++ closed ∷ []
     → HasGoneOn works tag plan stands turns probes faults course mode records after more

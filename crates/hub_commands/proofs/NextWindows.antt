@@ -59,12 +59,16 @@ pub next_rounds : {D : Type 0} (tag turns probes faults : D → ℕ) (script : S
 next_rounds tag turns probes faults script mode k window home hub is at = is.opened.rounds_are ∙ ap (λ v. v.probes) (same_window tag turns probes faults script mode k window home hub is at)
 
 -- its home has the kinds of the one that it was opened on
-pub next_kinds : {D : Type 0} (works : Setting → WindowText → WindowRecord → (ℕ → ℕ) → Type 0) (tag : D → ℕ) (plan : D → Option (List (ℕ × ℕ))) (turns probes faults : D → ℕ) (script : Script) (mode : Mode) (k : ℕ) (window : WindowText) (before after : HomeState D) (hub : OpenHub D) (closed : WindowRecord)
+pub next_kinds : {D : Type 0} (works : Setting → WindowText → WindowRecord → (ℕ → ℕ) → Type 0) (tag : D → ℕ) (plan : D → Option (List (ℕ × ℕ)))
+    (turns probes faults : D → ℕ) (script : Script) (mode : Mode) (k : ℕ) (window : WindowText) (before after : HomeState D) (hub : OpenHub D)
+    (closed : WindowRecord)
     → NextIsOpened tag turns probes faults script mode k before hub → IsWorkedAs works tag plan turns probes faults hub window after closed → after.kinds ≡ before.kinds
 next_kinds works tag plan turns probes faults script mode k window before after hub closed is worked = worked.kinds ∙ ap (λ c. c.setting.kinds) is.opened.configuration
 
 -- the day has gone on by the window that was worked
-pub next_gone : {D : Type 0} (works : Setting → WindowText → WindowRecord → (ℕ → ℕ) → Type 0) (tag : D → ℕ) (plan : D → Option (List (ℕ × ℕ))) (stands turns probes faults : D → ℕ) (course : DayCourse) (mode : Mode) (window : WindowText) (before after : HomeState D) (hub : OpenHub D) (records more : List WindowRecord) (closed : WindowRecord)
+pub next_gone : {D : Type 0} (works : Setting → WindowText → WindowRecord → (ℕ → ℕ) → Type 0) (tag : D → ℕ) (plan : D → Option (List (ℕ × ℕ)))
+    (stands turns probes faults : D → ℕ) (course : DayCourse) (mode : Mode) (window : WindowText) (before after : HomeState D) (hub : OpenHub D)
+    (records more : List WindowRecord) (closed : WindowRecord)
     → IsUnderWayOn works tag plan stands turns probes faults course mode before records → NextIsOpened tag turns probes faults (script_of course) mode (length records) before hub
     → slice_get (script_of course).windows.items (length records) ≡ Some window → IsWorkedAs works tag plan turns probes faults hub window after closed
     → HomeIsKept tag stands turns probes faults after → more ≡ records ++ closed ∷ []

@@ -76,7 +76,9 @@ lead_whole course options held holds f f_after records bytes leads got =
     lead_written course options held holds f f_after records bytes [] leads (subst (λ t. Appends held holds t) (sym (append-nil bytes)) got)
 
 -- a piece was not written: the sink has all before it, and a first part of it
-stopped : {D M : Type 0} (works : Setting → WindowText → WindowRecord → (ℕ → ℕ) → Type 0) (shown : Shown D) (course : DayCourse) (options : Options) (held mid holds : Option (List ℕ)) (f f_mid f_after : ℕ) (home : HomeState D) (windows : Listed WindowRecord) (before : List ℕ) (piece : Result (List ℕ) M) (fault : PieceFault) (day : Option (Day D)) (why : Option Fault)
+stopped : {D M : Type 0} (works : Setting → WindowText → WindowRecord → (ℕ → ℕ) → Type 0) (shown : Shown D) (course : DayCourse) (options : Options)
+    (held mid holds : Option (List ℕ)) (f f_mid f_after : ℕ) (home : HomeState D) (windows : Listed WindowRecord) (before : List ℕ) (piece : Result (List ℕ) M)
+    (fault : PieceFault) (day : Option (Day D)) (why : Option Fault)
     → IsUnderWayOn works shown.tag shown.plan shown.stands shown.turns shown.probes shown.faults course options.mode home windows.items
     → Appends held mid before → LeadWith course options windows.items before → f_mid ≡ f
     → PieceEnds (written mid holds f_mid f_after) piece (Err fault) → StopEnds windows home.devices fault day why
@@ -138,7 +140,9 @@ head_alone (Ok bytes) mode is = is ∙ sym (append-nil (head_text mode))
 head_alone (Err e) mode is = tt
 
 -- the head is not written
-pub head_stopped : {D M : Type 0} (works : Setting → WindowText → WindowRecord → (ℕ → ℕ) → Type 0) (shown : Shown D) (course : DayCourse) (options : Options) (held holds : Option (List ℕ)) (f f_after : ℕ) (home : HomeState D) (windows : Listed WindowRecord) (piece : Result (List ℕ) M) (fault : PieceFault) (day : Option (Day D)) (why : Option Fault)
+pub head_stopped : {D M : Type 0} (works : Setting → WindowText → WindowRecord → (ℕ → ℕ) → Type 0) (shown : Shown D) (course : DayCourse) (options : Options)
+    (held holds : Option (List ℕ)) (f f_after : ℕ) (home : HomeState D) (windows : Listed WindowRecord) (piece : Result (List ℕ) M) (fault : PieceFault)
+    (day : Option (Day D)) (why : Option Fault)
     → IsUnderWayOn works shown.tag shown.plan shown.stands shown.turns shown.probes shown.faults course options.mode home [] → windows.items ≡ []
     → IfOk piece (λ b. b ≡ head_text options.mode ++ course.above) → PieceEnds (written held holds f f_after) piece (Err fault) → StopEnds windows home.devices fault day why
     → DayEndsOn works shown plain course options (written held holds f f_after) day why
@@ -171,7 +175,9 @@ goes_on works shown course options held mid holds f f_mid f_after home next reco
     }
 
 -- its lines are not written
-pub lines_stopped : {D M : Type 0} (works : Setting → WindowText → WindowRecord → (ℕ → ℕ) → Type 0) (shown : Shown D) (course : DayCourse) (options : Options) (held mid holds : Option (List ℕ)) (f f_mid f_after : ℕ) (home next : HomeState D) (records : List WindowRecord) (windows : Listed WindowRecord) (piece : Result (List ℕ) M) (fault : PieceFault) (day : Option (Day D)) (why : Option Fault)
+pub lines_stopped : {D M : Type 0} (works : Setting → WindowText → WindowRecord → (ℕ → ℕ) → Type 0) (shown : Shown D) (course : DayCourse) (options : Options)
+    (held mid holds : Option (List ℕ)) (f f_mid f_after : ℕ) (home next : HomeState D) (records : List WindowRecord) (windows : Listed WindowRecord)
+    (piece : Result (List ℕ) M) (fault : PieceFault) (day : Option (Day D)) (why : Option Fault)
     → IsGoingOn works shown course options (written held mid f f_mid) home records
     → HasGoneOn works shown.tag shown.plan shown.stands shown.turns shown.probes shown.faults course options.mode records next windows.items
     → ((before : List WindowRecord) (closed : WindowRecord) → windows.items ≡ before ++ closed ∷ [] → IfOk piece (λ lines. lines ≡ window_text course.begins.script (course.begins.before + length before) closed options.mode options.trace))
@@ -195,7 +201,9 @@ lines_stopped works shown course options held mid holds f f_mid f_after home nex
         (ap (λ rs. text_on course options.mode options.trace rs) gone.more ∙ text_more course options.mode options.trace records gone.closed)
 
 -- the total is not written
-pub total_stopped : {D M : Type 0} (works : Setting → WindowText → WindowRecord → (ℕ → ℕ) → Type 0) (shown : Shown D) (course : DayCourse) (options : Options) (held mid holds : Option (List ℕ)) (f f_mid f_after : ℕ) (home : HomeState D) (windows : Listed WindowRecord) (piece : Result (List ℕ) M) (fault : PieceFault) (day : Option (Day D)) (why : Option Fault)
+pub total_stopped : {D M : Type 0} (works : Setting → WindowText → WindowRecord → (ℕ → ℕ) → Type 0) (shown : Shown D) (course : DayCourse) (options : Options)
+    (held mid holds : Option (List ℕ)) (f f_mid f_after : ℕ) (home : HomeState D) (windows : Listed WindowRecord) (piece : Result (List ℕ) M)
+    (fault : PieceFault) (day : Option (Day D)) (why : Option Fault)
     → IsGoingOn works shown course options (written held mid f f_mid) home windows.items
     → length windows.items ≡ length (script_of course).windows.items
     → IfOk piece (λ b. b ≡ total_text windows.items)
@@ -213,7 +221,9 @@ total_stopped works shown course options held mid holds f f_mid f_after home win
     ))
 
 -- all is written
-pub finished : {D M : Type 0} (works : Setting → WindowText → WindowRecord → (ℕ → ℕ) → Type 0) (shown : Shown D) (course : DayCourse) (options : Options) (held mid holds : Option (List ℕ)) (f f_mid f_after : ℕ) (home : HomeState D) (windows : Listed WindowRecord) (devices : Listed D) (piece : Result (List ℕ) M)
+pub finished : {D M : Type 0} (works : Setting → WindowText → WindowRecord → (ℕ → ℕ) → Type 0) (shown : Shown D) (course : DayCourse) (options : Options)
+    (held mid holds : Option (List ℕ)) (f f_mid f_after : ℕ) (home : HomeState D) (windows : Listed WindowRecord) (devices : Listed D)
+    (piece : Result (List ℕ) M)
     → IsGoingOn works shown course options (written held mid f f_mid) home windows.items
     → length windows.items ≡ length (script_of course).windows.items
     → IfOk piece (λ b. b ≡ total_text windows.items)
@@ -236,7 +246,9 @@ finished works shown course options held mid holds f f_mid f_after home windows 
 }
 
 -- no memory for the next window
-pub starved : {D : Type 0} (works : Setting → WindowText → WindowRecord → (ℕ → ℕ) → Type 0) (shown : Shown D) (course : DayCourse) (options : Options) (held holds : Option (List ℕ)) (f f_after : ℕ) (home : HomeState D) (records : List WindowRecord) (windows : Listed WindowRecord) (day : Option (Day D)) (why : Option Fault)
+pub starved : {D : Type 0} (works : Setting → WindowText → WindowRecord → (ℕ → ℕ) → Type 0) (shown : Shown D) (course : DayCourse) (options : Options)
+    (held holds : Option (List ℕ)) (f f_after : ℕ) (home : HomeState D) (records : List WindowRecord) (windows : Listed WindowRecord) (day : Option (Day D))
+    (why : Option Fault)
     → IsGoingOn works shown course options (written held holds f f_after) home records → windows.items ≡ records
     → day ≡ Some (record { windows = windows; devices = None }) → why ≡ Some WantsMemory
     → DayEndsOn works shown plain course options (written held holds f f_after) day why

@@ -18,7 +18,9 @@ use Rattle.std.proofs.lemmas.Option.{slice_get-map}
 use Rattle.std.specs.Prelude.{List, Option, Some, length, option_map, slice_get, slice_index_or, ℕ, ◌+◌, ◌≡◌}
 
 -- the hub was opened for this window of the script on this home
-pub as_played : {D : Type 0} (works : Setting → WindowText → WindowRecord → (ℕ → ℕ) → Type 0) (tag : D → ℕ) (plan : D → Option (List (ℕ × ℕ))) (turns probes faults : D → ℕ) (script : Script) (mode : Mode) (k : ℕ) (window : WindowText) (w : Setting) (home after : HomeState D) (hub : OpenHub D) (closed : WindowRecord)
+pub as_played : {D : Type 0} (works : Setting → WindowText → WindowRecord → (ℕ → ℕ) → Type 0) (tag : D → ℕ) (plan : D → Option (List (ℕ × ℕ)))
+    (turns probes faults : D → ℕ) (script : Script) (mode : Mode) (k : ℕ) (window : WindowText) (w : Setting) (home after : HomeState D) (hub : OpenHub D)
+    (closed : WindowRecord)
     → slice_get script.windows.items k ≡ Some window → w ≡ setting_on script mode k home
     → IsOpened turns probes faults w window.probes home hub → AreNumbered tag home.devices → IsWorkedAs works tag plan turns probes faults hub window after closed
     → IsPlayed works tag plan turns probes faults script mode k home after closed

@@ -62,7 +62,9 @@ opening_begins {D = D} turns probes faults mode rounds rosters homes hubs empty 
 }
 
 -- the last of the rooms that are left may be opened
-pub next_may_open : {D : Type 0} (turns probes faults : D → ℕ) (mode : Mode) (rounds : ℕ) (rosters : List RoomRoster) (homes : List (HomeState D)) (rosters_left rosters_now : List RoomRoster) (homes_left homes_now : List (HomeState D)) (hubs : Listed (RoomHub D)) (roster : RoomRoster) (home : HomeState D)
+pub next_may_open : {D : Type 0} (turns probes faults : D → ℕ) (mode : Mode) (rounds : ℕ) (rosters : List RoomRoster) (homes : List (HomeState D))
+    (rosters_left rosters_now : List RoomRoster) (homes_left homes_now : List (HomeState D)) (hubs : Listed (RoomHub D)) (roster : RoomRoster)
+    (home : HomeState D)
     → MayAllOpen mode rounds rosters homes → IsOpeningBackward turns probes faults mode rounds rosters homes rosters_left homes_left hubs
     → rosters_left ≡ rosters_now ++ roster ∷ [] → homes_left ≡ homes_now ++ home ∷ [] → MayOpen (setting_for home roster.roster mode) rounds home.opened
 next_may_open turns probes faults mode rounds rosters homes rosters_left rosters_now homes_left homes_now hubs roster home may is rosters_split homes_split =
@@ -74,7 +76,9 @@ next_may_open turns probes faults mode rounds rosters homes rosters_left rosters
     (ap (λ l. slice_get l (length homes_now)) (is.homes_are ∙ ap (λ l. l ++ is.homes_done) homes_split ∙ append_assoc homes_now (home ∷ []) is.homes_done) ∙ get_behind homes_now home is.homes_done)
 
 -- it was opened
-pub opening_goes_on : {D : Type 0} (turns probes faults : D → ℕ) (mode : Mode) (rounds : ℕ) (rosters : List RoomRoster) (homes : List (HomeState D)) (rosters_left rosters_now : List RoomRoster) (homes_left homes_now : List (HomeState D)) (hubs more : Listed (RoomHub D)) (roster : RoomRoster) (home : HomeState D) (room : RoomHub D)
+pub opening_goes_on : {D : Type 0} (turns probes faults : D → ℕ) (mode : Mode) (rounds : ℕ) (rosters : List RoomRoster) (homes : List (HomeState D))
+    (rosters_left rosters_now : List RoomRoster) (homes_left homes_now : List (HomeState D)) (hubs more : Listed (RoomHub D)) (roster : RoomRoster)
+    (home : HomeState D) (room : RoomHub D)
     → IsOpeningBackward turns probes faults mode rounds rosters homes rosters_left homes_left hubs
     → rosters_left ≡ rosters_now ++ roster ∷ [] → homes_left ≡ homes_now ++ home ∷ []
     → room.roster ≡ roster → IsRoomOpened turns probes faults mode rounds home room → more.items ≡ hubs.items ++ room ∷ [] → more.spare + 1 ≡ hubs.spare

@@ -21,7 +21,8 @@ counts_of records = record {
 -- the counts after each of the later windows, which come behind those before
 abbrev pub counts_behind : List WindowRecord → List WindowRecord → List Counts
 counts_behind before [] = []
-counts_behind before (closed ∷ later) = counts_of (before ++ closed ∷ []) ∷ counts_behind (before ++ closed ∷ []) later
+counts_behind before (closed ∷ later) =
+    counts_of (before ++ closed ∷ []) ∷ counts_behind (before ++ closed ∷ []) later
 
 -- the counts after each of these windows, in order
 abbrev pub counts_each : List WindowRecord → List Counts
@@ -31,14 +32,16 @@ counts_each records = counts_behind [] records
 abbrev pub as_over : Counts → Counts
 as_over c = record c { over = true }
 
--- what is published of a day with these windows: the counts after each, and then the last of these, zeros where there is none, as over
+-- what is published of a day with these windows: the counts after each, and then the last of these,
+-- zeros where there is none, as over
 abbrev pub publishings_of : List WindowRecord → List Counts
 publishings_of records = counts_each records ++ as_over (last_of (counts_each records)) ∷ []
 
 -- the line of these counts
 unfoldable pub board_line : Counts → List ℕ
 board_line c =
-    codes "board windows " ++ decimal c.windows ++ codes " runs " ++ decimal c.runs ++ codes " committed " ++ decimal c.committed
+    codes "board windows " ++ decimal c.windows ++ codes " runs " ++ decimal c.runs
+    ++ codes " committed " ++ decimal c.committed
     ++ codes " aborted " ++ decimal c.aborted ++ codes "\n"
 
 -- the line of a day with these windows: its numbers are those of the total

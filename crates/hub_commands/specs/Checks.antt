@@ -41,7 +41,8 @@ place_name script (Run run) = []
 place_name script (Order item) = []
 place_name script (Answer run command) = []
 place_name script Home = []
-place_name script (Device device) = option_map_or (λ text. text.name) (slice_get script.devices.items device.0) []
+place_name script (Device device) =
+    option_map_or (λ text. text.name) (slice_get script.devices.items device.0) []
 place_name script Total = []
 
 -- what is found of a record by its script; memory may be wanted
@@ -52,7 +53,8 @@ IsJudged script text (Err Words) = ⊥
 IsJudged script text (Err Read) = ⊥
 IsJudged script text (Err Write) = ⊥
 IsJudged script text (Err Memory) = ⊤
-IsJudged script text (Err (Check window place name)) = (verdict_of script text ≡ Differs window place) × (name ≡ place_name script place)
+IsJudged script text (Err (Check window place name)) =
+    (verdict_of script text ≡ Differs window place) × (name ≡ place_name script place)
 IsJudged script text (Err (Cross window run follow)) = ⊥
 IsJudged script text (Err Disk) = ⊥
 IsJudged script text (Err (Damaged slot)) = ⊥
@@ -61,7 +63,8 @@ IsJudged script text (Err (Damaged slot)) = ⊥
 abbrev pub IsWithinCheckLimit : Reads → Type 0
 IsWithinCheckLimit source = TakesUpTo source.left source.rest (most_check_bytes + 1)
 
--- the source gave all of its bytes without a fault, the script is the reading of those before the dividing line, and sound, and this is found of the record behind it
+-- the source gave all of its bytes without a fault, the script is the reading of those before the
+-- dividing line, and sound, and this is found of the record behind it
 pub record VerdictIsFound (source : Reads) (script : Script) (verdict : Verdict) : Type 0 where
   pub ended : IsAtEnd source.rest
   pub within : IsWithinCheckLimit source
@@ -70,7 +73,8 @@ pub record VerdictIsFound (source : Reads) (script : Script) (verdict : Verdict)
   pub finding : IfSome source.left (λ bytes. input_verdict script bytes ≡ verdict)
   pub calm : source.faults_after ≡ source.faults
 
--- the source gave its bytes without a fault, to its end or to one byte more than the input may have, and this refusal is the reading of the script
+-- the source gave its bytes without a fault, to its end or to one byte more than the input may
+-- have, and this refusal is the reading of the script
 pub record ScriptIsRefused (source : Reads) (fault : ReadFault) : Type 0 where
   pub named : is_memory fault ≡ false
   pub taken : IsAtEnd source.rest ⊎ TakesCount source.left source.rest (most_check_bytes + 1)
@@ -79,7 +83,8 @@ pub record ScriptIsRefused (source : Reads) (fault : ReadFault) : Type 0 where
   pub calm : source.faults_after ≡ source.faults
 
 -- the record does not agree with its script at this place of this window
-pub record RecordDiffers (source : Reads) (window : ℕ) (place : Place) (name : List ℕ) : Type 0 where
+pub record RecordDiffers (source : Reads) (window : ℕ) (place : Place)
+    (name : List ℕ) : Type 0 where
   pub script : Script
   pub found : VerdictIsFound source script (Differs window place)
   pub named : name ≡ place_name script place
@@ -134,7 +139,8 @@ CheckEnds source sink (Some Words) = ⊥
 CheckEnds source sink (Some Read) = IsUnwritten sink × CheckInputFails source
 CheckEnds source sink (Some Write) = AgreementIsCut source sink
 CheckEnds source sink (Some Memory) = IsUnwritten sink × CheckIsStarved source
-CheckEnds source sink (Some (Check window place name)) = IsUnwritten sink × RecordDiffers source window place name
+CheckEnds source sink (Some (Check window place name)) =
+    IsUnwritten sink × RecordDiffers source window place name
 CheckEnds source sink (Some (Cross window run follow)) = ⊥
 CheckEnds source sink (Some Disk) = ⊥
 CheckEnds source sink (Some (Damaged slot)) = ⊥

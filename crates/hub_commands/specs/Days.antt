@@ -20,7 +20,8 @@ use Rattle.routine_reader.specs.declared.scripts.Script.{Script}
 use Rattle.routine_reader.specs.declared.scripts.WindowText.{WindowText}
 use Rattle.std.specs.Prelude.{Bool, List, Option, Some, [], false, if◌then◌else◌, length, slice_get, sum_by, true, ℕ, ◌+◌, ◌++◌, ◌<◌, ◌==◌, ◌≡◌, ◌≤◌}
 
--- the course of a day: where it begins, which devices are down there, and the lines that stand between the head and its windows
+-- the course of a day: where it begins, which devices are down there, and the lines that stand
+-- between the head and its windows
 pub record DayCourse : Type 0 where
   pub begins : Beginning
   pub down : DeviceId → Bool
@@ -33,7 +34,13 @@ new_course script = record { begins = new_day script; down = λ d. false; above 
 -- the course behind so many windows of this script
 abbrev pub course_behind : Script → ℕ → DayCourse → DayCourse
 course_behind script before course = record {
-  begins = record { script = script; before = before; first = course.begins.first; called = course.begins.called; failed = course.begins.failed };
+  begins = record {
+    script = script;
+    before = before;
+    first = course.begins.first;
+    called = course.begins.called;
+    failed = course.begins.failed;
+  };
   down = course.down;
   above = course.above;
 }
@@ -42,46 +49,70 @@ course_behind script before course = record {
 abbrev pub script_of : DayCourse → Script
 script_of course = to_come course.begins
 
--- each record is that of a window that was worked in this way, with so many probes of each device, in order
-pub record AreWorkedOn (works : Setting → WindowText → WindowRecord → (DeviceId → ℕ) → Type 0) (course : DayCourse) (mode : Mode) (records : List WindowRecord) (takes : List (DeviceId → ℕ)) : Type 0 where
+-- each record is that of a window that was worked in this way, with so many probes of each device,
+-- in order
+pub record AreWorkedOn (works : Setting → WindowText → WindowRecord → (DeviceId → ℕ) → Type 0)
+    (course : DayCourse) (mode : Mode) (records : List WindowRecord)
+    (takes : List (DeviceId → ℕ)) : Type 0 where
   pub count : length takes ≡ length records
-  pub each : (k : ℕ) (window : WindowText) (closed : WindowRecord) (taken : ℕ → ℕ) → slice_get (script_of course).windows.items k ≡ Some window → slice_get records k ≡ Some closed → slice_get takes k ≡ Some taken
+  pub each : (k : ℕ) (window : WindowText) (closed : WindowRecord) (taken : ℕ → ℕ)
+      → slice_get (script_of course).windows.items k ≡ Some window
+      → slice_get records k ≡ Some closed → slice_get takes k ≡ Some taken
       → works (setting_from course.begins mode records k) window closed taken
 
 -- the probes that were taken of the device in all these windows
 abbrev pub probes_taken_together : List (DeviceId → ℕ) → DeviceId → ℕ
 probes_taken_together takes d = sum_by (λ taken. taken d) takes
 
--- in each window every run has ended, and where runs are served as they come and no device fails in it each that has no must `check` has committed
+-- in each window every run has ended, and where runs are served as they come and no device fails in
+-- it each that has no must `check` has committed
 abbrev pub AllHaveEndedOn : DayCourse → Mode → List WindowRecord → Type 0
-AllHaveEndedOn course mode records = (k : ℕ) (closed : WindowRecord) → slice_get records k ≡ Some closed → RunsHaveEnded (setting_from course.begins mode records k) closed
+AllHaveEndedOn course mode records =
+    (k : ℕ) (closed : WindowRecord) → slice_get records k ≡ Some closed
+    → RunsHaveEnded (setting_from course.begins mode records k) closed
 
 -- no device was down as the day began, and none's faults rose in these windows
 abbrev pub NoneHasFailedOn : DayCourse → List WindowRecord → Type 0
-NoneHasFailedOn course records = (d : DeviceId) → d < length course.begins.script.devices.items → one_more_where (course.down d) (total (λ closed. closed.faults.items) records d) ≡ 0
+NoneHasFailedOn course records =
+    (d : DeviceId) → d < length course.begins.script.devices.items
+    → one_more_where (course.down d) (total (λ closed. closed.faults.items) records d) ≡ 0
 
 -- each run of the window that has no must `check` has committed
 abbrev pub HaveCommitted : Setting → WindowRecord → Type 0
-HaveCommitted w closed = (r : RunId) → is_run w.runs r ≡ true → has_must_check w.runs r ≡ false → ((reading w (history_of closed)).run r).ended ≡ Some Committed
+HaveCommitted w closed =
+    (r : RunId) → is_run w.runs r ≡ true → has_must_check w.runs r ≡ false
+    → ((reading w (history_of closed)).run r).ended ≡ Some Committed
 
 -- the same of each of these windows
 abbrev pub AllHaveCommittedOn : DayCourse → Mode → List WindowRecord → Type 0
-AllHaveCommittedOn course mode records = (k : ℕ) (closed : WindowRecord) → slice_get records k ≡ Some closed → HaveCommitted (setting_from course.begins mode records k) closed
+AllHaveCommittedOn course mode records =
+    (k : ℕ) (closed : WindowRecord) → slice_get records k ≡ Some closed
+    → HaveCommitted (setting_from course.begins mode records k) closed
 
--- the windows so far are legal, each was worked in this way with these probes, and every run has ended; where runs are served as they come, no device was down as the day began and none has failed since, each run that has no must `check` has committed
-pub record WindowsArePlayedOn (works : Setting → WindowText → WindowRecord → (DeviceId → ℕ) → Type 0) (course : DayCourse) (mode : Mode) (records : List WindowRecord) (takes : List (DeviceId → ℕ)) : Type 0 where
+-- the windows so far are legal, each was worked in this way with these probes, and every run has
+-- ended; where runs are served as they come, no device was down as the day began and none has
+-- failed since, each run that has no must `check` has committed
+pub record WindowsArePlayedOn
+    (works : Setting → WindowText → WindowRecord → (DeviceId → ℕ) → Type 0) (course : DayCourse)
+    (mode : Mode) (records : List WindowRecord) (takes : List (DeviceId → ℕ)) : Type 0 where
   pub count : length records ≤ length (script_of course).windows.items
   pub legal : AreLegalFrom course.begins mode records
   pub worked : AreWorkedOn works course mode records takes
   pub ends : AllHaveEndedOn course mode records
-  pub commits : mode.scheduler ≡ Fcfs → NoneHasFailedOn course records → AllHaveCommittedOn course mode records
+  pub commits : mode.scheduler ≡ Fcfs → NoneHasFailedOn course records
+      → AllHaveCommittedOn course mode records
 
 -- the devices were probed as often as probes were taken of them in the windows
 abbrev pub DevicesAreProbed : {D : Type 0} → (D → ℕ) → List (DeviceId → ℕ) → List D → Type 0
-DevicesAreProbed {D} probes takes devices = (d : DeviceId) (device : D) → slice_get devices d ≡ Some device → probes device ≡ probes_taken_together takes d
+DevicesAreProbed {D} probes takes devices =
+    (d : DeviceId) (device : D) → slice_get devices d ≡ Some device
+    → probes device ≡ probes_taken_together takes d
 
 -- the home after the windows so far
-pub record IsUnderWayOn {D : Type 0} (works : Setting → WindowText → WindowRecord → (DeviceId → ℕ) → Type 0) (tag : D → ℕ) (plan : D → Option (List (ℕ × ℕ))) (stands turns probes faults : D → ℕ) (course : DayCourse) (mode : Mode) (home : HomeState D) (records : List WindowRecord) : Type 0 where
+pub record IsUnderWayOn {D : Type 0}
+    (works : Setting → WindowText → WindowRecord → (DeviceId → ℕ) → Type 0) (tag : D → ℕ)
+    (plan : D → Option (List (ℕ × ℕ))) (stands turns probes faults : D → ℕ) (course : DayCourse)
+    (mode : Mode) (home : HomeState D) (records : List WindowRecord) : Type 0 where
   pub takes : List (DeviceId → ℕ)
   pub played : WindowsArePlayedOn works course mode records takes
   pub left : AreLeftFrom tag plan stands turns faults course.begins records home.devices
@@ -90,19 +121,28 @@ pub record IsUnderWayOn {D : Type 0} (works : Setting → WindowText → WindowR
   pub world : home.world ≡ state_from course.begins records (length records)
   pub size : length home.world ≡ length course.begins.script.devices.items
   -- where no device has failed, each is up
-  pub up : NoneHasFailedOn course records → (d : DeviceId) → d < length home.world → (stand_at home.world d).up ≡ true
+  pub up : NoneHasFailedOn course records → (d : DeviceId) → d < length home.world
+      → (stand_at home.world d).up ≡ true
   pub opened : home.opened ≡ length records
 
 -- The same of a script's day
 
-abbrev pub WindowsArePlayed : (Setting → WindowText → WindowRecord → (DeviceId → ℕ) → Type 0) → Script → Mode → List WindowRecord → List (DeviceId → ℕ) → Type 0
-WindowsArePlayed works script mode records takes = WindowsArePlayedOn works (new_course script) mode records takes
+abbrev pub WindowsArePlayed : (Setting → WindowText → WindowRecord → (DeviceId → ℕ) → Type 0)
+    → Script → Mode → List WindowRecord → List (DeviceId → ℕ) → Type 0
+WindowsArePlayed works script mode records takes =
+    WindowsArePlayedOn works (new_course script) mode records takes
 
-abbrev pub DayIsUnderWay : {D : Type 0} → (Setting → WindowText → WindowRecord → (DeviceId → ℕ) → Type 0) → (D → ℕ) → (D → Option (List (ℕ × ℕ))) → (D → ℕ) → (D → ℕ) → (D → ℕ) → (D → ℕ) → Script → Mode → HomeState D → List WindowRecord → Type 0
-DayIsUnderWay works tag plan stands turns probes faults script mode home records = IsUnderWayOn works tag plan stands turns probes faults (new_course script) mode home records
+abbrev pub DayIsUnderWay : {D : Type 0}
+    → (Setting → WindowText → WindowRecord → (DeviceId → ℕ) → Type 0) → (D → ℕ)
+    → (D → Option (List (ℕ × ℕ))) → (D → ℕ) → (D → ℕ) → (D → ℕ) → (D → ℕ) → Script → Mode
+    → HomeState D → List WindowRecord → Type 0
+DayIsUnderWay works tag plan stands turns probes faults script mode home records =
+    IsUnderWayOn works tag plan stands turns probes faults (new_course script) mode home records
 
--- the device after a window: the same one, whose calls rose as the record says, and its probes by those that were taken
-pub record IsPlayedOn {D : Type 0} (tag : D → ℕ) (plan : D → Option (List (ℕ × ℕ))) (turns probes faults : D → ℕ) (called failed probed : ℕ) (before after : D) : Type 0 where
+-- the device after a window: the same one, whose calls rose as the record says, and its probes by
+-- those that were taken
+pub record IsPlayedOn {D : Type 0} (tag : D → ℕ) (plan : D → Option (List (ℕ × ℕ)))
+    (turns probes faults : D → ℕ) (called failed probed : ℕ) (before after : D) : Type 0 where
   pub same_tag : tag after ≡ tag before
   pub same_plan : plan after ≡ plan before
   pub turns_rose : turns after ≡ turns before + called
@@ -113,7 +153,9 @@ pub record IsPlayedOn {D : Type 0} (tag : D → ℕ) (plan : D → Option (List 
 
 -- the head and the lines below it, and the texts of these windows
 abbrev pub text_on : DayCourse → Mode → Bool → List WindowRecord → List ℕ
-text_on course mode trace records = head_text mode ++ (course.above ++ window_texts_from course.begins.before course.begins.script records mode trace)
+text_on course mode trace records =
+    head_text mode ++ (course.above
+    ++ window_texts_from course.begins.before course.begins.script records mode trace)
 
 -- the head, and the texts of these windows
 abbrev pub text_so_far : Script → Mode → Bool → List WindowRecord → List ℕ
@@ -131,16 +173,24 @@ closing_lines boarded records = total_text records ++ board_text records
 
 -- the same, with the lines below the windows where these are all
 abbrev pub text_due_on : Closing → DayCourse → Mode → Bool → List WindowRecord → List ℕ
-text_due_on closing course mode trace records = text_on course mode trace records ++ (if length records == length (script_of course).windows.items then closing_lines closing records else [])
+text_due_on closing course mode trace records =
+    text_on course mode trace records
+    ++ (if length records == length (script_of course).windows.items
+    then closing_lines closing records else [])
 
 abbrev pub text_due : Closing → Script → Mode → Bool → List WindowRecord → List ℕ
-text_due closing script mode trace records = text_due_on closing (new_course script) mode trace records
+text_due closing script mode trace records =
+    text_due_on closing (new_course script) mode trace records
 
 -- the whole record of a course
 abbrev pub record_text_on : Closing → DayCourse → List WindowRecord → Mode → Bool → List ℕ
-record_text_on plain course records mode trace = day_text_from course.above course.begins.before course.begins.script records mode trace
-record_text_on boarded course records mode trace = day_text_from course.above course.begins.before course.begins.script records mode trace ++ board_text records
+record_text_on plain course records mode trace =
+    day_text_from course.above course.begins.before course.begins.script records mode trace
+record_text_on boarded course records mode trace =
+    day_text_from course.above course.begins.before course.begins.script records mode trace
+    ++ board_text records
 
 -- the whole record
 abbrev pub record_text : Closing → Script → List WindowRecord → Mode → Bool → List ℕ
-record_text closing script records mode trace = record_text_on closing (new_course script) records mode trace
+record_text closing script records mode trace =
+    record_text_on closing (new_course script) records mode trace

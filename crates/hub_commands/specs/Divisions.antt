@@ -27,7 +27,8 @@ pub record Division : Type 0 where
 
 -- a line more in front of the script
 abbrev pub with_script_line : List ℕ → Division → Division
-with_script_line line division = record { script = line ++ division.script; record_text = division.record_text }
+with_script_line line division =
+    record { script = line ++ division.script; record_text = division.record_text }
 
 -- the script is what stands before the first line that is `%%`, the record what stands behind it
 unfoldable pub divided : List (List ℕ) → Division

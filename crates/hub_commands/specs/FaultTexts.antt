@@ -13,7 +13,8 @@ place_text Head = codes "head"
 place_text Window = codes "window"
 place_text (Run run) = codes "run " ++ decimal run.0
 place_text (Order item) = codes "order " ++ decimal item
-place_text (Answer run command) = codes "answer " ++ decimal run.0 ++ codes "." ++ decimal (command + 1)
+place_text (Answer run command) =
+    codes "answer " ++ decimal run.0 ++ codes "." ++ decimal (command + 1)
 place_text Home = codes "home"
 place_text (Device device) = codes "device " ++ decimal device.0
 place_text Total = codes "total"
@@ -36,7 +37,10 @@ fault_text Words = codes "words"
 fault_text Read = codes "read"
 fault_text Write = codes "write"
 fault_text Memory = codes "memory"
-fault_text (Check window place name) = codes "check: window " ++ decimal window ++ codes " " ++ named_place place name
-fault_text (Cross window run follow) = codes "cross " ++ (if follow then codes "follow" else codes "room") ++ codes " " ++ decimal window ++ codes "." ++ decimal run.0
+fault_text (Check window place name) =
+    codes "check: window " ++ decimal window ++ codes " " ++ named_place place name
+fault_text (Cross window run follow) =
+    codes "cross " ++ (if follow then codes "follow" else codes "room") ++ codes " "
+    ++ decimal window ++ codes "." ++ decimal run.0
 fault_text Disk = codes "disk"
 fault_text (Damaged slot) = codes "damaged " ++ decimal slot

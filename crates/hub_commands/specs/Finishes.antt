@@ -1,4 +1,5 @@
--- How the reading of a script ends and the day of one: by its fault, what was read, played and written.
+-- How the reading of a script ends and the day of one: by its fault, what was read, played and
+-- written.
 use Rattle.command_words.specs.declared.command_lines.Options.{Options}
 use Rattle.day_clock.specs.Sinks.{AppendsPart}
 use Rattle.day_clock.specs.Sources.{TakesCount, TakesUpTo}
@@ -22,7 +23,8 @@ use Rattle.routine_reader.specs.declared.scripts.WindowText.{WindowText}
 use Rattle.std.specs.Io.KnownBytes.{Appends, IsAtEnd, Keeps}
 use Rattle.std.specs.Prelude.{Err, IfSome, List, None, Ok, Option, Result, Some, [], false, take, ℕ, ◌++◌, ◌+◌, ◌<◌, ◌∷◌, ◌≡◌, ◌⊎◌}
 
--- what the call does to its source: the bytes to come before and after it, where the source tells them, and its faults
+-- what the call does to its source: the bytes to come before and after it, where the source tells
+-- them, and its faults
 pub record Reads : Type 0 where
   pub left : Option (List ℕ)
   pub rest : Option (List ℕ)
@@ -30,9 +32,11 @@ pub record Reads : Type 0 where
   pub faults_after : ℕ
 
 abbrev pub read_off : Option (List ℕ) → Option (List ℕ) → ℕ → ℕ → Reads
-read_off left rest faults faults_after = record { left = left; rest = rest; faults = faults; faults_after = faults_after }
+read_off left rest faults faults_after =
+    record { left = left; rest = rest; faults = faults; faults_after = faults_after }
 
--- what it does to its sink: the bytes held before and after it, where the sink tells them, and its faults
+-- what it does to its sink: the bytes held before and after it, where the sink tells them, and its
+-- faults
 pub record Writes : Type 0 where
   pub held : Option (List ℕ)
   pub holds : Option (List ℕ)
@@ -40,7 +44,8 @@ pub record Writes : Type 0 where
   pub faults_after : ℕ
 
 abbrev pub written : Option (List ℕ) → Option (List ℕ) → ℕ → ℕ → Writes
-written held holds faults faults_after = record { held = held; holds = holds; faults = faults; faults_after = faults_after }
+written held holds faults faults_after =
+    record { held = held; holds = holds; faults = faults; faults_after = faults_after }
 
 -- at most one byte more than a script may have was taken
 abbrev pub IsWithinLimit : Reads → Type 0
@@ -58,7 +63,8 @@ pub record IsRead (source : Reads) (script : Script) : Type 0 where
 abbrev pub IsTaken : Reads → Type 0
 IsTaken source = IsAtEnd source.rest ⊎ TakesCount source.left source.rest (most_script_bytes + 1)
 
--- the source gave its bytes without a fault, to its end or to one byte more than a script may have, and their reading is this refusal
+-- the source gave its bytes without a fault, to its end or to one byte more than a script may have,
+-- and their reading is this refusal
 pub record IsRefused (source : Reads) (fault : ReadFault) : Type 0 where
   pub named : is_memory fault ≡ false
   pub taken : IsTaken source
@@ -103,12 +109,15 @@ AppendsFirst held holds bytes = (n : ℕ) × Appends held holds (take n bytes)
 abbrev pub AppendsAtLeast : Option (List ℕ) → Option (List ℕ) → List ℕ → Type 0
 AppendsAtLeast held holds bytes = (more : List ℕ) × Appends held holds (bytes ++ more)
 
--- each window was written before the next one was played: the sink got at least the text of the windows but the last
+-- each window was written before the next one was played: the sink got at least the text of the
+-- windows but the last
 abbrev pub IsWrittenAsClosedOn : DayCourse → Options → Writes → List WindowRecord → Type 0
-IsWrittenAsClosedOn course options sink records = (before : List WindowRecord) (closed : WindowRecord) → records ≡ before ++ closed ∷ []
+IsWrittenAsClosedOn course options sink records =
+    (before : List WindowRecord) (closed : WindowRecord) → records ≡ before ++ closed ∷ []
     → AppendsAtLeast sink.held sink.holds (text_on course options.mode options.trace before)
 
--- the devices of a day, and what they show: whose they are, what they tell, where they stand and how often they were called
+-- the devices of a day, and what they show: whose they are, what they tell, where they stand and
+-- how often they were called
 pub record Shown (D : Type 0) : Type 0 where
   pub tag : D → ℕ
   pub plan : D → Option (List (ℕ × ℕ))
@@ -117,56 +126,88 @@ pub record Shown (D : Type 0) : Type 0 where
   pub probes : D → ℕ
   pub faults : D → ℕ
 
-abbrev pub shown_by : {D : Type 0} → (D → ℕ) → (D → Option (List (ℕ × ℕ))) → (D → ℕ) → (D → ℕ) → (D → ℕ) → (D → ℕ) → Shown D
-shown_by tag plan stands turns probes faults = record { tag = tag; plan = plan; stands = stands; turns = turns; probes = probes; faults = faults }
+abbrev pub shown_by : {D : Type 0} → (D → ℕ) → (D → Option (List (ℕ × ℕ))) → (D → ℕ) → (D → ℕ)
+    → (D → ℕ) → (D → ℕ) → Shown D
+shown_by tag plan stands turns probes faults = record {
+  tag = tag;
+  plan = plan;
+  stands = stands;
+  turns = turns;
+  probes = probes;
+  faults = faults;
+}
 
--- the day that is handed back is whole and legal in the mode of the words, each of its windows was worked in this way, in each every run has ended, and where runs are served as they come and no device fails each that has no must `check` has committed, and the sink got its text;
--- outside the weak model the printed order of each window holds each committed run once, and the answers and the last state are those of its serial execution; under it no order is claimed; at the day's end each device that is up stands so
-pub record IsWholeOn {D : Type 0} (works : Setting → WindowText → WindowRecord → (DeviceId → ℕ) → Type 0) (shown : Shown D) (closing : Closing) (course : DayCourse) (options : Options) (sink : Writes) (o : Option (Day D)) : Type 0 where
+-- the day that is handed back is whole and legal in the mode of the words, each of its windows was
+-- worked in this way, in each every run has ended, and where runs are served as they come and no
+-- device fails each that has no must `check` has committed, and the sink got its text; outside the
+-- weak model the printed order of each window holds each committed run once, and the answers and
+-- the last state are those of its serial execution; under it no order is claimed; at the day's end
+-- each device that is up stands so
+pub record IsWholeOn {D : Type 0}
+    (works : Setting → WindowText → WindowRecord → (DeviceId → ℕ) → Type 0) (shown : Shown D)
+    (closing : Closing) (course : DayCourse) (options : Options) (sink : Writes)
+    (o : Option (Day D)) : Type 0 where
   pub day : Day D
   pub given : o ≡ Some day
   pub devices : Listed D
   pub there : day.devices ≡ Some devices
-  pub legal : IsLegalDayFrom shown.tag shown.plan shown.stands shown.turns shown.faults course.begins options.mode day.windows.items devices.items
+  pub legal : IsLegalDayFrom shown.tag shown.plan shown.stands shown.turns shown.faults
+      course.begins options.mode day.windows.items devices.items
   pub takes : List (DeviceId → ℕ)
   pub played : WindowsArePlayedOn works course options.mode day.windows.items takes
   pub probed : DevicesAreProbed shown.probes takes devices.items
-  pub text : Appends sink.held sink.holds (record_text_on closing course day.windows.items options.mode options.trace)
+  pub text : Appends sink.held sink.holds
+      (record_text_on closing course day.windows.items options.mode options.trace)
   pub calm : sink.faults_after ≡ sink.faults
 
--- the day was cut short where the sink failed: it is legal up to there, and the sink got a first part of its text, and not all
-pub record IsCutOn {D : Type 0} (works : Setting → WindowText → WindowRecord → (DeviceId → ℕ) → Type 0) (shown : Shown D) (closing : Closing) (course : DayCourse) (options : Options) (sink : Writes) (o : Option (Day D)) : Type 0 where
+-- the day was cut short where the sink failed: it is legal up to there, and the sink got a first
+-- part of its text, and not all
+pub record IsCutOn {D : Type 0}
+    (works : Setting → WindowText → WindowRecord → (DeviceId → ℕ) → Type 0) (shown : Shown D)
+    (closing : Closing) (course : DayCourse) (options : Options) (sink : Writes)
+    (o : Option (Day D)) : Type 0 where
   pub day : Day D
   pub given : o ≡ Some day
   pub devices : Listed D
   pub there : day.devices ≡ Some devices
-  pub legal : IsLegalCutDayFrom shown.tag shown.plan shown.stands shown.turns shown.faults course.begins options.mode day.windows.items devices.items
+  pub legal : IsLegalCutDayFrom shown.tag shown.plan shown.stands shown.turns shown.faults
+      course.begins options.mode day.windows.items devices.items
   pub takes : List (DeviceId → ℕ)
   pub played : WindowsArePlayedOn works course options.mode day.windows.items takes
   pub probed : DevicesAreProbed shown.probes takes devices.items
-  pub text : AppendsPart sink.held sink.holds (text_due_on closing course options.mode options.trace day.windows.items)
+  pub text : AppendsPart sink.held sink.holds
+      (text_due_on closing course options.mode options.trace day.windows.items)
   pub as_closed : IsWrittenAsClosedOn course options sink day.windows.items
   pub failed : sink.faults < sink.faults_after
 
--- the day was cut short for want of memory: its windows are legal up to there, no device is handed back, and the sink got a first part of its text
-pub record IsStarvedOn {D : Type 0} (works : Setting → WindowText → WindowRecord → (DeviceId → ℕ) → Type 0) (closing : Closing) (course : DayCourse) (options : Options) (sink : Writes) (o : Option (Day D)) : Type 0 where
+-- the day was cut short for want of memory: its windows are legal up to there, no device is handed
+-- back, and the sink got a first part of its text
+pub record IsStarvedOn {D : Type 0}
+    (works : Setting → WindowText → WindowRecord → (DeviceId → ℕ) → Type 0) (closing : Closing)
+    (course : DayCourse) (options : Options) (sink : Writes) (o : Option (Day D)) : Type 0 where
   pub day : Day D
   pub given : o ≡ Some day
   pub no_devices : day.devices ≡ None
   pub takes : List (DeviceId → ℕ)
   pub played : WindowsArePlayedOn works course options.mode day.windows.items takes
-  pub text : AppendsFirst sink.held sink.holds (text_due_on closing course options.mode options.trace day.windows.items)
+  pub text : AppendsFirst sink.held sink.holds
+      (text_due_on closing course options.mode options.trace day.windows.items)
   pub as_closed : IsWrittenAsClosedOn course options sink day.windows.items
   pub calm : sink.faults_after ≡ sink.faults
 
 -- how a day of this course ends, with a record of this closing
-abbrev pub DayEndsOn : {D : Type 0} → (Setting → WindowText → WindowRecord → (DeviceId → ℕ) → Type 0) → Shown D → Closing → DayCourse → Options → Writes → Option (Day D) → Option Fault → Type 0
-DayEndsOn works shown closing course options sink day None = IsWholeOn works shown closing course options sink day
+abbrev pub DayEndsOn : {D : Type 0}
+    → (Setting → WindowText → WindowRecord → (DeviceId → ℕ) → Type 0) → Shown D → Closing
+    → DayCourse → Options → Writes → Option (Day D) → Option Fault → Type 0
+DayEndsOn works shown closing course options sink day None =
+    IsWholeOn works shown closing course options sink day
 DayEndsOn works shown closing course options sink day (Some (Refuses fault)) = ⊥
 DayEndsOn works shown closing course options sink day (Some Words) = ⊥
 DayEndsOn works shown closing course options sink day (Some Read) = ⊥
-DayEndsOn works shown closing course options sink day (Some Write) = IsCutOn works shown closing course options sink day
-DayEndsOn works shown closing course options sink day (Some Memory) = IsStarvedOn works closing course options sink day
+DayEndsOn works shown closing course options sink day (Some Write) =
+    IsCutOn works shown closing course options sink day
+DayEndsOn works shown closing course options sink day (Some Memory) =
+    IsStarvedOn works closing course options sink day
 DayEndsOn works shown closing course options sink day (Some (Check window place name)) = ⊥
 DayEndsOn works shown closing course options sink day (Some (Cross window run follow)) = ⊥
 DayEndsOn works shown closing course options sink day (Some Disk) = ⊥
@@ -175,17 +216,28 @@ DayEndsOn works shown closing course options sink day (Some (Damaged slot)) = �
 -- the same of a script's day
 
 abbrev pub IsWrittenAsClosed : Script → Options → Writes → List WindowRecord → Type 0
-IsWrittenAsClosed script options sink records = IsWrittenAsClosedOn (new_course script) options sink records
+IsWrittenAsClosed script options sink records =
+    IsWrittenAsClosedOn (new_course script) options sink records
 
-abbrev pub DayIsWhole : {D : Type 0} → (Setting → WindowText → WindowRecord → (DeviceId → ℕ) → Type 0) → Shown D → Closing → Script → Options → Writes → Option (Day D) → Type 0
-DayIsWhole works shown closing script options sink o = IsWholeOn works shown closing (new_course script) options sink o
+abbrev pub DayIsWhole : {D : Type 0}
+    → (Setting → WindowText → WindowRecord → (DeviceId → ℕ) → Type 0) → Shown D → Closing → Script
+    → Options → Writes → Option (Day D) → Type 0
+DayIsWhole works shown closing script options sink o =
+    IsWholeOn works shown closing (new_course script) options sink o
 
-abbrev pub IsCut : {D : Type 0} → (Setting → WindowText → WindowRecord → (DeviceId → ℕ) → Type 0) → Shown D → Closing → Script → Options → Writes → Option (Day D) → Type 0
-IsCut works shown closing script options sink o = IsCutOn works shown closing (new_course script) options sink o
+abbrev pub IsCut : {D : Type 0} → (Setting → WindowText → WindowRecord → (DeviceId → ℕ) → Type 0)
+    → Shown D → Closing → Script → Options → Writes → Option (Day D) → Type 0
+IsCut works shown closing script options sink o =
+    IsCutOn works shown closing (new_course script) options sink o
 
-abbrev pub IsStarved : {D : Type 0} → (Setting → WindowText → WindowRecord → (DeviceId → ℕ) → Type 0) → Closing → Script → Options → Writes → Option (Day D) → Type 0
-IsStarved {D} works closing script options sink o = IsStarvedOn {D = D} works closing (new_course script) options sink o
+abbrev pub IsStarved : {D : Type 0}
+    → (Setting → WindowText → WindowRecord → (DeviceId → ℕ) → Type 0) → Closing → Script → Options
+    → Writes → Option (Day D) → Type 0
+IsStarved {D} works closing script options sink o =
+    IsStarvedOn {D = D} works closing (new_course script) options sink o
 
 -- how the day of a script ends, with a record of this closing
-abbrev pub DayEnds : {D : Type 0} → (Setting → WindowText → WindowRecord → (DeviceId → ℕ) → Type 0) → Shown D → Closing → Script → Options → Writes → Option (Day D) → Option Fault → Type 0
-DayEnds works shown closing script options sink day fault = DayEndsOn works shown closing (new_course script) options sink day fault
+abbrev pub DayEnds : {D : Type 0} → (Setting → WindowText → WindowRecord → (DeviceId → ℕ) → Type 0)
+    → Shown D → Closing → Script → Options → Writes → Option (Day D) → Option Fault → Type 0
+DayEnds works shown closing script options sink day fault =
+    DayEndsOn works shown closing (new_course script) options sink day fault

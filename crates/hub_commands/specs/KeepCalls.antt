@@ -1,4 +1,5 @@
--- How a call ends that keeps the states of a day: by its fault, what was read, played, written and kept.
+-- How a call ends that keeps the states of a day: by its fault, what was read, played, written and
+-- kept.
 use Rattle.command_words.specs.declared.command_lines.CommandLine.TheVariants.{Keep}
 use Rattle.command_words.specs.declared.command_lines.CommandLine.{CommandLine}
 use Rattle.command_words.specs.declared.command_lines.Options.{Options}
@@ -17,82 +18,132 @@ use Rattle.routine_reader.specs.Rosters.{kinds_of}
 use Rattle.routine_reader.specs.declared.scripts.Script.{Script}
 use Rattle.std.specs.Prelude.{Bool, Err, List, None, Ok, Option, Result, Some, length, min, true, ℕ, ◌+◌, ◌-◌, ◌<◌, ◌^◌, ◌≡◌, ◌≤◌, ◌⊎◌}
 
--- why a call ends where the journal is not opened; a slot is counted from 1, as far as its number goes
+-- why a call ends where the journal is not opened; a slot is counted from 1, as far as its number
+-- goes
 abbrev pub opening_fault : OpenFault → Fault
 opening_fault NoMemory = Memory
 opening_fault Failed = Disk
 opening_fault (HasDamage place) = Damaged (min (place + 1) (2 ^ 32 - 1))
 
 -- the journal of the script's home was opened on the disk, and keeps what it kept
-pub record IsJournalOpened {Q : Type 0} (told : Bool) (seen : Q → List ℕ) (images : Q → List ℕ → Type 0) (moment : Q → ℕ) (since : Q → ℕ → List ℕ → Type 0) (failures : Q → ℕ) (script : Script) (disk : Q) (journal : JournalState Q) : Type 0 where
+pub record IsJournalOpened {Q : Type 0} (told : Bool) (seen : Q → List ℕ)
+    (images : Q → List ℕ → Type 0) (moment : Q → ℕ) (since : Q → ℕ → List ℕ → Type 0)
+    (failures : Q → ℕ) (script : Script) (disk : Q) (journal : JournalState Q) : Type 0 where
   pub kinds : journal.kinds ≡ kinds_of script
   pub most : journal.most ≡ length script.windows.items
-  pub knows : told ≡ true → KnowsKept (kinds_of script) (length script.windows.items) (seen disk) journal.kept journal.last
-  pub same : told ≡ true → states_kept seen journal ≡ kept_states (kinds_of script) (length script.windows.items) (seen disk)
+  pub knows : told ≡ true → KnowsKept (kinds_of script) (length script.windows.items)
+      (seen disk) journal.kept journal.last
+  pub same : told ≡ true → states_kept seen journal
+      ≡ kept_states (kinds_of script) (length script.windows.items) (seen disk)
   pub later : failures disk ≤ failures journal.disk
-  pub any_moment : told ≡ true → LeavesOldOrSame seen images moment since (kinds_of script) (length script.windows.items) disk journal.disk
+  pub any_moment : told ≡ true → LeavesOldOrSame seen images moment since (kinds_of script)
+      (length script.windows.items) disk journal.disk
 
--- the disk failed as the journal was opened: a crash leaves one of the images that there were, or what keeps the same
-pub record JournalFails {Q : Type 0} (told : Bool) (seen : Q → List ℕ) (images : Q → List ℕ → Type 0) (moment : Q → ℕ) (since : Q → ℕ → List ℕ → Type 0) (failures : Q → ℕ) (script : Script) (disk now : Q) : Type 0 where
+-- the disk failed as the journal was opened: a crash leaves one of the images that there were, or
+-- what keeps the same
+pub record JournalFails {Q : Type 0} (told : Bool) (seen : Q → List ℕ)
+    (images : Q → List ℕ → Type 0) (moment : Q → ℕ) (since : Q → ℕ → List ℕ → Type 0)
+    (failures : Q → ℕ) (script : Script) (disk now : Q) : Type 0 where
   pub failed : failures disk < failures now
-  pub any_moment : told ≡ true → LeavesOldOrSame seen images moment since (kinds_of script) (length script.windows.items) disk now
+  pub any_moment : told ≡ true → LeavesOldOrSame seen images moment since (kinds_of script)
+      (length script.windows.items) disk now
 
 -- the journal is damaged first at this slot, counted from 1, and nothing was written on its disk
-pub record JournalIsDamaged {Q : Type 0} (told : Bool) (seen : Q → List ℕ) (images : Q → List ℕ → Type 0) (moment : Q → ℕ) (since : Q → ℕ → List ℕ → Type 0) (script : Script) (disk now : Q) (slot : ℕ) : Type 0 where
+pub record JournalIsDamaged {Q : Type 0} (told : Bool) (seen : Q → List ℕ)
+    (images : Q → List ℕ → Type 0) (moment : Q → ℕ) (since : Q → ℕ → List ℕ → Type 0)
+    (script : Script) (disk now : Q) (slot : ℕ) : Type 0 where
   pub place : ℕ
   pub from_one : told ≡ true → slot ≡ place + 1
-  pub damaged : told ≡ true → kept_states (kinds_of script) (length script.windows.items) (seen disk) ≡ Err place
+  pub damaged : told ≡ true
+      → kept_states (kinds_of script) (length script.windows.items) (seen disk) ≡ Err place
   pub same : told ≡ true → seen now ≡ seen disk
-  pub any_moment : told ≡ true → LeavesOldOrSame seen images moment since (kinds_of script) (length script.windows.items) disk now
+  pub any_moment : told ≡ true → LeavesOldOrSame seen images moment since (kinds_of script)
+      (length script.windows.items) disk now
 
 -- what came of the opening
-abbrev pub JournalIsOpened : {Q : Type 0} → Bool → (Q → List ℕ) → (Q → List ℕ → Type 0) → (Q → ℕ) → (Q → ℕ → List ℕ → Type 0) → (Q → ℕ) → Script → Q → Result (JournalState Q) (Q × Fault) → Type 0
-JournalIsOpened told seen images moment since failures script disk (Ok journal) = IsJournalOpened told seen images moment since failures script disk journal
+abbrev pub JournalIsOpened : {Q : Type 0} → Bool → (Q → List ℕ) → (Q → List ℕ → Type 0) → (Q → ℕ)
+    → (Q → ℕ → List ℕ → Type 0) → (Q → ℕ) → Script → Q
+    → Result (JournalState Q) (Q × Fault) → Type 0
+JournalIsOpened told seen images moment since failures script disk (Ok journal) =
+    IsJournalOpened told seen images moment since failures script disk journal
 JournalIsOpened told seen images moment since failures script disk (Err (now, Refuses fault)) = ⊥
 JournalIsOpened told seen images moment since failures script disk (Err (now, Words)) = ⊥
 JournalIsOpened told seen images moment since failures script disk (Err (now, Read)) = ⊥
 JournalIsOpened told seen images moment since failures script disk (Err (now, Write)) = ⊥
 JournalIsOpened told seen images moment since failures script disk (Err (now, Memory)) = now ≡ disk
-JournalIsOpened told seen images moment since failures script disk (Err (now, Check window place name)) = ⊥
-JournalIsOpened told seen images moment since failures script disk (Err (now, Cross window run follow)) = ⊥
-JournalIsOpened told seen images moment since failures script disk (Err (now, Disk)) = JournalFails told seen images moment since failures script disk now
-JournalIsOpened told seen images moment since failures script disk (Err (now, Damaged slot)) = JournalIsDamaged told seen images moment since script disk now slot
+JournalIsOpened told seen images moment since failures script disk
+    (Err (now, Check window place name)) = ⊥
+JournalIsOpened told seen images moment since failures script disk
+    (Err (now, Cross window run follow)) = ⊥
+JournalIsOpened told seen images moment since failures script disk (Err (now, Disk)) =
+    JournalFails told seen images moment since failures script disk now
+JournalIsOpened told seen images moment since failures script disk (Err (now, Damaged slot)) =
+    JournalIsDamaged told seen images moment since script disk now slot
 
--- the day of the script goes on behind the states that the disk keeps: so many, of which this is the last
-pub record DayGoesOn {D Q : Type 0} (shown : Shown D) (told : Bool) (seen : Q → List ℕ) (images : Q → List ℕ → Type 0) (moment : Q → ℕ) (since : Q → ℕ → List ℕ → Type 0) (failures : Q → ℕ)
-    (script : Script) (options : Options) (sink : Writes) (disk now : Q) (day : Option (Day D)) (fault : Option Fault) : Type 0 where
+-- the day of the script goes on behind the states that the disk keeps: so many, of which this is
+-- the last
+pub record DayGoesOn {D Q : Type 0} (shown : Shown D) (told : Bool) (seen : Q → List ℕ)
+    (images : Q → List ℕ → Type 0) (moment : Q → ℕ) (since : Q → ℕ → List ℕ → Type 0)
+    (failures : Q → ℕ)
+    (script : Script) (options : Options) (sink : Writes) (disk now : Q) (day : Option (Day D))
+    (fault : Option Fault) : Type 0 where
   pub kept : ℕ
   pub last : Option (List Stand)
-  pub knows : told ≡ true → KnowsKept (kinds_of script) (length script.windows.items) (seen disk) kept last
-  pub ended : HasEndedBehind IsReplayOf shown told seen images moment since failures script kept last options sink disk now day fault
+  pub knows : told ≡ true
+      → KnowsKept (kinds_of script) (length script.windows.items) (seen disk) kept last
+  pub ended : HasEndedBehind IsReplayOf shown told seen images moment since failures script kept
+      last options sink disk now day fault
 
 -- how the call ends once its script is read
-abbrev pub ScriptIsKept : {D Q : Type 0} → Shown D → Bool → (Q → List ℕ) → (Q → List ℕ → Type 0) → (Q → ℕ) → (Q → ℕ → List ℕ → Type 0) → (Q → ℕ) → Script → Options → Writes → Q → Q → Option (Day D) → Option Fault → Type 0
-ScriptIsKept shown told seen images moment since failures script options sink disk now day None = DayGoesOn shown told seen images moment since failures script options sink disk now day None
-ScriptIsKept shown told seen images moment since failures script options sink disk now day (Some (Refuses fault)) = ⊥
-ScriptIsKept shown told seen images moment since failures script options sink disk now day (Some Words) = ⊥
-ScriptIsKept shown told seen images moment since failures script options sink disk now day (Some Read) = ⊥
-ScriptIsKept shown told seen images moment since failures script options sink disk now day (Some Write) = DayGoesOn shown told seen images moment since failures script options sink disk now day (Some Write)
-ScriptIsKept shown told seen images moment since failures script options sink disk now day (Some Memory) =
-    ((day ≡ None) × IsUnwritten sink × (now ≡ disk)) ⊎ DayGoesOn shown told seen images moment since failures script options sink disk now day (Some Memory)
-ScriptIsKept shown told seen images moment since failures script options sink disk now day (Some (Check window place name)) = ⊥
-ScriptIsKept shown told seen images moment since failures script options sink disk now day (Some (Cross window run follow)) = ⊥
-ScriptIsKept shown told seen images moment since failures script options sink disk now day (Some Disk) =
-    ((day ≡ None) × IsUnwritten sink × JournalFails told seen images moment since failures script disk now) ⊎ DayGoesOn shown told seen images moment since failures script options sink disk now day (Some Disk)
-ScriptIsKept shown told seen images moment since failures script options sink disk now day (Some (Damaged slot)) =
-    (day ≡ None) × IsUnwritten sink × JournalIsDamaged told seen images moment since script disk now slot
+abbrev pub ScriptIsKept : {D Q : Type 0} → Shown D → Bool → (Q → List ℕ) → (Q → List ℕ → Type 0)
+    → (Q → ℕ) → (Q → ℕ → List ℕ → Type 0) → (Q → ℕ) → Script → Options → Writes → Q → Q
+    → Option (Day D) → Option Fault → Type 0
+ScriptIsKept shown told seen images moment since failures script options sink disk now day None =
+    DayGoesOn shown told seen images moment since failures script options sink disk now day None
+ScriptIsKept shown told seen images moment since failures script options sink disk now day
+    (Some (Refuses fault)) = ⊥
+ScriptIsKept shown told seen images moment since failures script options sink disk now day
+    (Some Words) = ⊥
+ScriptIsKept shown told seen images moment since failures script options sink disk now
+    day (Some Read) = ⊥
+ScriptIsKept shown told seen images moment since failures script options sink disk now day
+    (Some Write) =
+    DayGoesOn shown told seen images moment since failures script options sink disk now
+    day (Some Write)
+ScriptIsKept shown told seen images moment since failures script options sink disk now
+    day (Some Memory) =
+    ((day ≡ None) × IsUnwritten sink × (now ≡ disk)) ⊎ DayGoesOn shown told seen images moment since
+    failures script options sink disk now day (Some Memory)
+ScriptIsKept shown told seen images moment since failures script options sink disk now day
+    (Some (Check window place name)) = ⊥
+ScriptIsKept shown told seen images moment since failures script options sink disk now day
+    (Some (Cross window run follow)) = ⊥
+ScriptIsKept shown told seen images moment since failures script options sink disk now
+    day (Some Disk) =
+    ((day ≡ None) × IsUnwritten sink
+    × JournalFails told seen images moment since failures script disk now) ⊎ DayGoesOn shown told
+    seen images moment since failures script options sink disk now day (Some Disk)
+ScriptIsKept shown told seen images moment since failures script options sink disk now day
+    (Some (Damaged slot)) =
+    (day ≡ None) × IsUnwritten sink
+    × JournalIsDamaged told seen images moment since script disk now slot
 
 -- the script was read, and its day is kept
-pub record DayIsKept {D Q : Type 0} (shown : Shown D) (told : Bool) (seen : Q → List ℕ) (images : Q → List ℕ → Type 0) (moment : Q → ℕ) (since : Q → ℕ → List ℕ → Type 0) (failures : Q → ℕ)
-    (line : Option CommandLine) (source : Reads) (sink : Writes) (disk now : Q) (day : Option (Day D)) (fault : Option Fault) : Type 0 where
+pub record DayIsKept {D Q : Type 0} (shown : Shown D) (told : Bool) (seen : Q → List ℕ)
+    (images : Q → List ℕ → Type 0) (moment : Q → ℕ) (since : Q → ℕ → List ℕ → Type 0)
+    (failures : Q → ℕ)
+    (line : Option CommandLine) (source : Reads) (sink : Writes) (disk now : Q)
+    (day : Option (Day D)) (fault : Option Fault) : Type 0 where
   pub options : Options
   pub asked : line ≡ Some (Keep options)
   pub script : Script
   pub read : IsRead source script
-  pub ends : ScriptIsKept shown told seen images moment since failures script options sink disk now day fault
+  pub ends : ScriptIsKept shown told seen images moment since failures script options sink
+      disk now day fault
 
 -- the call ended before the script was read: nothing was written, and the disk was not called
-pub record IsUnkept {D Q : Type 0} (line : Option CommandLine) (sink : Writes) (disk now : Q) (day : Option (Day D)) : Type 0 where
+pub record IsUnkept {D Q : Type 0} (line : Option CommandLine) (sink : Writes) (disk now : Q)
+    (day : Option (Day D)) : Type 0 where
   pub options : Options
   pub asked : line ≡ Some (Keep options)
   pub no_day : day ≡ None
@@ -100,15 +151,31 @@ pub record IsUnkept {D Q : Type 0} (line : Option CommandLine) (sink : Writes) (
   pub uncalled : now ≡ disk
 
 -- how the call ends, by its fault, for the command line that it takes the words for, if any
-abbrev pub KeepEnds : {D Q : Type 0} → Shown D → Bool → (Q → List ℕ) → (Q → List ℕ → Type 0) → (Q → ℕ) → (Q → ℕ → List ℕ → Type 0) → (Q → ℕ) → Option CommandLine → Reads → Writes → Q → Q → Option (Day D) → Option Fault → Type 0
-KeepEnds shown told seen images moment since failures line source sink disk now day None = DayIsKept shown told seen images moment since failures line source sink disk now day None
-KeepEnds shown told seen images moment since failures line source sink disk now day (Some (Refuses fault)) = IsUnkept line sink disk now day × IsRefused source fault
-KeepEnds shown told seen images moment since failures line source sink disk now day (Some Words) = (line ≡ None) × IsUnread source × (day ≡ None) × IsUnwritten sink × (now ≡ disk)
-KeepEnds shown told seen images moment since failures line source sink disk now day (Some Read) = IsUnkept line sink disk now day × InputFails source
-KeepEnds shown told seen images moment since failures line source sink disk now day (Some Write) = DayIsKept shown told seen images moment since failures line source sink disk now day (Some Write)
+abbrev pub KeepEnds : {D Q : Type 0} → Shown D → Bool → (Q → List ℕ) → (Q → List ℕ → Type 0)
+    → (Q → ℕ) → (Q → ℕ → List ℕ → Type 0) → (Q → ℕ) → Option CommandLine → Reads → Writes → Q → Q
+    → Option (Day D) → Option Fault → Type 0
+KeepEnds shown told seen images moment since failures line source sink disk now day None =
+    DayIsKept shown told seen images moment since failures line source sink disk now day None
+KeepEnds shown told seen images moment since failures line source sink disk now day
+    (Some (Refuses fault)) =
+    IsUnkept line sink disk now day × IsRefused source fault
+KeepEnds shown told seen images moment since failures line source sink disk now day (Some Words) =
+    (line ≡ None) × IsUnread source × (day ≡ None) × IsUnwritten sink × (now ≡ disk)
+KeepEnds shown told seen images moment since failures line source sink disk now day (Some Read) =
+    IsUnkept line sink disk now day × InputFails source
+KeepEnds shown told seen images moment since failures line source sink disk now day (Some Write) =
+    DayIsKept shown told seen images moment since failures line source sink disk now
+    day (Some Write)
 KeepEnds shown told seen images moment since failures line source sink disk now day (Some Memory) =
-    ((day ≡ None) × IsUnwritten sink × (now ≡ disk) × InputIsStarved source) ⊎ DayIsKept shown told seen images moment since failures line source sink disk now day (Some Memory)
-KeepEnds shown told seen images moment since failures line source sink disk now day (Some (Check window place name)) = ⊥
-KeepEnds shown told seen images moment since failures line source sink disk now day (Some (Cross window run follow)) = ⊥
-KeepEnds shown told seen images moment since failures line source sink disk now day (Some Disk) = DayIsKept shown told seen images moment since failures line source sink disk now day (Some Disk)
-KeepEnds shown told seen images moment since failures line source sink disk now day (Some (Damaged slot)) = DayIsKept shown told seen images moment since failures line source sink disk now day (Some (Damaged slot))
+    ((day ≡ None) × IsUnwritten sink × (now ≡ disk) × InputIsStarved source) ⊎ DayIsKept shown told
+    seen images moment since failures line source sink disk now day (Some Memory)
+KeepEnds shown told seen images moment since failures line source sink disk now day
+    (Some (Check window place name)) = ⊥
+KeepEnds shown told seen images moment since failures line source sink disk now day
+    (Some (Cross window run follow)) = ⊥
+KeepEnds shown told seen images moment since failures line source sink disk now day (Some Disk) =
+    DayIsKept shown told seen images moment since failures line source sink disk now day (Some Disk)
+KeepEnds shown told seen images moment since failures line source sink disk now day
+    (Some (Damaged slot)) =
+    DayIsKept shown told seen images moment since failures line source sink disk now day
+    (Some (Damaged slot))

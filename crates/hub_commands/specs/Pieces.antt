@@ -11,13 +11,23 @@ use Rattle.hub_commands.specs.declared.pieces.PieceFault.{PieceFault}
 use Rattle.std.specs.Io.KnownBytes.{Appends}
 use Rattle.std.specs.Prelude.{Err, List, None, Ok, Option, Result, Some, ℕ, ◌<◌, ◌≡◌}
 
--- the sink got the piece; or it failed, and got a first part; or there was no memory for the piece, and it holds what it held
+-- the sink got the piece; or it failed, and got a first part; or there was no memory for the piece,
+-- and it holds what it held
 abbrev pub PieceEnds : {M : Type 0} → Writes → Result (List ℕ) M → Result Unit PieceFault → Type 0
-PieceEnds sink piece (Ok done) = (bytes : List ℕ) × (piece ≡ Ok bytes) × Appends sink.held sink.holds bytes × (sink.faults_after ≡ sink.faults)
-PieceEnds sink piece (Err Sink) = (bytes : List ℕ) × (piece ≡ Ok bytes) × AppendsPart sink.held sink.holds bytes × (sink.faults < sink.faults_after)
+PieceEnds sink piece (Ok done) =
+    (bytes : List ℕ) × (piece ≡ Ok bytes) × Appends sink.held sink.holds bytes
+    × (sink.faults_after ≡ sink.faults)
+PieceEnds sink piece (Err Sink) =
+    (bytes : List ℕ) × (piece ≡ Ok bytes) × AppendsPart sink.held sink.holds bytes
+    × (sink.faults < sink.faults_after)
 PieceEnds sink piece (Err Memory) = IsUnwritten sink
 
--- the day ends with these windows: with its devices where the sink failed, and without them where memory was wanted
-abbrev pub StopEnds : {D : Type 0} → Listed WindowRecord → List D → PieceFault → Option (Day D) → Option Fault → Type 0
-StopEnds {D} windows items Sink day fault = (devices : Listed D) × (devices.items ≡ items) × (day ≡ Some (record { windows = windows; devices = Some devices })) × (fault ≡ Some Write)
-StopEnds {D} windows items Memory day fault = (day ≡ Some (record { windows = windows; devices = None })) × (fault ≡ Some WantsMemory)
+-- the day ends with these windows: with its devices where the sink failed, and without them where
+-- memory was wanted
+abbrev pub StopEnds : {D : Type 0} → Listed WindowRecord → List D → PieceFault → Option (Day D)
+    → Option Fault → Type 0
+StopEnds {D} windows items Sink day fault =
+    (devices : Listed D) × (devices.items ≡ items)
+    × (day ≡ Some (record { windows = windows; devices = Some devices })) × (fault ≡ Some Write)
+StopEnds {D} windows items Memory day fault =
+    (day ≡ Some (record { windows = windows; devices = None })) × (fault ≡ Some WantsMemory)

@@ -1,4 +1,5 @@
--- How a day of rooms ends, and the call that runs one: by its fault, what was read, worked and written.
+-- How a day of rooms ends, and the call that runs one: by its fault, what was read, worked and
+-- written.
 use Rattle.day_clock.specs.Sinks.{AppendsPart}
 use Rattle.day_report.specs.Days.{day_text}
 use Rattle.home_types.specs.Listed.{Listed}
@@ -18,47 +19,66 @@ use Rattle.routine_reader.specs.declared.scripts.Script.{Script}
 use Rattle.std.specs.Io.KnownBytes.{Appends}
 use Rattle.std.specs.Prelude.{Bool, Err, IsOk, None, Option, Some, [], false, if◌then◌else◌, length, ℕ, ⊤, ◌+◌, ◌++◌, ◌<◌, ◌∷◌, ◌≡◌, ◌⊎◌}
 
--- each window was written before the next one was worked: the sink got at least the text of the windows but the last
+-- each window was written before the next one was worked: the sink got at least the text of the
+-- windows but the last
 abbrev pub RoomsAreWrittenAsClosed : Script → Mode → Writes → Windows → Type 0
-RoomsAreWrittenAsClosed script mode sink windows = (before : Windows) (closed : Listed RoomWindow) → windows ≡ before ++ closed ∷ []
-    → AppendsAtLeast sink.held sink.holds (text_so_far script mode false (told_records script mode before))
+RoomsAreWrittenAsClosed script mode sink windows =
+    (before : Windows) (closed : Listed RoomWindow) → windows ≡ before ++ closed ∷ []
+    → AppendsAtLeast sink.held sink.holds
+    (text_so_far script mode false (told_records script mode before))
 
--- the day is whole: there is a window of each room for each window of the script, and the sink got the text
-pub record RoomDayIsWhole {D : Type 0} (earliest latest : Moment) (shown : Shown D) (script : Script) (mode : Mode) (sink : Writes) (windows : Windows) (o : Option (Listed D)) : Type 0 where
+-- the day is whole: there is a window of each room for each window of the script, and the sink got
+-- the text
+pub record RoomDayIsWhole {D : Type 0} (earliest latest : Moment) (shown : Shown D)
+    (script : Script) (mode : Mode) (sink : Writes) (windows : Windows)
+    (o : Option (Listed D)) : Type 0 where
   pub devices : Listed D
   pub there : o ≡ Some devices
   pub all : length windows ≡ length script.windows.items
   pub left : RoomsAreLeft earliest latest shown script mode windows devices.items
-  pub text : Appends sink.held sink.holds (day_text script (told_records script mode windows) mode false)
+  pub text : Appends sink.held sink.holds
+      (day_text script (told_records script mode windows) mode false)
   pub calm : sink.faults_after ≡ sink.faults
 
--- the day was cut short where the sink failed: it is legal up to there, and the sink got a first part of its text, and not all
-pub record RoomDayIsCut {D : Type 0} (earliest latest : Moment) (shown : Shown D) (script : Script) (mode : Mode) (sink : Writes) (windows : Windows) (o : Option (Listed D)) : Type 0 where
+-- the day was cut short where the sink failed: it is legal up to there, and the sink got a first
+-- part of its text, and not all
+pub record RoomDayIsCut {D : Type 0} (earliest latest : Moment) (shown : Shown D) (script : Script)
+    (mode : Mode) (sink : Writes) (windows : Windows) (o : Option (Listed D)) : Type 0 where
   pub devices : Listed D
   pub there : o ≡ Some devices
   pub left : RoomsAreLeft earliest latest shown script mode windows devices.items
-  pub text : AppendsPart sink.held sink.holds (text_due plain script mode false (told_records script mode windows))
+  pub text : AppendsPart sink.held sink.holds
+      (text_due plain script mode false (told_records script mode windows))
   pub as_closed : RoomsAreWrittenAsClosed script mode sink windows
   pub failed : sink.faults < sink.faults_after
 
--- the day was cut short for want of memory: its windows are legal up to there, no device is handed back, and the sink got a first part of its text
-pub record RoomDayIsStarved {D : Type 0} (earliest latest : Moment) (script : Script) (mode : Mode) (sink : Writes) (windows : Windows) (o : Option (Listed D)) : Type 0 where
+-- the day was cut short for want of memory: its windows are legal up to there, no device is handed
+-- back, and the sink got a first part of its text
+pub record RoomDayIsStarved {D : Type 0} (earliest latest : Moment) (script : Script) (mode : Mode)
+    (sink : Writes) (windows : Windows) (o : Option (Listed D)) : Type 0 where
   pub no_devices : o ≡ None
   pub played : RoomsArePlayed earliest latest script mode windows
-  pub text : AppendsFirst sink.held sink.holds (text_due plain script mode false (told_records script mode windows))
+  pub text : AppendsFirst sink.held sink.holds
+      (text_due plain script mode false (told_records script mode windows))
   pub as_closed : RoomsAreWrittenAsClosed script mode sink windows
   pub calm : sink.faults_after ≡ sink.faults
 
 -- how the day of a script ends whose windows can all be split
-abbrev pub RoomDayEnds : {D : Type 0} → Moment → Moment → Shown D → Script → Mode → Writes → Windows → Option (Listed D) → Option Fault → Type 0
-RoomDayEnds earliest latest shown script mode sink windows devices None = RoomDayIsWhole earliest latest shown script mode sink windows devices
+abbrev pub RoomDayEnds : {D : Type 0} → Moment → Moment → Shown D → Script → Mode → Writes → Windows
+    → Option (Listed D) → Option Fault → Type 0
+RoomDayEnds earliest latest shown script mode sink windows devices None =
+    RoomDayIsWhole earliest latest shown script mode sink windows devices
 RoomDayEnds earliest latest shown script mode sink windows devices (Some (Refuses fault)) = ⊥
 RoomDayEnds earliest latest shown script mode sink windows devices (Some Words) = ⊥
 RoomDayEnds earliest latest shown script mode sink windows devices (Some Read) = ⊥
-RoomDayEnds earliest latest shown script mode sink windows devices (Some Write) = RoomDayIsCut earliest latest shown script mode sink windows devices
-RoomDayEnds earliest latest shown script mode sink windows devices (Some Memory) = RoomDayIsStarved earliest latest script mode sink windows devices
-RoomDayEnds earliest latest shown script mode sink windows devices (Some (Check window place name)) = ⊥
-RoomDayEnds earliest latest shown script mode sink windows devices (Some (Cross window run follow)) = ⊥
+RoomDayEnds earliest latest shown script mode sink windows devices (Some Write) =
+    RoomDayIsCut earliest latest shown script mode sink windows devices
+RoomDayEnds earliest latest shown script mode sink windows devices (Some Memory) =
+    RoomDayIsStarved earliest latest script mode sink windows devices
+RoomDayEnds earliest latest shown script mode sink windows devices
+    (Some (Check window place name)) = ⊥
+RoomDayEnds earliest latest shown script mode sink windows devices
+    (Some (Cross window run follow)) = ⊥
 RoomDayEnds earliest latest shown script mode sink windows devices (Some Disk) = ⊥
 RoomDayEnds earliest latest shown script mode sink windows devices (Some (Damaged slot)) = ⊥
 
@@ -71,7 +91,8 @@ abbrev pub SplitBefore : Script → ℕ → Type 0
 SplitBefore script n = (w : ℕ) → w < n → IsOk (script_split script w)
 
 -- the window with this number, from 1, is the first one that the split refuses, and so
-pub record IsFirstRefused (script : Script) (window : ℕ) (run : RunNo) (follow : Bool) : Type 0 where
+pub record IsFirstRefused (script : Script) (window : ℕ) (run : RunNo)
+    (follow : Bool) : Type 0 where
   pub number : ℕ
   pub from_one : window ≡ number + 1
   pub there : number < length script.windows.items
@@ -80,7 +101,8 @@ pub record IsFirstRefused (script : Script) (window : ℕ) (run : RunNo) (follow
 
 -- the fault of a window with this number, from 0, whose split is refused so
 abbrev pub IsSplitFault : ℕ → SplitFault → Fault → Type 0
-IsSplitFault number refusal (Cross window run follow) = (window ≡ number + 1) × (refusal ≡ crossing run follow)
+IsSplitFault number refusal (Cross window run follow) =
+    (window ≡ number + 1) × (refusal ≡ crossing run follow)
 IsSplitFault number refusal Memory = refusal ≡ NoMemory
 IsSplitFault number refusal (Refuses fault) = ⊥
 IsSplitFault number refusal Words = ⊥
@@ -90,7 +112,8 @@ IsSplitFault number refusal (Check window place name) = ⊥
 IsSplitFault number refusal Disk = ⊥
 IsSplitFault number refusal (Damaged slot) = ⊥
 
--- why the windows of the script were not all split: memory was wanted, or the first one that is refused
+-- why the windows of the script were not all split: memory was wanted, or the first one that is
+-- refused
 abbrev pub SplitsEnd : Script → Fault → Type 0
 SplitsEnd script (Cross window run follow) = IsFirstRefused script window run follow
 SplitsEnd script Memory = ⊤
@@ -103,13 +126,16 @@ SplitsEnd script Disk = ⊥
 SplitsEnd script (Damaged slot) = ⊥
 
 -- nothing was worked, and nothing was written
-pub record NothingIsWorked {D : Type 0} (sink : Writes) (windows : Windows) (devices : Option (Listed D)) : Type 0 where
+pub record NothingIsWorked {D : Type 0} (sink : Writes) (windows : Windows)
+    (devices : Option (Listed D)) : Type 0 where
   pub no_window : windows ≡ []
   pub no_devices : devices ≡ None
   pub unwritten : IsUnwritten sink
 
 -- the day of the script that was read ends so; each of its windows can be split
-pub record RoomDayIsWorked {D : Type 0} (earliest latest : Moment) (shown : Shown D) (asked : Option Mode) (source : Reads) (sink : Writes) (windows : Windows) (devices : Option (Listed D)) (fault : Option Fault) : Type 0 where
+pub record RoomDayIsWorked {D : Type 0} (earliest latest : Moment) (shown : Shown D)
+    (asked : Option Mode) (source : Reads) (sink : Writes) (windows : Windows)
+    (devices : Option (Listed D)) (fault : Option Fault) : Type 0 where
   pub mode : Mode
   pub asked_for : asked ≡ Some mode
   pub script : Script
@@ -118,7 +144,8 @@ pub record RoomDayIsWorked {D : Type 0} (earliest latest : Moment) (shown : Show
   pub ends : RoomDayEnds earliest latest shown script mode sink windows devices fault
 
 -- a window of the script that was read is refused
-pub record IsCrossed (asked : Option Mode) (source : Reads) (window : ℕ) (run : RunNo) (follow : Bool) : Type 0 where
+pub record IsCrossed (asked : Option Mode) (source : Reads) (window : ℕ) (run : RunNo)
+    (follow : Bool) : Type 0 where
   pub mode : Mode
   pub asked_for : asked ≡ Some mode
   pub script : Script
@@ -137,16 +164,25 @@ abbrev pub IsAsked : Option Mode → Type 0
 IsAsked asked = (mode : Mode) × (asked ≡ Some mode)
 
 -- how the call ends, by its fault, for the mode that its words ask for, if any
-abbrev pub RoomCallEnds : {D : Type 0} → Moment → Moment → Shown D → Option Mode → Reads → Writes → Windows → Option (Listed D) → Option Fault → Type 0
-RoomCallEnds earliest latest shown asked source sink windows devices None = RoomDayIsWorked earliest latest shown asked source sink windows devices None
-RoomCallEnds earliest latest shown asked source sink windows devices (Some (Refuses fault)) = IsAsked asked × NothingIsWorked sink windows devices × IsRefused source fault
-RoomCallEnds earliest latest shown asked source sink windows devices (Some Words) = (asked ≡ None) × NothingIsWorked sink windows devices × IsUnread source
-RoomCallEnds earliest latest shown asked source sink windows devices (Some Read) = IsAsked asked × NothingIsWorked sink windows devices × InputFails source
-RoomCallEnds earliest latest shown asked source sink windows devices (Some Write) = RoomDayIsWorked earliest latest shown asked source sink windows devices (Some Write)
+abbrev pub RoomCallEnds : {D : Type 0} → Moment → Moment → Shown D → Option Mode → Reads → Writes
+    → Windows → Option (Listed D) → Option Fault → Type 0
+RoomCallEnds earliest latest shown asked source sink windows devices None =
+    RoomDayIsWorked earliest latest shown asked source sink windows devices None
+RoomCallEnds earliest latest shown asked source sink windows devices (Some (Refuses fault)) =
+    IsAsked asked × NothingIsWorked sink windows devices × IsRefused source fault
+RoomCallEnds earliest latest shown asked source sink windows devices (Some Words) =
+    (asked ≡ None) × NothingIsWorked sink windows devices × IsUnread source
+RoomCallEnds earliest latest shown asked source sink windows devices (Some Read) =
+    IsAsked asked × NothingIsWorked sink windows devices × InputFails source
+RoomCallEnds earliest latest shown asked source sink windows devices (Some Write) =
+    RoomDayIsWorked earliest latest shown asked source sink windows devices (Some Write)
 RoomCallEnds earliest latest shown asked source sink windows devices (Some Memory) =
     (NothingIsWorked sink windows devices × (InputIsStarved source ⊎ IsReadAndStarved asked source))
     ⊎ RoomDayIsWorked earliest latest shown asked source sink windows devices (Some Memory)
-RoomCallEnds earliest latest shown asked source sink windows devices (Some (Check window place name)) = ⊥
+RoomCallEnds earliest latest shown asked source sink windows devices
+    (Some (Check window place name)) = ⊥
 RoomCallEnds earliest latest shown asked source sink windows devices (Some Disk) = ⊥
 RoomCallEnds earliest latest shown asked source sink windows devices (Some (Damaged slot)) = ⊥
-RoomCallEnds earliest latest shown asked source sink windows devices (Some (Cross window run follow)) = NothingIsWorked sink windows devices × IsCrossed asked source window run follow
+RoomCallEnds earliest latest shown asked source sink windows devices
+    (Some (Cross window run follow)) =
+    NothingIsWorked sink windows devices × IsCrossed asked source window run follow

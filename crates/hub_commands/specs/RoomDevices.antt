@@ -20,9 +20,13 @@ IsRoomed room_of rooms = (d : DeviceId) → d < length room_of → device_room r
 
 -- each room's home has as many devices as there are in the room
 abbrev pub HasDevicesOf : {D : Type 0} → List ℕ → List (HomeState D) → Type 0
-HasDevicesOf {D} room_of homes = (k : ℕ) (home : HomeState D) → slice_get homes k ≡ Some home → length home.devices ≡ length (devices_in room_of k)
+HasDevicesOf {D} room_of homes =
+    (k : ℕ) (home : HomeState D) → slice_get homes k ≡ Some home
+    → length home.devices ≡ length (devices_in room_of k)
 
 -- each device of each home stands where the home's number of it says
 abbrev pub AreAllPlaced : {D : Type 0} → List ℕ → List (HomeState D) → List D → Type 0
-AreAllPlaced {D} room_of homes devices = (k : ℕ) (home : HomeState D) (a : ℕ) (device : D) → slice_get homes k ≡ Some home → slice_get home.devices a ≡ Some device
+AreAllPlaced {D} room_of homes devices =
+    (k : ℕ) (home : HomeState D) (a : ℕ) (device : D) → slice_get homes k ≡ Some home
+    → slice_get home.devices a ≡ Some device
     → slice_get devices (slice_index_or (devices_in room_of k) a 0) ≡ Some device

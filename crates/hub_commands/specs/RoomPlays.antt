@@ -18,36 +18,52 @@ use Rattle.std.specs.Prelude.{List, Ok, Some, length, map, slice_get, ℕ, ◌�
 
 -- each roster may be opened on the home in its place
 abbrev pub MayAllOpen : {D : Type 0} → Mode → ℕ → List RoomRoster → List (HomeState D) → Type 0
-MayAllOpen {D} mode rounds rosters homes = (k : ℕ) (roster : RoomRoster) (home : HomeState D) → slice_get rosters k ≡ Some roster → slice_get homes k ≡ Some home
+MayAllOpen {D} mode rounds rosters homes =
+    (k : ℕ) (roster : RoomRoster) (home : HomeState D) → slice_get rosters k ≡ Some roster
+    → slice_get homes k ≡ Some home
     → MayOpen (setting_for home roster.roster mode) rounds home.opened
 
 -- the room's window was opened on this home
-abbrev pub IsRoomOpened : {D : Type 0} → (D → ℕ) → (D → ℕ) → (D → ℕ) → Mode → ℕ → HomeState D → RoomHub D → Type 0
-IsRoomOpened turns probes faults mode rounds home room = IsOpened turns probes faults (setting_for home room.roster.roster mode) rounds home room.hub
+abbrev pub IsRoomOpened : {D : Type 0} → (D → ℕ) → (D → ℕ) → (D → ℕ) → Mode → ℕ → HomeState D
+    → RoomHub D → Type 0
+IsRoomOpened turns probes faults mode rounds home room =
+    IsOpened turns probes faults (setting_for home room.roster.roster mode) rounds home room.hub
 
 -- the windows of all rooms were opened
-pub record AreOpened {D : Type 0} (turns probes faults : D → ℕ) (mode : Mode) (rounds : ℕ) (rosters : List RoomRoster) (homes : List (HomeState D)) (hubs : List (RoomHub D)) : Type 0 where
+pub record AreOpened {D : Type 0} (turns probes faults : D → ℕ) (mode : Mode) (rounds : ℕ)
+    (rosters : List RoomRoster) (homes : List (HomeState D))
+    (hubs : List (RoomHub D)) : Type 0 where
   pub rosters_are : map (λ room. room.roster) hubs ≡ rosters
   pub count : length homes ≡ length hubs
-  pub each : (k : ℕ) (home : HomeState D) (room : RoomHub D) → slice_get homes k ≡ Some home → slice_get hubs k ≡ Some room → IsRoomOpened turns probes faults mode rounds home room
+  pub each : (k : ℕ) (home : HomeState D) (room : RoomHub D) → slice_get homes k ≡ Some home
+      → slice_get hubs k ≡ Some room → IsRoomOpened turns probes faults mode rounds home room
 
 -- the homes and the windows of the rooms that were worked
-pub record AreTakenApart {D : Type 0} (tag stands turns probes faults : D → ℕ) (done : List (RoomDone D)) (homes : List (HomeState D)) (windows : List RoomWindow) : Type 0 where
+pub record AreTakenApart {D : Type 0} (tag stands turns probes faults : D → ℕ)
+    (done : List (RoomDone D)) (homes : List (HomeState D))
+    (windows : List RoomWindow) : Type 0 where
   pub homes_are : homes ≡ map (λ room. room.home) done
   pub windows_are : windows ≡ map (λ room. room.window) done
-  pub kept : (k : ℕ) (home : HomeState D) → slice_get homes k ≡ Some home → HomeIsKept tag stands turns probes faults home
+  pub kept : (k : ℕ) (home : HomeState D) → slice_get homes k ≡ Some home
+      → HomeIsKept tag stands turns probes faults home
 
 -- a room's window was opened on its home, and worked by threads
-pub record RoomWent {D : Type 0} (shown : Shown D) (earliest latest : Moment) (mode : Mode) (rounds : ℕ) (before after : HomeState D) (window : RoomWindow) : Type 0 where
+pub record RoomWent {D : Type 0} (shown : Shown D) (earliest latest : Moment) (mode : Mode)
+    (rounds : ℕ) (before after : HomeState D) (window : RoomWindow) : Type 0 where
   pub hub : OpenHub D
-  pub opened : IsOpened shown.turns shown.probes shown.faults (setting_for before window.roster.roster mode) rounds before hub
-  pub worked : IsWorked shown.tag shown.plan shown.turns shown.probes shown.faults earliest latest hub after window.closed
+  pub opened : IsOpened shown.turns shown.probes shown.faults
+      (setting_for before window.roster.roster mode) rounds before hub
+  pub worked : IsWorked shown.tag shown.plan shown.turns shown.probes shown.faults earliest latest
+      hub after window.closed
   pub kept : HomeIsKept shown.tag shown.stands shown.turns shown.probes shown.faults after
 
 -- the script's window of this number was worked in every room, with so many rounds of probes
-pub record RoomsWent {D : Type 0} (shown : Shown D) (earliest latest : Moment) (script : Script) (mode : Mode) (number rounds : ℕ) (before after : List (HomeState D)) (windows : List RoomWindow) : Type 0 where
+pub record RoomsWent {D : Type 0} (shown : Shown D) (earliest latest : Moment) (script : Script)
+    (mode : Mode) (number rounds : ℕ) (before after : List (HomeState D))
+    (windows : List RoomWindow) : Type 0 where
   pub split : script_split script number ≡ Ok (map (λ x. plain_room x.roster) windows)
   pub homed : length after ≡ length before
   pub count : length windows ≡ length before
-  pub each : (k : ℕ) (x y : HomeState D) (window : RoomWindow) → slice_get before k ≡ Some x → slice_get after k ≡ Some y → slice_get windows k ≡ Some window
+  pub each : (k : ℕ) (x y : HomeState D) (window : RoomWindow) → slice_get before k ≡ Some x
+      → slice_get after k ≡ Some y → slice_get windows k ≡ Some window
       → RoomWent shown earliest latest mode rounds x y window

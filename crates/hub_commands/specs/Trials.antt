@@ -37,25 +37,29 @@ agreeing (Differs window place) windows = window - 1
 abbrev pub finding : {D : Type 0} → Script → Day D → Verdict
 finding script day = verdict_of script (day_text script day.windows.items trial_mode false)
 
--- the day that is handed back is the whole day of the trial's script, legal, each of its windows the replay of its seed, and in each every run has ended; its record agrees
+-- the day that is handed back is the whole day of the trial's script, legal, each of its windows
+-- the replay of its seed, and in each every run has ended; its record agrees
 pub record IsTrialDay {D : Type 0} (shown : Shown D) (n : ℕ) (day : Day D) : Type 0 where
   pub script : Script
   pub made : plain_script script ≡ trial_script n
   pub devices : Listed D
   pub there : day.devices ≡ Some devices
-  pub legal : IsLegalDay shown.tag shown.plan shown.stands shown.turns shown.faults script trial_mode day.windows.items devices.items
+  pub legal : IsLegalDay shown.tag shown.plan shown.stands shown.turns shown.faults script
+      trial_mode day.windows.items devices.items
   pub takes : List (DeviceId → ℕ)
   pub played : WindowsArePlayed IsReplayOf script trial_mode day.windows.items takes
   pub probed : DevicesAreProbed shown.probes takes devices.items
   pub agrees : finding script day ≡ Agrees
 
--- the line of the trial: the counts of its day, and how many of its windows agree by what is found of its record
+-- the line of the trial: the counts of its day, and how many of its windows agree by what is found
+-- of its record
 abbrev pub line_due : {D : Type 0} → ℕ → Script → Day D → List ℕ
 line_due n script day =
     trial_text n day.windows.items (agreeing (finding script day) (length day.windows.items))
 
 -- the day was played, and its line was written
-pub record TrialIsWritten {D : Type 0} (shown : Shown D) (n : ℕ) (sink : Writes) (o : Option (Day D)) : Type 0 where
+pub record TrialIsWritten {D : Type 0} (shown : Shown D) (n : ℕ) (sink : Writes)
+    (o : Option (Day D)) : Type 0 where
   pub day : Day D
   pub given : o ≡ Some day
   pub trial : IsTrialDay shown n day
@@ -63,14 +67,16 @@ pub record TrialIsWritten {D : Type 0} (shown : Shown D) (n : ℕ) (sink : Write
   pub calm : sink.faults_after ≡ sink.faults
 
 -- the day was played, and the sink failed: it got a first part of the line, and not all
-pub record TrialIsCut {D : Type 0} (shown : Shown D) (n : ℕ) (sink : Writes) (o : Option (Day D)) : Type 0 where
+pub record TrialIsCut {D : Type 0} (shown : Shown D) (n : ℕ) (sink : Writes)
+    (o : Option (Day D)) : Type 0 where
   pub day : Day D
   pub given : o ≡ Some day
   pub trial : IsTrialDay shown n day
   pub text : AppendsPart sink.held sink.holds (line_due n trial.script day)
   pub failed : sink.faults < sink.faults_after
 
--- memory was wanted when the script was made: its windows are legal up to there, and no device is handed back
+-- memory was wanted when the script was made: its windows are legal up to there, and no device is
+-- handed back
 pub record TrialDayIsStarved {D : Type 0} (n : ℕ) (o : Option (Day D)) : Type 0 where
   pub script : Script
   pub made : plain_script script ≡ trial_script n
@@ -99,8 +105,12 @@ TrialEnds shown n sink day (Some (Damaged slot)) = ⊥
 
 -- the trial ends for want of memory, with the windows of the day, if there is one
 abbrev pub HasStarved : {D : Type 0} → Option (Day D) → Option (Day D) → Option Fault → Type 0
-HasStarved day after fault = (fault ≡ Some Memory) × (after ≡ option_map (λ d. record { windows = d.windows; devices = None }) day)
+HasStarved day after fault =
+    (fault ≡ Some Memory)
+    × (after ≡ option_map (λ d. record { windows = d.windows; devices = None }) day)
 
 -- the line of the trial was written, or a first part of it, or there was no memory for that
-abbrev pub HasJudged : {D : Type 0} → ℕ → Script → Writes → Day D → Option (Day D) → Option Fault → Type 0
-HasJudged n script sink day after fault = LineIsWritten (line_due n script day) sink (Some day) after fault
+abbrev pub HasJudged : {D : Type 0} → ℕ → Script → Writes → Day D → Option (Day D)
+    → Option Fault → Type 0
+HasJudged n script sink day after fault =
+    LineIsWritten (line_due n script day) sink (Some day) after fault

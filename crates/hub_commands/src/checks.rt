@@ -1,4 +1,5 @@
-//! The command `check`: whether a record is the serial execution of its orders, by its script alone.
+//! The command `check`: whether a record is the serial execution of its orders, by its script
+//! alone.
 ghost use Rattle.std.specs.Prelude.{◌≡◌, IfOk, None};
 ghost use Rattle.hub_commands.specs.Checks.{CheckEnds, InputIsJudged, IsJudged, place_name};
 ghost use Rattle.hub_commands.specs.Finishes.{read_off, written};
@@ -56,13 +57,13 @@ fn judge_record(alloc: Global, script: &Script, printed: &[u8]) -> Result<(), Fa
     }
 }
 
-/// Reads the source to its end, the script of its bytes up to the line that divides, and judges the record behind it.
+/// Reads the source to its end, the script of its bytes up to the line that divides, and judges the
+/// record behind it.
 ///
 /// The input is refused as soon as one byte more than it may have was taken.
 fn judge_input<S: Source>(alloc: Global, source: &mut S) -> Result<(), Fault>
-    ensures { InputIsJudged
-        (read_off (S.left source.old) (S.left source.new) (S.faults source.old) (S.faults source.new))
-        result }
+    ensures { InputIsJudged (read_off (S.left source.old) (S.left source.new) (S.faults source.old)
+        (S.faults source.new)) result }
 {
     let bytes = match read_to_end(alloc, source, limits::CHECK_BYTES) {
         Ok(bytes) => bytes,
@@ -86,8 +87,8 @@ pub fn check_input<S: Source, K: Sink, Dev: Device>(
 ) -> Finish<Dev>
     ensures status { result.status ≡ status_for_fault result.fault }
     ensures no_day { result.day ≡ None }
-    ensures ends { CheckEnds
-        (read_off (S.left source.old) (S.left source.new) (S.faults source.old) (S.faults source.new))
+    ensures ends { CheckEnds (read_off (S.left source.old) (S.left source.new) (S.faults source.old)
+        (S.faults source.new))
         (written (K.holds sink.old) (K.holds sink.new) (K.faults sink.old) (K.faults sink.new))
         result.fault }
 {

@@ -67,8 +67,8 @@ pub fn starve<Dev: Device>(day: Option<Day<Dev>>) -> Finish<Dev>
     }
 }
 
-/// Ends a day on which a piece of the record was not written: with its devices where the sink failed, and without them
-/// where memory was wanted.
+/// Ends a day on which a piece of the record was not written: with its devices where the sink
+/// failed, and without them where memory was wanted.
 fn stop<Dev: Device>(day: DayUnderWay<Dev>, fault: PieceFault) -> Finish<Dev>
     ensures status { result.status ≡ status_for_fault result.fault }
     ensures ends { StopEnds day.windows day.home.devices fault result.day result.fault }
@@ -170,7 +170,8 @@ pub fn begin<W: Way, K: Sink, B: Bench>(
     )
 }
 
-/// Goes on with what came of the next window: writes its lines. So many windows of the script went before the day.
+/// Goes on with what came of the next window: writes its lines. So many windows of the script went
+/// before the day.
 pub fn go_on<W: Way, D: Device, K: Sink>(
     _way: &W,
     alloc: Global,
@@ -228,8 +229,8 @@ pub fn end<W: Way, D: Device, K: Sink>(
     }
 }
 
-/// Ends a call with its last line, behind a day: with the day where the line is written or the sink failed, and with its
-/// windows alone where memory was wanted.
+/// Ends a call with its last line, behind a day: with the day where the line is written or the sink
+/// failed, and with its windows alone where memory was wanted.
 pub fn end_with_line<Dev: Device, K: Sink>(
     sink: &mut K,
     line: Result<Bytes, NoMemory>,

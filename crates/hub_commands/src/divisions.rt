@@ -15,7 +15,8 @@ fn line_length(text: &[u8]) -> usize
     requires { 0 < length text.now }
     ensures some { 0 < result }
     ensures within { result ≤ length text.now }
-    ensures first { lines_with_feeds text.now ≡ take result text.now ∷ lines_with_feeds (drop result text.now) }
+    ensures first { lines_with_feeds text.now
+        ≡ take result text.now ∷ lines_with_feeds (drop result text.now) }
 {
     match line_feed(text) {
         Some(at) => at + 1,
@@ -30,8 +31,8 @@ fn is_divider(line: &[u8]) -> bool
     line == "%%\n".as_bytes() || line == "%%".as_bytes()
 }
 
-/// The script and the record of an input: what stands before its first line that is `%%`, and what stands behind it.
-/// Without such a line the record is empty.
+/// The script and the record of an input: what stands before its first line that is `%%`, and what
+/// stands behind it. Without such a line the record is empty.
 pub fn divide(text: &[u8]) -> (&[u8], &[u8])
     ensures script { result.0.now ≡ (division_of text.now).script }
     ensures record_text { result.1.now ≡ (division_of text.now).record_text }

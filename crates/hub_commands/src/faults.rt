@@ -35,12 +35,14 @@ pub enum Fault {
         window: u32,
         /// Its first run that crosses rooms.
         run: RunNo,
-        /// Whether the run crosses by the run that it follows alone; else it has commands in two rooms.
+        /// Whether the run crosses by the run that it follows alone; else it has commands in two
+        /// rooms.
         follow: bool,
     },
     /// The disk failed.
     Disk,
-    /// The journal on the disk is damaged: the first slot, from 1, that is open and tells no state of the script's home.
+    /// The journal on the disk is damaged: the first slot, from 1, that is open and tells no state
+    /// of the script's home.
     Damaged(u32),
 }
 

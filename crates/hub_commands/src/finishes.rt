@@ -20,6 +20,7 @@ pub struct Finish<Dev: Device> {
 pub struct Day<Dev: Device> {
     /// The windows that were closed, in order.
     pub windows: List<WindowRecord>,
-    /// The devices of the home as they were left, by their numbers; there exactly at the statuses 0, 4 and 9.
+    /// The devices of the home as they were left, by their numbers; there exactly at the statuses
+    /// 0, 4 and 9.
     pub devices: Option<List<Dev>>,
 }

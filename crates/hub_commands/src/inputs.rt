@@ -22,9 +22,8 @@ const OVER_LIMIT: ReadFault = ReadFault::TooMany {
 /// The input is refused as soon as one byte more than a script may have was taken.
 pub fn read_input<S: Source>(alloc: Global, source: &mut S) -> Result<Script, Fault>
     ensures sound { IfOk result (λ script. IsSound (plain_script script)) }
-    ensures read { InputIsRead
-        (read_off (S.left source.old) (S.left source.new) (S.faults source.old) (S.faults source.new))
-        result }
+    ensures read { InputIsRead (read_off (S.left source.old) (S.left source.new)
+        (S.faults source.old) (S.faults source.new)) result }
 {
     let bytes = match read_to_end(alloc, source, limits::SCRIPT_BYTES) {
         Ok(bytes) => bytes,

@@ -25,7 +25,8 @@ use std::alloc::Global;
 fn read_keep_words(alloc: Global, words: &[String]) -> Result<Options, WordFault>
     ensures meaning { IfOk result (λ options.
         keep_line_of (map string_bytes words.now) ≡ Some (CommandLine.Keep options)) }
-    ensures refused { result ≡ Err WordFault.Words → keep_line_of (map string_bytes words.now) ≡ None }
+    ensures refused { result ≡ Err WordFault.Words
+        → keep_line_of (map string_bytes words.now) ≡ None }
 {
     match read_words(alloc, words) {
         Ok(CommandLine::Keep(options)) => Ok(options),
@@ -41,7 +42,8 @@ fn read_keep_words(alloc: Global, words: &[String]) -> Result<Options, WordFault
 /// Opens the journal of the script's home on the disk.
 fn open_journal<Q: Disk>(alloc: Global, script: &Script, disk: Q) -> Result<Journal<Q>, (Q, Fault)>
     requires sound { IsSound (plain_script script.now) }
-    ensures { JournalIsOpened Q.told Q.seen Q.images Q.moment Q.images_since Q.faults script.now disk result }
+    ensures { JournalIsOpened Q.told Q.seen Q.images Q.moment Q.images_since Q.faults
+        script.now disk result }
 {
     let Ok(kinds) = script_kinds(alloc, script) else {
         return Err((disk, Fault::Memory));
@@ -88,15 +90,16 @@ fn keep_script<K: Sink, B: Bench, Q: Disk>(
     }
 }
 
-/// Runs the command `keep`: replays a day's script as `replay` does, and keeps the state after each window in a journal on
-/// the disk, before the text of that window is written.
+/// Runs the command `keep`: replays a day's script as `replay` does, and keeps the state after each
+/// window in a journal on the disk, before the text of that window is written.
 ///
-/// The day begins behind the windows whose states the disk keeps already: the home is resumed in the last of them. Behind
-/// the head stands a line `kept K` with their number, and the total is that of the windows of this call. The disk is handed
-/// back.
+/// The day begins behind the windows whose states the disk keeps already: the home is resumed in
+/// the last of them. Behind the head stands a line `kept K` with their number, and the total is
+/// that of the windows of this call. The disk is handed back.
 ///
-/// The status tells how the call ended, as that of `still_command` does, and besides: 9, the disk failed, and the sink
-/// holds a first part of what was due; 10, the journal is damaged, and nothing is written.
+/// The status tells how the call ended, as that of `still_command` does, and besides: 9, the disk
+/// failed, and the sink holds a first part of what was due; 10, the journal is damaged, and nothing
+/// is written.
 pub fn keep_command<S: Source, K: Sink, B: Bench, Q: Disk>(
     alloc: Global,
     words: &[String],
@@ -107,12 +110,12 @@ pub fn keep_command<S: Source, K: Sink, B: Bench, Q: Disk>(
 ) -> (Finish<B::Dev>, Q)
     ensures status { result.0.status ≡ status_for_fault result.0.fault }
     ensures ends { KeepEnds
-        (shown_by B.Dev.tag B.Dev.plan B.Dev.stands B.Dev.turns B.Dev.probes B.Dev.faults)
-        Q.told Q.seen Q.images Q.moment Q.images_since Q.faults
-        (keep_line_of (map string_bytes words.now))
-        (read_off (S.left source.old) (S.left source.new) (S.faults source.old) (S.faults source.new))
-        (written (K.holds sink.old) (K.holds sink.new) (K.faults sink.old) (K.faults sink.new))
-        disk result.1 result.0.day result.0.fault }
+        (shown_by B.Dev.tag B.Dev.plan B.Dev.stands B.Dev.turns B.Dev.probes B.Dev.faults) Q.told
+        Q.seen Q.images Q.moment Q.images_since Q.faults (keep_line_of (map string_bytes words.now))
+        (read_off (S.left source.old) (S.left source.new) (S.faults source.old)
+        (S.faults source.new))
+        (written (K.holds sink.old) (K.holds sink.new) (K.faults sink.old) (K.faults sink.new)) disk
+        result.1 result.0.day result.0.fault }
 {
     let options = match read_keep_words(alloc, words) {
         Ok(options) => options,

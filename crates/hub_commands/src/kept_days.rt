@@ -43,7 +43,8 @@ fn hand_back<Q: Disk>(journal: Journal<Q>) -> Q
     journal.into_disk()
 }
 
-/// The home behind the states that are kept: resumed in the last of them, or, where none is, built anew.
+/// The home behind the states that are kept: resumed in the last of them, or, where none is, built
+/// anew.
 fn home_behind<B: Bench, Q: Disk>(
     alloc: Global,
     script: &Script,
@@ -63,8 +64,8 @@ fn home_behind<B: Bench, Q: Disk>(
     }
 }
 
-/// Begins the day behind the states that are kept: has the devices built by the bench, and writes the head of the record
-/// with the number of these states.
+/// Begins the day behind the states that are kept: has the devices built by the bench, and writes
+/// the head of the record with the number of these states.
 fn begin_behind<K: Sink, B: Bench, Q: Disk>(
     alloc: Global,
     script: &Script,
@@ -107,7 +108,8 @@ fn end_unkept<Dev: Device>(day: DayUnderWay<Dev>) -> Finish<Dev>
     }
 }
 
-/// Keeps the state in which the day's last window left the home, and then writes the lines of that window.
+/// Keeps the state in which the day's last window left the home, and then writes the lines of that
+/// window.
 fn write_kept<D: Device, K: Sink, Q: Disk>(
     alloc: Global,
     script: &Script,
@@ -139,7 +141,8 @@ fn write_kept<D: Device, K: Sink, Q: Disk>(
     }
 }
 
-/// Replays the next window of the script, keeps the state in which it left the home, and writes its lines.
+/// Replays the next window of the script, keeps the state in which it left the home, and writes its
+/// lines.
 fn keep_next<D: Device, K: Sink, Q: Disk>(
     alloc: Global,
     script: &Script,
@@ -175,9 +178,9 @@ fn keep_next<D: Device, K: Sink, Q: Disk>(
     }
 }
 
-/// Replays the windows of the script's day behind the states that are kept, keeps the state after each, and writes the
-/// record: the head with the number of the states that were kept before, each window once its state is kept, and the
-/// total of these windows.
+/// Replays the windows of the script's day behind the states that are kept, keeps the state after
+/// each, and writes the record: the head with the number of the states that were kept before, each
+/// window once its state is kept, and the total of these windows.
 pub fn keep_day<K: Sink, B: Bench, Q: Disk>(
     alloc: Global,
     script: &Script,

@@ -109,7 +109,8 @@ impl<'a> Posting<'a> {
         requires stands { IsPosting self.old.board.now self.old.publisher self.old.last }
         ensures board { self.new.board.now ≡ self.old.board.now }
         ensures own { self.new.publisher.board ≡ self.old.publisher.board }
-        ensures published { self.new.publisher.list ≡ self.old.publisher.list ++ as_over (last_of self.old.publisher.list) ∷ [] }
+        ensures published { self.new.publisher.list
+            ≡ self.old.publisher.list ++ as_over (last_of self.old.publisher.list) ∷ [] }
     {
         let over = Counts {
             over: true,

@@ -23,8 +23,8 @@ pub struct DayUnderWay<Dev: Device> {
     pub windows: List<WindowRecord>,
 }
 
-/// Opens the next window of the script on the home, and takes the memory for its record. So many windows of the script
-/// went before the day.
+/// Opens the next window of the script on the home, and takes the memory for its record. So many
+/// windows of the script went before the day.
 ///
 /// The records of the windows before come back; where memory is wanted the home is dropped.
 pub fn open_next<Dev: Device>(
@@ -71,7 +71,8 @@ fn open_window<Dev: Device>(
     requires there { number < length script.now.windows.items }
     requires kinds { home.kinds ≡ kinds_of script.now }
     requires few { home.opened ≤ most_windows }
-    ensures { IfOk result (λ hub. NextIsOpened Dev.tag Dev.turns Dev.probes Dev.faults script.now mode number home hub) }
+    ensures { IfOk result (λ hub. NextIsOpened Dev.tag Dev.turns Dev.probes Dev.faults script.now
+        mode number home hub) }
 {
     let window = &script.windows.as_slice()[number as usize];
     let roster = roster(alloc, script, number)?;

@@ -28,7 +28,8 @@ use routine_reader::{Script, WindowText};
 use run_replay::replay_window;
 use std::alloc::Global;
 
-/// Replays the window of this text, which was just opened. Where memory is wanted the hub is dropped.
+/// Replays the window of this text, which was just opened. Where memory is wanted the hub is
+/// dropped.
 fn replay_opened<D: Device>(
     alloc: Global,
     hub: Hub<D>,
@@ -36,7 +37,8 @@ fn replay_opened<D: Device>(
 ) -> Result<(Home<D>, WindowRecord), NoMemory>
     requires fresh { configuration_of hub ≡ opened hub.setting hub.rounds }
     requires rounds { hub.rounds ≡ window.now.probes }
-    ensures { IfOk result (λ done. IsWorkedAs IsReplayOf D.tag D.plan D.turns D.probes D.faults hub window.now done.0 done.1) }
+    ensures { IfOk result (λ done. IsWorkedAs IsReplayOf D.tag D.plan D.turns D.probes D.faults hub
+        window.now done.0 done.1) }
 {
     let turns = window.turns.as_slice();
     match replay_window(alloc, hub, turns, window.seed, window.probes) {
@@ -48,7 +50,8 @@ fn replay_opened<D: Device>(
     }
 }
 
-/// Replays the next window of the script, by its turns and its seed. So many windows of the script went before the day.
+/// Replays the next window of the script, by its turns and its seed. So many windows of the script
+/// went before the day.
 ///
 /// Where memory is wanted the records of the windows before come back; the home is dropped.
 pub fn replay_next<D: Device>(
@@ -82,8 +85,8 @@ pub fn replay_next<D: Device>(
     }
 }
 
-/// Replays the script's day on devices of the bench, and writes its record: the head, each window as it closes, and the
-/// total.
+/// Replays the script's day on devices of the bench, and writes its record: the head, each window
+/// as it closes, and the total.
 pub fn replay_day<K: Sink, B: Bench>(
     alloc: Global,
     script: &Script,

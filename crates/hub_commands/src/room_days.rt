@@ -74,15 +74,16 @@ fn end_without_devices<Dev: Device>(
     }
 }
 
-/// Ends a day on which a piece of the record was not written: with its devices where the sink failed, and without them
-/// where memory was wanted.
+/// Ends a day on which a piece of the record was not written: with its devices where the sink
+/// failed, and without them where memory was wanted.
 fn stop<Dev: Device>(rooms: &Rooms, day: RoomDay<Dev>, fault: PieceFault) -> RoomFinish<Dev>
     requires room { HasRoomFor (length day.homes.items) (length rooms.now.room_of.items) day.room }
     requires rooms { IsRoomed rooms.now.room_of.items (length day.homes.items) }
     requires devices { HasDevicesOf rooms.now.room_of.items day.homes.items }
     ensures status { result.status ≡ status_for_fault result.fault }
     ensures windows { result.windows ≡ day.windows }
-    ensures ends { RoomStopEnds rooms.now.room_of.items day.homes.items fault result.devices result.fault }
+    ensures ends { RoomStopEnds rooms.now.room_of.items day.homes.items fault
+        result.devices result.fault }
 {
     let RoomDay {
         homes,
@@ -116,7 +117,8 @@ fn build_room<B: Bench>(
 ) -> Result<Home<B::Dev>, NoMemory>
     requires sound { IsSound (plain_script script.now) }
     requires rooms { plain_rooms rooms.now ≡ rooms_of script.now }
-    ensures { IfOk result (λ home. IsNewHome (shown_by B.Dev.tag B.Dev.plan B.Dev.stands B.Dev.turns B.Dev.probes B.Dev.faults)
+    ensures { IfOk result (λ home.
+        IsNewHome (shown_by B.Dev.tag B.Dev.plan B.Dev.stands B.Dev.turns B.Dev.probes B.Dev.faults)
         (room_devices script.now room) home) }
 {
     let own = room_script(alloc, script, rooms, room)?;
@@ -134,7 +136,8 @@ fn build_rooms<B: Bench>(
 ) -> Result<List<Home<B::Dev>>, NoMemory>
     requires sound { IsSound (plain_script script.now) }
     requires rooms { plain_rooms rooms.now ≡ rooms_of script.now }
-    ensures { IfOk result (λ homes. AreNewHomes (shown_by B.Dev.tag B.Dev.plan B.Dev.stands B.Dev.turns B.Dev.probes B.Dev.faults)
+    ensures { IfOk result (λ homes. AreNewHomes
+        (shown_by B.Dev.tag B.Dev.plan B.Dev.stands B.Dev.turns B.Dev.probes B.Dev.faults)
         script.now homes.items) }
 {
     let mut homes = List::new(alloc);
@@ -163,7 +166,9 @@ fn first_day<B: Bench>(
 ) -> Result<RoomDay<B::Dev>, NoMemory>
     requires sound { IsSound (plain_script script.now) }
     requires rooms { plain_rooms rooms.now ≡ rooms_of script.now }
-    ensures { IfOk result (λ day. IsFirstDay (shown_by B.Dev.tag B.Dev.plan B.Dev.stands B.Dev.turns B.Dev.probes B.Dev.faults) script.now day) }
+    ensures { IfOk result (λ day. IsFirstDay
+        (shown_by B.Dev.tag B.Dev.plan B.Dev.stands B.Dev.turns B.Dev.probes B.Dev.faults)
+        script.now day) }
 {
     let windows = room_for(alloc, script.windows.len())?;
     let room = match DeviceRoom::reserve(alloc, rooms.names.len(), rooms.room_of.len()) {
@@ -203,9 +208,10 @@ fn begin<K: Sink, B: Bench, C: Clock>(
     requires splits { SplitBefore script.now (length script.now.windows.items) }
     requires strong { is_weak mode ≡ false }
     ensures { RoomGoesOn (C.earliest _clock.now) (C.latest _clock.now)
-        (shown_by B.Dev.tag B.Dev.plan B.Dev.stands B.Dev.turns B.Dev.probes B.Dev.faults) script.now mode
-        (written (K.holds sink.old) (K.holds sink.new) (K.faults sink.old) (K.faults sink.new))
-        0 result }
+        (shown_by B.Dev.tag B.Dev.plan B.Dev.stands B.Dev.turns B.Dev.probes B.Dev.faults)
+        script.now mode
+        (written (K.holds sink.old) (K.holds sink.new) (K.faults sink.old) (K.faults sink.new)) 0
+        result }
 {
     let day = match first_day(alloc, script, rooms, bench) {
         Ok(day) => day,
@@ -277,7 +283,8 @@ fn tell_last(
 ) -> Result<(), NoMemory>
     requires some { 0 < length windows.now.items }
     requires devices { length rooms.now.room_of.items ≤ most_devices }
-    requires own { All (λ ws. All (λ window. HasOwnOrder (room_order window)) ws.items) windows.now.items }
+    requires own { All (λ ws. All (λ window. HasOwnOrder (room_order window)) ws.items)
+        windows.now.items }
     ensures { (before : _) (ws : _) → windows.now.items ≡ before ++ ws ∷ [] → OnOk result
         ((last : _) × IsToldOfRooms rooms.now.room_of.items ws.items last
         × (told.new.items ≡ told.old.items ++ last ∷ [])) }
@@ -296,8 +303,8 @@ fn last_lines(
 ) -> Result<Bytes, NoMemory>
     requires some { 0 < length told.now.items }
     requires few { length told.now.items ≤ most_windows }
-    ensures { (before : _) (last : _) → told.now.items ≡ before ++ last ∷ []
-        → IfOk result (λ lines. lines ≡ window_lines_of script.now (length before) last mode false) }
+    ensures { (before : _) (last : _) → told.now.items ≡ before ++ last ∷ [] → IfOk result
+        (λ lines. lines ≡ window_lines_of script.now (length before) last mode false) }
 {
     let number = told.len() as usize - 1;
     let last = &told.as_slice()[number];
@@ -316,9 +323,11 @@ fn tell_lines(
     requires some { 0 < length windows.now.items }
     requires few { length told.old.items < most_windows }
     requires devices { length rooms.now.room_of.items ≤ most_devices }
-    requires own { All (λ ws. All (λ window. HasOwnOrder (room_order window)) ws.items) windows.now.items }
+    requires own { All (λ ws. All (λ window. HasOwnOrder (room_order window)) ws.items)
+        windows.now.items }
     ensures { (before : _) (ws : _) → windows.now.items ≡ before ++ ws ∷ []
-        → IfOk result (TellsLines script.now rooms.now.room_of.items mode ws.items told.old.items told.new.items) }
+        → IfOk result (TellsLines script.now rooms.now.room_of.items mode ws.items told.old.items
+        told.new.items) }
 {
     match tell_last(alloc, rooms, mode, windows, told) {
         Ok(()) => last_lines(alloc, script, mode, told),
@@ -341,7 +350,8 @@ fn go_on<Dev: Device, K: Sink, C: Clock>(
     requires splits { SplitBefore script.now (length script.now.windows.items) }
     requires strong { is_weak mode ≡ false }
     requires next { IsNextRoomDay (C.earliest _clock.now) (C.latest _clock.now)
-        (shown_by Dev.tag Dev.plan Dev.stands Dev.turns Dev.probes Dev.faults) script.now mode next }
+        (shown_by Dev.tag Dev.plan Dev.stands Dev.turns Dev.probes Dev.faults)
+        script.now mode next }
     ensures { RoomHasWritten (C.earliest _clock.now) (C.latest _clock.now)
         (shown_by Dev.tag Dev.plan Dev.stands Dev.turns Dev.probes Dev.faults) script.now mode
         (written (K.holds sink.old) (K.holds sink.new) (K.faults sink.old) (K.faults sink.new))
@@ -400,8 +410,8 @@ fn end<Dev: Device, K: Sink, C: Clock>(
     }
 }
 
-/// Runs the script's day with a hub for each room, and writes its record: the head, each window as every room has closed
-/// it, and the total.
+/// Runs the script's day with a hub for each room, and writes its record: the head, each window as
+/// every room has closed it, and the total.
 pub fn run_room_day<R: Threads + Wait + Sync, K: Sink, B: Bench, C: Clock + Sync>(
     rt: &R,
     alloc: Global,
@@ -421,7 +431,8 @@ where
     requires splits { SplitBefore script.now (length script.now.windows.items) }
     ensures status { result.status ≡ status_for_fault result.fault }
     ensures ends { RoomDayEnds (C.earliest clock.now) (C.latest clock.now)
-        (shown_by B.Dev.tag B.Dev.plan B.Dev.stands B.Dev.turns B.Dev.probes B.Dev.faults) script.now mode
+        (shown_by B.Dev.tag B.Dev.plan B.Dev.stands B.Dev.turns B.Dev.probes B.Dev.faults)
+        script.now mode
         (written (K.holds sink.old) (K.holds sink.new) (K.faults sink.old) (K.faults sink.new))
         result.windows.items result.devices result.fault }
 {

@@ -52,7 +52,8 @@ fn devices_of<Dev: Device>(
     of_rooms
 }
 
-/// The devices of the rooms' homes, in the order of the script. The number of each device's room is given.
+/// The devices of the rooms' homes, in the order of the script. The number of each device's room is
+/// given.
 pub fn in_script_order<Dev: Device>(
     room_of: &[u32],
     homes: List<Home<Dev>>,

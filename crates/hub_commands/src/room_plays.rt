@@ -38,7 +38,8 @@ fn open_room<Dev: Device>(
 ) -> Result<RoomHub<Dev>, NoMemory>
     requires { MayOpen (setting_for home roster.roster mode) rounds home.opened }
     ensures roster { IfOk result (λ room. room.roster ≡ roster) }
-    ensures opened { IfOk result (λ room. IsRoomOpened Dev.turns Dev.probes Dev.faults mode rounds home room) }
+    ensures opened { IfOk result
+        (λ room. IsRoomOpened Dev.turns Dev.probes Dev.faults mode rounds home room) }
 {
     let runs = match roster.runs_again(alloc) {
         Ok(runs) => runs,
@@ -129,8 +130,10 @@ struct ClosingRoom<Dev: Device> {
 impl<Dev: Device> ClosingRoom<Dev> {
     /// Room for so many rooms, or `NoMemory`.
     fn reserve(alloc: Global, rooms: u64) -> Result<ClosingRoom<Dev>, NoMemory>
-        ensures empty { IfOk result (λ room. (room.done.items ≡ []) × (room.homes.items ≡ []) × (room.windows.items ≡ [])) }
-        ensures room { IfOk result (λ room. (rooms ≤ room.done.spare) × (rooms ≤ room.homes.spare) × (rooms ≤ room.windows.spare)) }
+        ensures empty { IfOk result
+            (λ room. (room.done.items ≡ []) × (room.homes.items ≡ []) × (room.windows.items ≡ [])) }
+        ensures room { IfOk result (λ room. (rooms ≤ room.done.spare) × (rooms ≤ room.homes.spare)
+            × (rooms ≤ room.windows.spare)) }
     {
         Ok(ClosingRoom {
             done: room_for(alloc, rooms)?,
@@ -141,9 +144,12 @@ impl<Dev: Device> ClosingRoom<Dev> {
 
     /// The homes and the windows of the rooms that were worked.
     fn close(self, done: List<RoomDone<Dev>>) -> ClosedRooms<Dev>
-        requires empty { (self.done.items ≡ []) × (self.homes.items ≡ []) × (self.windows.items ≡ []) }
-        requires room { (length done.items ≤ self.done.spare) × (length done.items ≤ self.homes.spare) × (length done.items ≤ self.windows.spare) }
-        ensures { AreTakenApart Dev.tag Dev.stands Dev.turns Dev.probes Dev.faults done.items result.homes.items result.windows.items }
+        requires empty { (self.done.items ≡ []) × (self.homes.items ≡ [])
+            × (self.windows.items ≡ []) }
+        requires room { (length done.items ≤ self.done.spare)
+            × (length done.items ≤ self.homes.spare) × (length done.items ≤ self.windows.spare) }
+        ensures { AreTakenApart Dev.tag Dev.stands Dev.turns Dev.probes Dev.faults done.items
+            result.homes.items result.windows.items }
     {
         let ClosingRoom {
             done: room,
@@ -179,13 +185,14 @@ pub fn work_rooms<R: Threads + Wait + Sync, Dev: Device + Send, C: Clock + Sync>
     requires goes { IsTrue (is_mode mode) }
     requires there { number < length script.now.windows.items }
     requires splits { IsOk (script_split script.now number) }
-    requires under_way { (windows : Windows) × (length windows ≡ number) × RoomsAreUnderWay (C.earliest clock.now) (C.latest clock.now)
-        (shown_by Dev.tag Dev.plan Dev.stands Dev.turns Dev.probes Dev.faults)
-        script.now mode homes.items windows }
-    ensures { (window : _) → slice_get script.now.windows.items number ≡ Some window → IfOk result (λ closed.
-        RoomsWent (shown_by Dev.tag Dev.plan Dev.stands Dev.turns Dev.probes Dev.faults)
-        (C.earliest clock.now) (C.latest clock.now)
-        script.now mode number window.probes homes.items closed.homes.items closed.windows.items) }
+    requires under_way { (windows : Windows) × (length windows ≡ number)
+        × RoomsAreUnderWay (C.earliest clock.now) (C.latest clock.now)
+        (shown_by Dev.tag Dev.plan Dev.stands Dev.turns Dev.probes Dev.faults) script.now mode
+        homes.items windows }
+    ensures { (window : _) → slice_get script.now.windows.items number ≡ Some window → IfOk result
+        (λ closed. RoomsWent (shown_by Dev.tag Dev.plan Dev.stands Dev.turns Dev.probes Dev.faults)
+        (C.earliest clock.now) (C.latest clock.now) script.now mode number window.probes homes.items
+        closed.homes.items closed.windows.items) }
 {
     let rounds = script.windows.as_slice()[number as usize].probes;
     let rosters = match split(alloc, script, rooms, number) {

@@ -79,13 +79,13 @@ fn rooms_of(alloc: Global, script: &Script) -> Result<Rooms, Fault>
 
 /// Runs the command `rooms`, which may wait.
 ///
-/// It does what `run_command` does for `run`, with a hub and a lock for each room of the home, all at once. The room of a
-/// device is the part of its name before the first `_`, or the whole name. The words are those of `run` without `--trace`
-/// and without the weak model.
+/// It does what `run_command` does for `run`, with a hub and a lock for each room of the home, all
+/// at once. The room of a device is the part of its name before the first `_`, or the whole name.
+/// The words are those of `run` without `--trace` and without the weak model.
 ///
-/// The status tells how the call ended, as that of `run_command` does; and 11, a window has a run with commands in two
-/// rooms, or one that follows a run of another room. All windows are looked at before one is opened, and nothing is
-/// written then.
+/// The status tells how the call ended, as that of `run_command` does; and 11, a window has a run
+/// with commands in two rooms, or one that follows a run of another room. All windows are looked at
+/// before one is opened, and nothing is written then.
 pub fn room_command<R: Threads + Wait + Sync, S: Source, K: Sink, B: Bench, C: Clock + Sync>(
     rt: &R,
     alloc: Global,
@@ -100,8 +100,8 @@ where
     ensures status { result.status ≡ status_for_fault result.fault }
     ensures ends { RoomCallEnds (C.earliest clock.now) (C.latest clock.now)
         (shown_by B.Dev.tag B.Dev.plan B.Dev.stands B.Dev.turns B.Dev.probes B.Dev.faults)
-        (room_mode_of (map string_bytes words.now))
-        (read_off (S.left source.old) (S.left source.new) (S.faults source.old) (S.faults source.new))
+        (room_mode_of (map string_bytes words.now)) (read_off (S.left source.old)
+        (S.left source.new) (S.faults source.old) (S.faults source.new))
         (written (K.holds sink.old) (K.holds sink.new) (K.faults sink.old) (K.faults sink.new))
         result.windows.items result.devices result.fault }
 {

@@ -34,7 +34,8 @@ use std::alloc::Global;
 use std::sync::Wait;
 use std::thread::Threads;
 
-/// Runs the window of this text, which was just opened, with threads. Where memory is wanted the hub is dropped.
+/// Runs the window of this text, which was just opened, with threads. Where memory is wanted the
+/// hub is dropped.
 fn run_opened<R: Threads + Wait + Sync, D: Device + Send, C: Clock + Sync>(
     rt: &R,
     alloc: Global,
@@ -92,8 +93,9 @@ fn run_next<R: Threads + Wait + Sync, D: Device + Send, C: Clock + Sync>(
     }
 }
 
-/// Runs the script's day on devices of the bench, with threads, and writes its record: the head, each window as it
-/// closes, and the total. Who looks on is told of each window before its lines are written.
+/// Runs the script's day on devices of the bench, with threads, and writes its record: the head,
+/// each window as it closes, and the total. Who looks on is told of each window before its lines
+/// are written.
 pub fn run_day<R: Threads + Wait + Sync, K: Sink, B: Bench, C: Clock + Sync, O: Onlooker>(
     rt: &R,
     alloc: Global,
@@ -138,8 +140,10 @@ where
 
 /// Reads the words of `run`.
 fn read_run_words(alloc: Global, words: &[String]) -> Result<Options, WordFault>
-    ensures meaning { IfOk result (λ options. run_line_of (map string_bytes words.now) ≡ Some (CommandLine.Run options)) }
-    ensures refused { result ≡ Err WordFault.Words → run_line_of (map string_bytes words.now) ≡ None }
+    ensures meaning { IfOk result
+        (λ options. run_line_of (map string_bytes words.now) ≡ Some (CommandLine.Run options)) }
+    ensures refused { result ≡ Err WordFault.Words
+        → run_line_of (map string_bytes words.now) ≡ None }
 {
     match read_words(alloc, words) {
         Ok(CommandLine::Run(options)) => Ok(options),
@@ -154,12 +158,13 @@ fn read_run_words(alloc: Global, words: &[String]) -> Result<Options, WordFault>
 
 /// Runs the command that may wait.
 ///
-/// `run` reads a day's script from the source, works its windows on devices of the bench with threads, at most one for
-/// each run, at the moments of the clock, and writes the record to the sink. The turns and the seeds of windows are not heeded. The
-/// words are those on the command line, without the program's name; every other command is refused as words.
+/// `run` reads a day's script from the source, works its windows on devices of the bench with
+/// threads, at most one for each run, at the moments of the clock, and writes the record to the
+/// sink. The turns and the seeds of windows are not heeded. The words are those on the command
+/// line, without the program's name; every other command is refused as words.
 ///
-/// The status tells how the call ended, as that of `still_command` does. It may wait: what is said of its answer holds if
-/// it returns.
+/// The status tells how the call ended, as that of `still_command` does. It may wait: what is said
+/// of its answer holds if it returns.
 pub fn run_command<R: Threads + Wait + Sync, S: Source, K: Sink, B: Bench, C: Clock + Sync>(
     rt: &R,
     alloc: Global,
@@ -174,13 +179,12 @@ where
     ensures status { result.status ≡ status_for_fault result.fault }
     ensures ends { CallEnds (IsRunWithin (C.earliest clock.now) (C.latest clock.now))
         (shown_by B.Dev.tag B.Dev.plan B.Dev.stands B.Dev.turns B.Dev.probes B.Dev.faults)
-        (run_line_of (map string_bytes words.now))
-        (read_off (S.left source.old) (S.left source.new) (S.faults source.old) (S.faults source.new))
+        (run_line_of (map string_bytes words.now)) (read_off (S.left source.old) (S.left source.new)
+        (S.faults source.old) (S.faults source.new))
         (written (K.holds sink.old) (K.holds sink.new) (K.faults sink.old) (K.faults sink.new))
         result.day result.fault }
-    ensures probed { result.fault ≡ None → IsProbedInAll B.Dev.probes
-        (read_off (S.left source.old) (S.left source.new) (S.faults source.old) (S.faults source.new))
-        result.day }
+    ensures probed { result.fault ≡ None → IsProbedInAll B.Dev.probes (read_off (S.left source.old)
+        (S.left source.new) (S.faults source.old) (S.faults source.new)) result.day }
 {
     let options = match read_run_words(alloc, words) {
         Ok(options) => options,

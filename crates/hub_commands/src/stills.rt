@@ -31,9 +31,9 @@ fn replay_input<S: Source, K: Sink, B: Bench>(
     requires goes { IsTrue (is_mode options.mode) }
     ensures status { result.status ≡ status_for_fault result.fault }
     ensures ends { (line : _) → AsksFor plain line options → CallEnds IsReplayOf
-        (shown_by B.Dev.tag B.Dev.plan B.Dev.stands B.Dev.turns B.Dev.probes B.Dev.faults)
-        line
-        (read_off (S.left source.old) (S.left source.new) (S.faults source.old) (S.faults source.new))
+        (shown_by B.Dev.tag B.Dev.plan B.Dev.stands B.Dev.turns B.Dev.probes B.Dev.faults) line
+        (read_off (S.left source.old) (S.left source.new) (S.faults source.old)
+        (S.faults source.new))
         (written (K.holds sink.old) (K.holds sink.new) (K.faults sink.old) (K.faults sink.new))
         result.day result.fault }
 {
@@ -45,16 +45,18 @@ fn replay_input<S: Source, K: Sink, B: Bench>(
 
 /// Runs a command that waits for nobody.
 ///
-/// `replay` reads a day's script from the source, plays its windows on devices of the bench by their turns and their
-/// seeds, and writes the record to the sink. `check` reads a script and a record, which a line `%%` divides, and writes
-/// `agrees` where the record is the serial execution of its orders. `trial` makes a script of its number, plays its
-/// day, checks the record and writes one line; it reads nothing. The words are those on the command line, without the
-/// program's name; `run`, `watch` and `keep` are refused as words.
+/// `replay` reads a day's script from the source, plays its windows on devices of the bench by
+/// their turns and their seeds, and writes the record to the sink. `check` reads a script and a
+/// record, which a line `%%` divides, and writes `agrees` where the record is the serial execution
+/// of its orders. `trial` makes a script of its number, plays its day, checks the record and writes
+/// one line; it reads nothing. The words are those on the command line, without the program's name;
+/// `run`, `watch` and `keep` are refused as words.
 ///
-/// The status tells how the call ended: 0, all is written; 1, the script is refused; 2, the words are of no command
-/// that this call takes; 3, the source failed; 4, the sink failed, and holds a first part of what was due; 5, want of
-/// memory, and the sink holds a first part of what was due; 7, the record does not agree. At 1, 2, 3 and 7 nothing is
-/// written. docs/FORMATS.md has the words, the script and the record.
+/// The status tells how the call ended: 0, all is written; 1, the script is refused; 2, the words
+/// are of no command that this call takes; 3, the source failed; 4, the sink failed, and holds a
+/// first part of what was due; 5, want of memory, and the sink holds a first part of what was due;
+/// 7, the record does not agree. At 1, 2, 3 and 7 nothing is written. docs/FORMATS.md has the
+/// words, the script and the record.
 pub fn still_command<S: Source, K: Sink, B: Bench>(
     alloc: Global,
     words: &[String],
@@ -65,8 +67,8 @@ pub fn still_command<S: Source, K: Sink, B: Bench>(
     ensures status { result.status ≡ status_for_fault result.fault }
     ensures ends { CallEnds IsReplayOf
         (shown_by B.Dev.tag B.Dev.plan B.Dev.stands B.Dev.turns B.Dev.probes B.Dev.faults)
-        (still_line_of (map string_bytes words.now))
-        (read_off (S.left source.old) (S.left source.new) (S.faults source.old) (S.faults source.new))
+        (still_line_of (map string_bytes words.now)) (read_off (S.left source.old)
+        (S.left source.new) (S.faults source.old) (S.faults source.new))
         (written (K.holds sink.old) (K.holds sink.new) (K.faults sink.old) (K.faults sink.new))
         result.day result.fault }
 {

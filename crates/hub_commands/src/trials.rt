@@ -35,8 +35,8 @@ const OPTIONS: Options = Options {
     trace: false,
 };
 
-/// No window of a trial has a longer text, in bytes: 64 lines of runs, and those of the window, the order and the home.
-/// Nor has the head with the total.
+/// No window of a trial has a longer text, in bytes: 64 lines of runs, and those of the window, the
+/// order and the home. Nor has the head with the total.
 const WINDOW_BYTES: u64 = 8192;
 
 /// How many windows agree, of so many: those before the first that differs, or all.
@@ -77,7 +77,8 @@ fn judge_day<K: Sink, Dev: Device>(
     end_with_line(sink, line, Some(day))
 }
 
-/// Plays the day of this script on devices of the bench, checks its record, and writes the line of the trial.
+/// Plays the day of this script on devices of the bench, checks its record, and writes the line of
+/// the trial.
 fn play_script<K: Sink, B: Bench>(
     alloc: Global,
     number: u32,
@@ -102,8 +103,8 @@ fn play_script<K: Sink, B: Bench>(
     }
 }
 
-/// Makes the script of this number, plays its day step by step on devices of the bench, checks the whole record, and
-/// writes one line: the counts of the day, and how many of its windows agree.
+/// Makes the script of this number, plays its day step by step on devices of the bench, checks the
+/// whole record, and writes one line: the counts of the day, and how many of its windows agree.
 ///
 /// The record is held in memory, and handed to nobody.
 pub fn play_trial<K: Sink, B: Bench>(

@@ -32,7 +32,8 @@ use std::alloc::Global;
 use std::sync::Wait;
 use std::thread::{Threads, join_mut};
 
-/// Runs the day, and publishes what it has come to: after each window, and as over at its end, however it ends.
+/// Runs the day, and publishes what it has come to: after each window, and as over at its end,
+/// however it ends.
 fn run_published<R: Threads + Wait + Sync, K: Sink, B: Bench, C: Clock + Sync>(
     rt: &R,
     alloc: Global,
@@ -63,8 +64,8 @@ where
     finish
 }
 
-/// Runs the day beside a watcher, who is worked in a thread of its own, or behind the day where none could be started.
-/// Answers how the day ended, and the counts that the watcher has read last.
+/// Runs the day beside a watcher, who is worked in a thread of its own, or behind the day where
+/// none could be started. Answers how the day ended, and the counts that the watcher has read last.
 fn run_watched<R: Threads + Wait + Sync, K: Sink, B: Bench, C: Clock + Sync, T: Teller + Send>(
     rt: &R,
     alloc: Global,
@@ -102,7 +103,8 @@ where
         &mut || watch_telling(rt, board, watcher, teller),
         &mut || -> Finish<B::Dev>
             requires { IsSound (plain_script script.now) × IsTrue (is_mode options.mode)
-                × IsPosting posting.now.board.now posting.now.publisher posting.now.last × (posting.now.publisher.list ≡ []) }
+                × IsPosting posting.now.board.now posting.now.publisher posting.now.last
+                × (posting.now.publisher.list ≡ []) }
         { run_published(rt, alloc, script, options, sink, bench, clock, posting) },
     );
     (finish, seen)
@@ -180,8 +182,10 @@ where
 
 /// Reads the words of `watch`.
 fn read_watch_words(alloc: Global, words: &[String]) -> Result<Options, WordFault>
-    ensures meaning { IfOk result (λ options. watch_line_of (map string_bytes words.now) ≡ Some (CommandLine.Watch options)) }
-    ensures refused { result ≡ Err WordFault.Words → watch_line_of (map string_bytes words.now) ≡ None }
+    ensures meaning { IfOk result
+        (λ options. watch_line_of (map string_bytes words.now) ≡ Some (CommandLine.Watch options)) }
+    ensures refused { result ≡ Err WordFault.Words
+        → watch_line_of (map string_bytes words.now) ≡ None }
 {
     match read_words(alloc, words) {
         Ok(CommandLine::Watch(options)) => Ok(options),
@@ -194,7 +198,8 @@ fn read_watch_words(alloc: Global, words: &[String]) -> Result<Options, WordFaul
     }
 }
 
-/// Runs `watch`, and tells nobody what the watcher reads while the day runs: `watch_command_telling` with nobody to tell.
+/// Runs `watch`, and tells nobody what the watcher reads while the day runs:
+/// `watch_command_telling` with nobody to tell.
 pub fn watch_command<R: Threads + Wait + Sync, S: Source, K: Sink, B: Bench, C: Clock + Sync>(
     rt: &R,
     alloc: Global,
@@ -209,13 +214,13 @@ where
     ensures status { result.0.status ≡ status_for_fault result.0.fault }
     ensures ends { CallEnds (IsRunWithin (C.earliest clock.now) (C.latest clock.now))
         (shown_by B.Dev.tag B.Dev.plan B.Dev.stands B.Dev.turns B.Dev.probes B.Dev.faults)
-        (watch_line_of (map string_bytes words.now))
-        (read_off (S.left source.old) (S.left source.new) (S.faults source.old) (S.faults source.new))
+        (watch_line_of (map string_bytes words.now)) (read_off (S.left source.old)
+        (S.left source.new) (S.faults source.old) (S.faults source.new))
         (written (K.holds sink.old) (K.holds sink.new) (K.faults sink.old) (K.faults sink.new))
         result.0.day result.0.fault }
-    ensures probed { result.0.fault ≡ None → IsProbedInAll B.Dev.probes
-        (read_off (S.left source.old) (S.left source.new) (S.faults source.old) (S.faults source.new))
-        result.0.day }
+    ensures probed { result.0.fault ≡ None
+        → IsProbedInAll B.Dev.probes (read_off (S.left source.old) (S.left source.new)
+        (S.faults source.old) (S.faults source.new)) result.0.day }
     ensures published { IfSome result.1 (λ publisher. IsPublished publisher.list result.0.day) }
     ensures opened { result.0.fault ≡ None → IsSome result.1 }
     ensures unopened { result.1 ≡ None → IsUnwritten
@@ -226,14 +231,16 @@ where
 
 /// Runs the command `watch`, which may wait.
 ///
-/// It does what `run_command` does for `run`, and watches the day while it runs: after each window the counts of the
-/// closed windows are published on a board, and at the day's end, however it ends, the last of them as over. A watcher
-/// reads the board beside the day, and tells the teller each reading that is another one than the reading before; where
-/// no thread could be started for it, it reads once the day is over. Where all is written one line more follows, with the
-/// counts that the watcher has read last.
+/// It does what `run_command` does for `run`, and watches the day while it runs: after each window
+/// the counts of the closed windows are published on a board, and at the day's end, however it
+/// ends, the last of them as over. A watcher reads the board beside the day, and tells the teller
+/// each reading that is another one than the reading before; where no thread could be started for
+/// it, it reads once the day is over. Where all is written one line more follows, with the counts
+/// that the watcher has read last.
 ///
-/// Hands back the publisher with all that was published, where memory for the board was found; where it was not, nothing
-/// was written. The status tells how the call ended, as that of `run_command` does.
+/// Hands back the publisher with all that was published, where memory for the board was found;
+/// where it was not, nothing was written. The status tells how the call ended, as that of
+/// `run_command` does.
 pub fn watch_command_telling<
     R: Threads + Wait + Sync,
     S: Source,
@@ -256,13 +263,13 @@ where
     ensures status { result.0.status ≡ status_for_fault result.0.fault }
     ensures ends { CallEnds (IsRunWithin (C.earliest clock.now) (C.latest clock.now))
         (shown_by B.Dev.tag B.Dev.plan B.Dev.stands B.Dev.turns B.Dev.probes B.Dev.faults)
-        (watch_line_of (map string_bytes words.now))
-        (read_off (S.left source.old) (S.left source.new) (S.faults source.old) (S.faults source.new))
+        (watch_line_of (map string_bytes words.now)) (read_off (S.left source.old)
+        (S.left source.new) (S.faults source.old) (S.faults source.new))
         (written (K.holds sink.old) (K.holds sink.new) (K.faults sink.old) (K.faults sink.new))
         result.0.day result.0.fault }
-    ensures probed { result.0.fault ≡ None → IsProbedInAll B.Dev.probes
-        (read_off (S.left source.old) (S.left source.new) (S.faults source.old) (S.faults source.new))
-        result.0.day }
+    ensures probed { result.0.fault ≡ None
+        → IsProbedInAll B.Dev.probes (read_off (S.left source.old) (S.left source.new)
+        (S.faults source.old) (S.faults source.new)) result.0.day }
     ensures published { IfSome result.1 (λ publisher. IsPublished publisher.list result.0.day) }
     ensures opened { result.0.fault ≡ None → IsSome result.1 }
     ensures unopened { result.1 ≡ None → IsUnwritten

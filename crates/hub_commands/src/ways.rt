@@ -6,10 +6,11 @@ ghost use Rattle.routine_reader.specs.declared.scripts.WindowText.{WindowText};
 
 use day_clock::Clock;
 
-/// A way of working the windows of a day. It does nothing; contracts tell by it how a day was worked.
+/// A way of working the windows of a day. It does nothing; contracts tell by it how a day was
+/// worked.
 pub trait Way {
-    /// What is true of a window that was worked in this way, in its setting: of its text, its record, and how many
-    /// probes were taken of each device.
+    /// What is true of a window that was worked in this way, in its setting: of its text, its
+    /// record, and how many probes were taken of each device.
     ghost works: { Self → Setting → WindowText → WindowRecord → (ℕ → ℕ) → Type 0 };
 }
 

@@ -1,4 +1,5 @@
--- Devices that go out and come home: what is known of them, where they are, and which one each run holds.
+-- Devices that go out and come home: what is known of them, where they are, and which one each run
+-- holds.
 use Rattle.device_gate.specs.Calls.{has_died, held_after, is_counted_up}
 use Rattle.device_gate.specs.Grips.{Gripped}
 use Rattle.device_gate.specs.Places.{IsHome, IsKept}
@@ -16,7 +17,8 @@ use Rattle.hub_core.specs.declared.known.DeviceProgress.{DeviceProgress}
 use Rattle.hub_core.specs.declared.known.Events.{Events}
 use Rattle.std.specs.Prelude.{Bool, IsTrue, List, None, Option, Some, false, if◌then◌else◌, length, nat_lt, slice_get, slice_set, true, ℕ, ◌+◌, ◌-◌, ◌<◌, ◌≡◌, ◌≤◌}
 
--- how often a device has failed and come back that was counted up, or down, and then died, or answered
+-- how often a device has failed and come back that was counted up, or down, and then died, or
+-- answered
 abbrev pub turned : Bool → Bool → Events → Events
 turned true true events = record events { fell = events.fell + 1 }
 turned true false events = events
@@ -29,23 +31,32 @@ events_after task told events = turned (is_counted_up task) (has_died told) even
 
 -- what is known of a device that has come home
 abbrev pub known_after : Task → Told → DeviceProgress → DeviceProgress
-known_after task told known = record known { held = held_after told task known.held; events = events_after task told known.events }
+known_after task told known = record known {
+  held = held_after told task known.held;
+  events = events_after task told known.events;
+}
 
 -- what each run holds where the maker, a run or 0 for the detector, holds this
 abbrev pub with_hand : List (Option DeviceNo) → ActorId → Option DeviceNo → List (Option DeviceNo)
 with_hand hands maker hand = if nat_lt 0 maker then slice_set hands (maker - 1) hand else hands
 
--- the device, which stands at this value where it is counted up, may go out to the maker: it is home, and is one of the home
-pub record MaySend {D : Type 0} (stands turns probes faults : D → ℕ) (a : Away D) (d : DeviceId) (maker : ActorId) (held : ℕ) (task : Task) : Type 0 where
+-- the device, which stands at this value where it is counted up, may go out to the maker: it is
+-- home, and is one of the home
+pub record MaySend {D : Type 0} (stands turns probes faults : D → ℕ) (a : Away D) (d : DeviceId)
+    (maker : ActorId) (held : ℕ) (task : Task) : Type 0 where
   pub home : IsHome a.gate.places d
-  pub room : (device : D) → slice_get a.gate.places d ≡ Some (Home device) → HasRoom (turns device) (probes device + 1) (faults device)
-  pub stood : (device : D) → slice_get a.gate.places d ≡ Some (Home device) → IsTrue (is_counted_up task) → stands device ≡ held
+  pub room : (device : D) → slice_get a.gate.places d ≡ Some (Home device)
+      → HasRoom (turns device) (probes device + 1) (faults device)
+  pub stood : (device : D) → slice_get a.gate.places d ≡ Some (Home device)
+      → IsTrue (is_counted_up task) → stands device ≡ held
   pub tickets : a.gate.tickets < 9223372036854775808
   pub known : d < length a.known.items
   pub maker_is : maker ≤ length a.hands.items
 
 -- the device is out with the grip, and this is known of it
-pub record IsSent {D : Type 0} (turns probes faults : D → ℕ) (a : Away D) (d : DeviceNo) (maker : ActorId) (known : DeviceProgress) (task : Task) (grip : Gripped D Ready) (b : Away D) : Type 0 where
+pub record IsSent {D : Type 0} (turns probes faults : D → ℕ) (a : Away D) (d : DeviceNo)
+    (maker : ActorId) (known : DeviceProgress) (task : Task) (grip : Gripped D Ready)
+    (b : Away D) : Type 0 where
   pub at : slice_get a.gate.places d.0 ≡ Some (Home grip.device)
   pub places : b.gate.places ≡ slice_set a.gate.places d.0 (Out grip.slip task)
   pub tickets : b.gate.tickets ≡ a.gate.tickets + 1
@@ -60,7 +71,8 @@ pub record IsSent {D : Type 0} (turns probes faults : D → ℕ) (a : Away D) (d
   pub had_probes : grip.slip.probes ≡ probes grip.device
   pub had_faults : grip.slip.faults ≡ faults grip.device
 
--- the grip is the one with which its device is out, which is one of the home, and whose events may still be counted
+-- the grip is the one with which its device is out, which is one of the home, and whose events may
+-- still be counted
 pub record MayComeHome {D : Type 0} (a : Away D) (grip : Gripped D Done) : Type 0 where
   pub kept : IsKept a.gate.places grip.slip grip.task
   pub known : grip.slip.device.0 < length a.known.items
@@ -72,5 +84,6 @@ pub record MayComeHome {D : Type 0} (a : Away D) (grip : Gripped D Done) : Type 
 pub record IsHomeAgain {D : Type 0} (a : Away D) (grip : Gripped D Done) (b : Away D) : Type 0 where
   pub places : b.gate.places ≡ slice_set a.gate.places grip.slip.device.0 (Home grip.device)
   pub tickets : b.gate.tickets ≡ a.gate.tickets
-  pub known : b.known.items ≡ slice_set a.known.items grip.slip.device.0 (known_after grip.task grip.stage.told (progress_at a.known.items grip.slip.device.0))
+  pub known : b.known.items ≡ slice_set a.known.items grip.slip.device.0
+      (known_after grip.task grip.stage.told (progress_at a.known.items grip.slip.device.0))
   pub hands : b.hands.items ≡ with_hand a.hands.items grip.slip.maker None

@@ -27,24 +27,31 @@ abbrev pub NoneMarked : BlockedState → Type 0
 NoneMarked b = (r : RunId) → is_marked b r ≡ false
 
 -- one run more may be marked, at this device
-pub record HasMarked (b : BlockedState) (r : RunId) (d : DeviceId) (after : BlockedState) : Type 0 where
-  pub marked : (q : RunId) → is_marked after q ≡ true → (is_marked b q ≡ true) ⊎ ((q ≡ r) × (is_marked_at after d q ≡ true))
+pub record HasMarked (b : BlockedState) (r : RunId) (d : DeviceId)
+    (after : BlockedState) : Type 0 where
+  pub marked : (q : RunId) → is_marked after q ≡ true
+      → (is_marked b q ≡ true) ⊎ ((q ≡ r) × (is_marked_at after d q ≡ true))
   pub there : (e : DeviceId) (q : RunId) → is_marked_at b e q ≡ true → is_marked_at after e q ≡ true
 
--- no run more is marked; and where one is left that was marked at a device, this holds of the device, and it is marked there still
+-- no run more is marked; and where one is left that was marked at a device, this holds of the
+-- device, and it is marked there still
 pub record AreLeft (b after : BlockedState) (Holds : DeviceId → Type 0) : Type 0 where
   pub marked : (r : RunId) → is_marked after r ≡ true → is_marked b r ≡ true
-  pub there : (r : RunId) (d : DeviceId) → is_marked after r ≡ true → is_marked_at b d r ≡ true → Holds d × (is_marked_at after d r ≡ true)
+  pub there : (r : RunId) (d : DeviceId) → is_marked after r ≡ true → is_marked_at b d r ≡ true
+      → Holds d × (is_marked_at after d r ≡ true)
 
 -- each run that is marked is blocked, and marked at the device of its next command
 pub record AreBlocked (s : Configuration) (b : BlockedState) : Type 0 where
   pub blocked : (r : RunId) → is_marked b r ≡ true → IsBlocked s r
-  pub there : (r : RunId) → is_marked b r ≡ true → (d : DeviceId) × (next_device s r ≡ Some d) × (is_marked_at b d r ≡ true)
+  pub there : (r : RunId) → is_marked b r ≡ true
+      → (d : DeviceId) × (next_device s r ≡ Some d) × (is_marked_at b d r ≡ true)
 
 -- the run may be marked at the device of its next command, where it never finds a lease overdue
-pub data MayBeMarked (s : Configuration) (b : BlockedState) (r : RunId) (after : BlockedState) : Type 0 where
+pub data MayBeMarked (s : Configuration) (b : BlockedState) (r : RunId)
+    (after : BlockedState) : Type 0 where
   Stays : (same : b ≡ after) → MayBeMarked s b r after
-  Marks : (d : DeviceId) (next : next_device s r ≡ Some d) (calm : NeverRevokes s r d) (marked : HasMarked b r d after) → MayBeMarked s b r after
+  Marks : (d : DeviceId) (next : next_device s r ≡ Some d) (calm : NeverRevokes s r d)
+      (marked : HasMarked b r d after) → MayBeMarked s b r after
 
 -- Under the weak model
 
@@ -62,7 +69,8 @@ MarkedIf true s freed r after = MayBeMarked s freed r after
 MarkedIf false s freed r after = freed ≡ after
 
 -- no run is marked any more, but for this one where it waits, which may be marked
-pub record AreFreedWeakly (waiting : Bool) (s : Configuration) (r : RunId) (after : BlockedState) : Type 0 where
+pub record AreFreedWeakly (waiting : Bool) (s : Configuration) (r : RunId)
+    (after : BlockedState) : Type 0 where
   pub freed : BlockedState
   pub none : NoneMarked freed
   pub marked : MarkedIf waiting s freed r after

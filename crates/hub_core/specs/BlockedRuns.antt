@@ -25,11 +25,15 @@ is_wait (HandsOut d purpose) = false
 
 -- the run is at a command: live, not doomed, with no grip
 abbrev pub is_at_command : Configuration → RunId → Bool
-is_at_command s r = is_live (read_of s) r && not (is_doomed (read_of s) r) && is_none (grip_wait s.setting s.grips r)
+is_at_command s r =
+    is_live (read_of s) r && not (is_doomed (read_of s) r)
+    && is_none (grip_wait s.setting s.grips r)
 
 -- the device of the next command of a run that is at a command
 abbrev pub next_device : Configuration → RunId → Option DeviceId
-next_device s r = if is_at_command s r then option_map (λ c. c.device.0) (next_command s.setting (read_of s) r) else None
+next_device s r =
+    if is_at_command s r then option_map (λ c. c.device.0) (next_command s.setting (read_of s) r)
+    else None
 
 -- the run holds no grip, and waits at every moment
 pub record IsBlocked (s : Configuration) (r : RunId) : Type 0 where
@@ -37,11 +41,16 @@ pub record IsBlocked (s : Configuration) (r : RunId) : Type 0 where
   pub free : grip_wait s.setting s.grips r ≡ None
   pub waits : (m : Moment) → is_wait (choice_of s r m) ≡ true
 
--- at no moment does the run, whose next command is on the device, find a lease there overdue; under the weak model it looks for none, nor where it skips the command
+-- at no moment does the run, whose next command is on the device, find a lease there overdue; under
+-- the weak model it looks for none, nor where it skips the command
 abbrev pub NeverRevokes : Configuration → RunId → DeviceId → Type 0
-NeverRevokes s r d = is_weak s.setting.mode ≡ false → asks_on s.setting (read_of s) r d ≡ true → NeverOverdue s.setting (read_of s) s.grips r d
+NeverRevokes s r d =
+    is_weak s.setting.mode ≡ false → asks_on s.setting (read_of s) r d ≡ true
+    → NeverOverdue s.setting (read_of s) s.grips r d
 
--- the entry ends no wait of a run whose next command is on the device: it is of another device; or the doom of a run that does not use it, or under a model that is not strict its placing or its end
+-- the entry ends no wait of a run whose next command is on the device: it is of another device; or
+-- the doom of a run that does not use it, or under a model that is not strict its placing or its
+-- end
 abbrev pub is_quiet : Setting → DeviceId → Entry → Bool
 is_quiet w d (Arrived r m) = true
 is_quiet w d (Placed r at m) = not (is_strict w.mode) && not (touches w.runs r.0 d)
@@ -60,12 +69,15 @@ pub record IsPlacedLast (n : Reading) (entries : List Entry) : Type 0 where
   pub only : entries ≡ Placed run place moment ∷ []
   pub last : length n.line ≡ place + 1
 
--- the entries of a step, after which the window reads so, end no wait of a run whose next command is on the device
+-- the entries of a step, after which the window reads so, end no wait of a run whose next command
+-- is on the device
 abbrev pub EndNoWait : Setting → Reading → DeviceId → List Entry → Type 0
 EndNoWait w n d entries = IsPlacedLast n entries ⊎ (list_all (is_quiet w d) entries ≡ true)
 
--- a step of another actor that is elsewhere: it makes these entries, which end no wait, leaves the grip of the device, and gives the run none
-pub record IsElsewhere (s t : Configuration) (made : List Kept) (r : RunId) (d : DeviceId) : Type 0 where
+-- a step of another actor that is elsewhere: it makes these entries, which end no wait, leaves the
+-- grip of the device, and gives the run none
+pub record IsElsewhere (s t : Configuration) (made : List Kept) (r : RunId)
+    (d : DeviceId) : Type 0 where
   pub setting : t.setting ≡ s.setting
   pub history : t.history ≡ s.history ++ made
   pub quiet : EndNoWait s.setting (read_of t) d (entries_of made)

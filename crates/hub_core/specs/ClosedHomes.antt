@@ -11,9 +11,11 @@ use Rattle.std.specs.Prelude.{List, Some, [], length, slice_get, slice_index_or,
 abbrev pub stand_left : LineageState → Stand
 stand_left s = record { value = value_standing s.committed s.accesses; up = s.up }
 
--- how a device is left under the weak model: where it is known to stand, up or down as it is counted
+-- how a device is left under the weak model: where it is known to stand, up or down as it is
+-- counted
 abbrev pub known_left : List DeviceProgress → List LineageState → DeviceId → Stand
-known_left known table d = record { value = (progress_at known d).held; up = (lineage_at table d).up }
+known_left known table d =
+    record { value = (progress_at known d).held; up = (lineage_at table d).up }
 
 -- .. the first so many devices
 abbrev pub all_known_left : List DeviceProgress → List LineageState → ℕ → List Stand
@@ -21,11 +23,15 @@ all_known_left known table zero = []
 all_known_left known table (suc n) = all_known_left known table n ++ known_left known table n ∷ []
 
 -- each device is known, and its count is not below that of the opening
-pub record NoneFell {D : Type 0} (count : D → ℕ) (count_then : DeviceProgress → ℕ) (known : List DeviceProgress) (devices : List D) : Type 0 where
+pub record NoneFell {D : Type 0} (count : D → ℕ) (count_then : DeviceProgress → ℕ)
+    (known : List DeviceProgress) (devices : List D) : Type 0 where
   pub size : length devices ≡ length known
-  pub each : (d : DeviceId) (device : D) → slice_get devices d ≡ Some device → count_then (progress_at known d) ≤ count device
+  pub each : (d : DeviceId) (device : D) → slice_get devices d ≡ Some device
+      → count_then (progress_at known d) ≤ count device
 
 -- by so much the count of each of the first n devices rose since the opening
-pub record HaveRisen {D : Type 0} (count : D → ℕ) (count_then : DeviceProgress → ℕ) (known : List DeviceProgress) (devices : List D) (n : ℕ) (rises : List ℕ) : Type 0 where
+pub record HaveRisen {D : Type 0} (count : D → ℕ) (count_then : DeviceProgress → ℕ)
+    (known : List DeviceProgress) (devices : List D) (n : ℕ) (rises : List ℕ) : Type 0 where
   pub size : length rises ≡ n
-  pub each : (d : DeviceId) (device : D) → d < n → slice_get devices d ≡ Some device → count device ≡ count_then (progress_at known d) + slice_index_or rises d 0
+  pub each : (d : DeviceId) (device : D) → d < n → slice_get devices d ≡ Some device
+      → count device ≡ count_then (progress_at known d) + slice_index_or rises d 0

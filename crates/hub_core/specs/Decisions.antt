@@ -28,38 +28,59 @@ told_choice r m Commits = IsOver Committed (Ended (run_no r) Committed ∷ [])
 told_choice r m (Aborts cause) = IsOver (Aborted cause) (Ended (run_no r) (Aborted cause) ∷ [])
 told_choice r m (Drops d) = Moves (Undid (run_no r) d false ∷ [])
 told_choice r m (Revokes x d deadline) = Moves (Doomed x (Revoked (run_no r) d deadline m) ∷ [])
-told_choice r m (AnswersDown k must) = Moves (Did (run_no r) k Down ∷ (if must then Doomed (run_no r) (MustDown k) ∷ [] else []))
+told_choice r m (AnswersDown k must) =
+    Moves (Did (run_no r) k Down ∷ (if must then Doomed (run_no r) (MustDown k) ∷ [] else []))
 told_choice r m (Skips k) = Moves (skip_entries r k)
 told_choice r m (FailsAtEnd d) = Moves (Doomed (run_no r) (DownAtEnd d) ∷ [])
 told_choice r m (Waits why) = IsWaiting why
 told_choice r m (HandsOut d purpose) = IsHandedOut d.0 (purpose_of purpose)
 
--- for what the run is doomed with this answer to its command k: a must check that found another value, where the run is not doomed yet
+-- for what the run is doomed with this answer to its command k: a must check that found another
+-- value, where the run is not doomed yet
 abbrev pub refuted_by : Setting → Reading → RunId → CommandIndex → Answer → Option Cause
 refuted_by w n r k Fine = None
-refuted_by w n r k (Found x) = if fails (command_at w.runs r k) (Found x) && not (is_doomed n r) then Some (Refuted k x) else None
+refuted_by w n r k (Found x) =
+    if fails (command_at w.runs r k) (Found x) && not (is_doomed n r) then Some (Refuted k x)
+    else None
 refuted_by w n r k Down = None
 refuted_by w n r k Skipped = None
 
--- for what the run is doomed whose command k died, the first one on its device or a later one: a first one fails only where it must not, a later access is lost; a run that is doomed already is not doomed again
+-- for what the run is doomed whose command k died, the first one on its device or a later one: a
+-- first one fails only where it must not, a later access is lost; a run that is doomed already is
+-- not doomed again
 abbrev pub died_by : Setting → Reading → RunId → CommandIndex → Bool → Option Cause
-died_by w n r k first = if is_doomed n r then None else (if first then (if (command_at w.runs r k).must then Some (MustDown k) else None) else Some (Lost (command_at w.runs r k).device))
+died_by w n r k first =
+    if is_doomed n r then None
+    else (if first then (if (command_at w.runs r k).must then Some (MustDown k) else None)
+    else Some (Lost (command_at w.runs r k).device))
 
--- what a doomed run does in a model with an order: the next device on which it is undone is out, goes out to stand where it would if the run had not written, or is down and the write is dropped; with none left the run ends for the cause of its doom
+-- what a doomed run does in a model with an order: the next device on which it is undone is out,
+-- goes out to stand where it would if the run had not written, or is down and the write is dropped;
+-- with none left the run ends for the cause of its doom
 abbrev pub strong_doomed : Setting → Reading → Grips → RunId → Cause → Choice
 strong_doomed w n g r cause = first_case (undo_cases w n g r) (aborts r cause)
 
--- what the next command, c with the number k, does there where no lease is overdue: a run before it in the line holds its device, it would read the write of a live run before it, a live run before it is one that the model waits for, its device is out, the answer is Down with no call, or the device goes out
+-- what the next command, c with the number k, does there where no lease is overdue: a run before it
+-- in the line holds its device, it would read the write of a live run before it, a live run before
+-- it is one that the model waits for, its device is out, the answer is Down with no call, or the
+-- device goes out
 abbrev pub current_command : Setting → Reading → Grips → RunId → CommandIndex → Command → Choice
-current_command w n g r k c = first_case (behind_case w n g r c ∷ dirty_case w n g r c ∷ strict_case w n r ∷ busy_case w n g r c ∷ down_case w n r k c ∷ []) (IsHandedOut c.device.0 (Commands k))
+current_command w n g r k c =
+    first_case (behind_case w n g r c ∷ dirty_case w n g r c ∷ strict_case w n r
+    ∷ busy_case w n g r c ∷ down_case w n r k c ∷ []) (IsHandedOut c.device.0 (Commands k))
 
 -- .. and at this moment: a lease that is overdue on its device is revoked first
-abbrev pub strong_command : Setting → Reading → Grips → RunId → Moment → CommandIndex → Command → Choice
-strong_command w n g r m k c = first_case (overdue_case w n g r m c ∷ []) (current_command w n g r k c)
+abbrev pub strong_command : Setting → Reading → Grips → RunId → Moment → CommandIndex
+    → Command → Choice
+strong_command w n g r m k c =
+    first_case (overdue_case w n g r m c ∷ []) (current_command w n g r k c)
 
--- what the next command, c with the number k, does where no run bars it: its device is waited for, the answer is Down with no call, or the device goes out
+-- what the next command, c with the number k, does where no run bars it: its device is waited for,
+-- the answer is Down with no call, or the device goes out
 abbrev pub unbarred_command : Setting → Reading → Grips → RunId → CommandIndex → Command → Choice
-unbarred_command w n g r k c = first_case (busy_case w n g r c ∷ down_case w n r k c ∷ []) (IsHandedOut c.device.0 (Commands k))
+unbarred_command w n g r k c =
+    first_case (busy_case w n g r c ∷ down_case w n r k c ∷ [])
+    (IsHandedOut c.device.0 (Commands k))
 
 -- what it does where its guard does not hold: it is skipped, where the model lets the run go
 abbrev pub skipped_command : Setting → Reading → RunId → CommandIndex → Choice

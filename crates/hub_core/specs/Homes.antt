@@ -26,29 +26,37 @@ pub record HomeState (D : Type 0) : Type 0 where
 abbrev pub window_calls : ℕ
 window_calls = 2 ^ 17
 
--- so high the counts of a device are at most, after so many windows, and one call by which the home may have been resumed
+-- so high the counts of a device are at most, after so many windows, and one call by which the home
+-- may have been resumed
 pub record CountsAreLow (opened turns probes faults : ℕ) : Type 0 where
   pub few_turns : turns ≤ opened * window_calls + 1
   pub few_probes : probes ≤ opened * window_calls + 1
   pub few_faults : faults ≤ opened * window_calls + 1
 
--- what is kept of a home: each device is the one of its number, stands where the state says if it is up there, and was called as often as the windows allow; the state has values of the kinds
-pub record HomeIsKept {D : Type 0} (tag stands turns probes faults : D → ℕ) (s : HomeState D) : Type 0 where
+-- what is kept of a home: each device is the one of its number, stands where the state says if it
+-- is up there, and was called as often as the windows allow; the state has values of the kinds
+pub record HomeIsKept {D : Type 0} (tag stands turns probes faults : D → ℕ)
+    (s : HomeState D) : Type 0 where
   pub numbered : AreNumbered tag s.devices
   pub kinds : length s.kinds ≡ length s.world
   pub size : length s.devices ≡ length s.world
   pub few : length s.world ≤ most_devices
   pub opened : s.opened ≤ 2 ^ 31
-  pub values : (d : DeviceId) → d < length s.world → IsTrue (has_value (kind_at s.kinds d) (stand_at s.world d).value)
+  pub values : (d : DeviceId) → d < length s.world
+      → IsTrue (has_value (kind_at s.kinds d) (stand_at s.world d).value)
   pub stand : UpDevicesStand stands s.devices s.world
-  pub counts : (d : DeviceId) (device : D) → slice_get s.devices d ≡ Some device → CountsAreLow s.opened (turns device) (probes device) (faults device)
+  pub counts : (d : DeviceId) (device : D) → slice_get s.devices d ≡ Some device
+      → CountsAreLow s.opened (turns device) (probes device) (faults device)
 
 -- a window of the roster, on the home as it is
 abbrev pub setting_for : {D : Type 0} → HomeState D → Roster → Mode → Setting
-setting_for home roster mode = record { runs = runs_of roster; mode = mode; kinds = home.kinds; first = home.world }
+setting_for home roster mode =
+    record { runs = runs_of roster; mode = mode; kinds = home.kinds; first = home.world }
 
 -- a new device of the script: it stands at its start, and was not called
-pub record IsNew {D : Type 0} (tag : D → ℕ) (plan : D → Option (List (ℕ × ℕ))) (stands turns probes faults : D → ℕ) (text : DeviceText) (d : DeviceId) (device : D) : Type 0 where
+pub record IsNew {D : Type 0} (tag : D → ℕ) (plan : D → Option (List (ℕ × ℕ)))
+    (stands turns probes faults : D → ℕ) (text : DeviceText) (d : DeviceId)
+    (device : D) : Type 0 where
   pub own : IsDeviceOf tag plan text d device
   pub at_start : stands device ≡ text.start
   pub no_turns : turns device ≡ 0
@@ -56,6 +64,8 @@ pub record IsNew {D : Type 0} (tag : D → ℕ) (plan : D → Option (List (ℕ 
   pub no_faults : faults device ≡ 0
 
 -- one new device for each of the script's, in its order
-pub record AreNew {D : Type 0} (tag : D → ℕ) (plan : D → Option (List (ℕ × ℕ))) (stands turns probes faults : D → ℕ) (texts : List DeviceText) (devices : List D) : Type 0 where
+pub record AreNew {D : Type 0} (tag : D → ℕ) (plan : D → Option (List (ℕ × ℕ)))
+    (stands turns probes faults : D → ℕ) (texts : List DeviceText) (devices : List D) : Type 0 where
   pub size : length devices ≡ length texts
-  pub each : (d : DeviceId) (device : D) (text : DeviceText) → slice_get devices d ≡ Some device → slice_get texts d ≡ Some text → IsNew tag plan stands turns probes faults text d device
+  pub each : (d : DeviceId) (device : D) (text : DeviceText) → slice_get devices d ≡ Some device
+      → slice_get texts d ≡ Some text → IsNew tag plan stands turns probes faults text d device

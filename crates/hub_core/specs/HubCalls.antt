@@ -42,35 +42,44 @@ pub record SameWindow {D : Type 0} (s t : OpenHub D) : Type 0 where
   pub setting : t.setting ≡ s.setting
   pub rounds : t.rounds ≡ s.rounds
   pub opened : t.opened ≡ s.opened
-  pub at_opening : (d : DeviceId) → (progress_at t.devices d).at_opening ≡ (progress_at s.devices d).at_opening
+  pub at_opening : (d : DeviceId) → (progress_at t.devices d).at_opening
+      ≡ (progress_at s.devices d).at_opening
 
--- the entries stand in the first places: one in the second only behind one in the first, and one in the third only behind one in the second
+-- the entries stand in the first places: one in the second only behind one in the first, and one in
+-- the third only behind one in the second
 pub record IsPacked (made : Made) : Type 0 where
   pub second : made.a ≡ None → made.b ≡ None
   pub third : made.b ≡ None → made.c ≡ None
 
 -- the step of the run answers so and hands no device out
-pub record Answers {D : Type 0} (s : OpenHub D) (r : RunId) (m : Moment) (choice : Choice) (t : OpenHub D) : Type 0 where
-  pub step : (slip : Slip) → HubStep (hub_state_of s) (Take r m slip) (Chose choice) (hub_state_of t)
+pub record Answers {D : Type 0} (s : OpenHub D) (r : RunId) (m : Moment) (choice : Choice)
+    (t : OpenHub D) : Type 0 where
+  pub step : (slip : Slip)
+      → HubStep (hub_state_of s) (Take r m slip) (Chose choice) (hub_state_of t)
   pub places : t.places ≡ s.places
   pub tickets : t.tickets ≡ s.tickets
 
--- the grip that goes out has the next ticket, and its slip says at which value its device is known to stand
-pub record IsNextGrip {D : Type 0} (s : OpenHub D) (grip : Gripped D Ready) (t : OpenHub D) : Type 0 where
+-- the grip that goes out has the next ticket, and its slip says at which value its device is known
+-- to stand
+pub record IsNextGrip {D : Type 0} (s : OpenHub D) (grip : Gripped D Ready)
+    (t : OpenHub D) : Type 0 where
   pub ticket : grip.slip.ticket ≡ s.tickets + 1
   pub tickets : t.tickets ≡ s.tickets + 1
   pub stood : grip.slip.stood ≡ (progress_at s.devices grip.slip.device.0).held
 
 -- the step of the run hands this device out, for what it needs it
-pub record DeviceGoesOut {D : Type 0} (s : OpenHub D) (r : RunId) (m : Moment) (grip : Gripped D Ready) (t : OpenHub D) : Type 0 where
+pub record DeviceGoesOut {D : Type 0} (s : OpenHub D) (r : RunId) (m : Moment)
+    (grip : Gripped D Ready) (t : OpenHub D) : Type 0 where
   pub purpose : Purpose
-  pub step : HubStep (hub_state_of s) (Take r m grip.slip) (Chose (HandsOut grip.slip.device.0 purpose)) (hub_state_of t)
+  pub step : HubStep (hub_state_of s) (Take r m grip.slip)
+      (Chose (HandsOut grip.slip.device.0 purpose)) (hub_state_of t)
   pub task : grip.task ≡ task_of (configuration_of s) r purpose
   pub home : slice_get s.places grip.slip.device.0 ≡ Some (Home grip.device)
   pub places : t.places ≡ slice_set s.places grip.slip.device.0 (Out grip.slip grip.task)
   pub next : IsNextGrip s grip t
 
--- what the step of a run answers, and the hub after it: where the run waits, or is none of the window, its last moment alone may be another
+-- what the step of a run answers, and the hub after it: where the run waits, or is none of the
+-- window, its last moment alone may be another
 abbrev pub IsTurn : {D : Type 0} → OpenHub D → RunId → Moment → Turn D → OpenHub D → Type 0
 IsTurn s r m (Go grip) t = DeviceGoesOut s r m grip t
 IsTurn s r m (Moved made) t = Answers s r m (Moves (entries_made made)) t × IsPacked made
@@ -78,11 +87,15 @@ IsTurn s r m (Wait why) t = Answers s r m (Waits why) t × (t ≡ record s { mom
 IsTurn s r m (Over end made) t = Answers s r m (IsOver end (entries_made made)) t × IsPacked made
 IsTurn s r m Absent t = Answers s r m IsAbsent t × (t ≡ record s { moment = max s.moment m })
 
--- where the step places the run by the timeline, the set taken is closed, holds the base and fits, and no other one that does plans an earlier end of the run
+-- where the step places the run by the timeline, the set taken is closed, holds the base and fits,
+-- and no other one that does plans an earlier end of the run
 abbrev pub PlansEarliest : {D : Type 0} → Configuration → RunId → Turn D → Type 0
 PlansEarliest s r (Go grip) = ⊤
-PlansEarliest s r (Moved made) = scheduler_of s.setting.mode ≡ Timeline → (at : LinePlace) (m : Moment) → entries_made made ≡ Placed (run_no r) at m ∷ []
-    → IsFittingSet s.setting (read_of s) r m (gap_set s.setting (read_of s) r m) × IsEarliestSet s.setting (read_of s) r m (gap_set s.setting (read_of s) r m)
+PlansEarliest s r (Moved made) =
+    scheduler_of s.setting.mode ≡ Timeline
+    → (at : LinePlace) (m : Moment) → entries_made made ≡ Placed (run_no r) at m ∷ []
+    → IsFittingSet s.setting (read_of s) r m (gap_set s.setting (read_of s) r m)
+    × IsEarliestSet s.setting (read_of s) r m (gap_set s.setting (read_of s) r m)
 PlansEarliest s r (Wait why) = ⊤
 PlansEarliest s r (Over end made) = ⊤
 PlansEarliest s r Absent = ⊤
@@ -91,58 +104,79 @@ PlansEarliest s r Absent = ⊤
 abbrev pub carried_by : {D S : Type 0} → Gripped D S → Carried
 carried_by grip = record { slip = grip.slip; task = grip.task }
 
--- a grip that comes back is taken in: the step back, and the device is home again; or it is refused and nothing changes
-abbrev pub IsGiven : {D : Type 0} → OpenHub D → Gripped D Done → Moment → Result Made (Gripped D Done × Stranger) → OpenHub D → Type 0
+-- a grip that comes back is taken in: the step back, and the device is home again; or it is refused
+-- and nothing changes
+abbrev pub IsGiven : {D : Type 0} → OpenHub D → Gripped D Done → Moment
+    → Result Made (Gripped D Done × Stranger) → OpenHub D → Type 0
 IsGiven s grip m (Ok made) t =
-    HubStep (hub_state_of s) (Give (carried_by grip) grip.stage.told m) (Returned (Gave (entries_made made))) (hub_state_of t)
+    HubStep (hub_state_of s) (Give (carried_by grip) grip.stage.told m)
+    (Returned (Gave (entries_made made))) (hub_state_of t)
     × (t.places ≡ slice_set s.places grip.slip.device.0 (Home grip.device))
     × (t.tickets ≡ s.tickets) × IsPacked made
 IsGiven s grip m (Err refused) t =
-    HubStep (hub_state_of s) (Give (carried_by grip) grip.stage.told m) (Returned (Refused refused.1)) (hub_state_of t)
+    HubStep (hub_state_of s) (Give (carried_by grip) grip.stage.told m)
+    (Returned (Refused refused.1)) (hub_state_of t)
     × (refused.0 ≡ grip) × (t ≡ s)
 
 -- a probe of the device goes out, or none may
-abbrev pub IsProbed : {D : Type 0} → OpenHub D → DeviceId → Option (Gripped D Ready) → OpenHub D → Type 0
+abbrev pub IsProbed : {D : Type 0} → OpenHub D → DeviceId → Option (Gripped D Ready)
+    → OpenHub D → Type 0
 IsProbed s d (Some grip) t =
     HubStep (hub_state_of s) (TakeProbe d grip.slip) (Probed (Some grip.task)) (hub_state_of t)
     × (slice_get s.places d ≡ Some (Home grip.device))
     × (t.places ≡ slice_set s.places d (Out grip.slip grip.task))
     × IsNextGrip s grip t
-IsProbed s d None t = ((slip : Slip) → HubStep (hub_state_of s) (TakeProbe d slip) (Probed None) (hub_state_of t)) × (t ≡ s)
+IsProbed s d None t =
+    ((slip : Slip) → HubStep (hub_state_of s) (TakeProbe d slip) (Probed None) (hub_state_of t))
+    × (t ≡ s)
 
 -- the same for the detector's grip
-abbrev pub IsProbeGiven : {D : Type 0} → OpenHub D → Gripped D Done → Result Made (Gripped D Done × Stranger) → OpenHub D → Type 0
+abbrev pub IsProbeGiven : {D : Type 0} → OpenHub D → Gripped D Done
+    → Result Made (Gripped D Done × Stranger) → OpenHub D → Type 0
 IsProbeGiven s grip (Ok made) t =
-    HubStep (hub_state_of s) (GiveProbe (carried_by grip) grip.stage.told) (Returned (Gave (entries_made made))) (hub_state_of t)
+    HubStep (hub_state_of s) (GiveProbe (carried_by grip) grip.stage.told)
+    (Returned (Gave (entries_made made))) (hub_state_of t)
     × (t.places ≡ slice_set s.places grip.slip.device.0 (Home grip.device))
     × (t.tickets ≡ s.tickets) × IsPacked made
 IsProbeGiven s grip (Err refused) t =
-    HubStep (hub_state_of s) (GiveProbe (carried_by grip) grip.stage.told) (Returned (Refused refused.1)) (hub_state_of t)
+    HubStep (hub_state_of s) (GiveProbe (carried_by grip) grip.stage.told)
+    (Returned (Refused refused.1)) (hub_state_of t)
     × (refused.0 ≡ grip) × (t ≡ s)
 
--- the window was opened on this home: with an empty history, each device home, no ticket given, and the counts of each device as it has them
-pub record IsOpened {D : Type 0} (turns probes faults : D → ℕ) (w : Setting) (rounds : ℕ) (home : HomeState D) (hub : OpenHub D) : Type 0 where
+-- the window was opened on this home: with an empty history, each device home, no ticket given, and
+-- the counts of each device as it has them
+pub record IsOpened {D : Type 0} (turns probes faults : D → ℕ) (w : Setting) (rounds : ℕ)
+    (home : HomeState D) (hub : OpenHub D) : Type 0 where
   pub configuration : configuration_of hub ≡ opened w rounds
   pub places : hub.places ≡ all_home home.devices
   pub rounds_are : hub.rounds ≡ rounds
   pub windows : hub.opened ≡ home.opened
   pub tickets : hub.tickets ≡ 0
-  pub turns_then : (d : DeviceId) (device : D) → slice_get home.devices d ≡ Some device → (progress_at hub.devices d).at_opening.turns ≡ turns device
-  pub probes_then : (d : DeviceId) (device : D) → slice_get home.devices d ≡ Some device → (progress_at hub.devices d).at_opening.probes ≡ probes device
-  pub faults_then : (d : DeviceId) (device : D) → slice_get home.devices d ≡ Some device → (progress_at hub.devices d).at_opening.faults ≡ faults device
+  pub turns_then : (d : DeviceId) (device : D) → slice_get home.devices d ≡ Some device
+      → (progress_at hub.devices d).at_opening.turns ≡ turns device
+  pub probes_then : (d : DeviceId) (device : D) → slice_get home.devices d ≡ Some device
+      → (progress_at hub.devices d).at_opening.probes ≡ probes device
+  pub faults_then : (d : DeviceId) (device : D) → slice_get home.devices d ≡ Some device
+      → (progress_at hub.devices d).at_opening.faults ≡ faults device
 
 -- no device fails in the window: each is up as it opens, and its faults do not rise
 pub record NoneFails (w : Setting) (faults : List ℕ) : Type 0 where
   pub up : (d : DeviceId) → d < length w.first → (stand_at w.first d).up ≡ true
   pub steady : (d : DeviceId) → d < length w.first → slice_index_or faults d 0 ≡ 0
 
--- every run of the window has ended, and where runs are served as they come and no device fails, each that has no must `check` has committed
+-- every run of the window has ended, and where runs are served as they come and no device fails,
+-- each that has no must `check` has committed
 pub record RunsHaveEnded (w : Setting) (closed : WindowRecord) : Type 0 where
-  pub ended : (r : RunId) → is_run w.runs r ≡ true → is_some ((reading w (history_of closed)).run r).ended ≡ true
-  pub commits : w.mode.scheduler ≡ Fcfs → NoneFails w closed.faults.items → (r : RunId) → is_run w.runs r ≡ true → has_must_check w.runs r ≡ false → ((reading w (history_of closed)).run r).ended ≡ Some Committed
+  pub ended : (r : RunId) → is_run w.runs r ≡ true
+      → is_some ((reading w (history_of closed)).run r).ended ≡ true
+  pub commits : w.mode.scheduler ≡ Fcfs → NoneFails w closed.faults.items
+      → (r : RunId) → is_run w.runs r ≡ true → has_must_check w.runs r ≡ false
+      → ((reading w (history_of closed)).run r).ended ≡ Some Committed
 
--- the window was closed with this record, and leaves this home: its devices are those of the hub, and their counts rose as the record says, the probes by those that were taken
-pub record WindowIsClosed {D : Type 0} (turns probes faults : D → ℕ) (s : OpenHub D) (home : HomeState D) (closed : WindowRecord) : Type 0 where
+-- the window was closed with this record, and leaves this home: its devices are those of the hub,
+-- and their counts rose as the record says, the probes by those that were taken
+pub record WindowIsClosed {D : Type 0} (turns probes faults : D → ℕ) (s : OpenHub D)
+    (home : HomeState D) (closed : WindowRecord) : Type 0 where
   pub legal : IsLegalWindow s.setting closed
   pub history : closed.history.items ≡ s.history
   pub kinds : home.kinds ≡ s.setting.kinds
@@ -151,10 +185,17 @@ pub record WindowIsClosed {D : Type 0} (turns probes faults : D → ℕ) (s : Op
   pub places : s.places ≡ all_home home.devices
   pub ends : RunsHaveEnded s.setting closed
   -- where no device fails, each is up
-  pub up : NoneFails s.setting closed.faults.items → (d : DeviceId) → d < length home.world → (stand_at home.world d).up ≡ true
-  pub turns_rose : (d : DeviceId) (device : D) → slice_get home.devices d ≡ Some device → turns device ≡ (progress_at s.devices d).at_opening.turns + slice_index_or closed.turns.items d 0
-  pub probes_rose : (d : DeviceId) (device : D) → slice_get home.devices d ≡ Some device → probes device ≡ (progress_at s.devices d).at_opening.probes + (s.rounds - (progress_at s.devices d).probes_left)
-  pub faults_rose : (d : DeviceId) (device : D) → slice_get home.devices d ≡ Some device → faults device ≡ (progress_at s.devices d).at_opening.faults + slice_index_or closed.faults.items d 0
+  pub up : NoneFails s.setting closed.faults.items → (d : DeviceId) → d < length home.world
+      → (stand_at home.world d).up ≡ true
+  pub turns_rose : (d : DeviceId) (device : D) → slice_get home.devices d ≡ Some device
+      → turns device
+      ≡ (progress_at s.devices d).at_opening.turns + slice_index_or closed.turns.items d 0
+  pub probes_rose : (d : DeviceId) (device : D) → slice_get home.devices d ≡ Some device
+      → probes device ≡ (progress_at s.devices d).at_opening.probes
+      + (s.rounds - (progress_at s.devices d).probes_left)
+  pub faults_rose : (d : DeviceId) (device : D) → slice_get home.devices d ≡ Some device
+      → faults device
+      ≡ (progress_at s.devices d).at_opening.faults + slice_index_or closed.faults.items d 0
 
 -- What a hub tells
 
@@ -162,7 +203,8 @@ pub record WindowIsClosed {D : Type 0} (turns probes faults : D → ℕ) (s : Op
 abbrev pub is_past : Configuration → RunId → Bool
 is_past s r = not (is_run s.setting.runs r) || is_some ((read_of s).run r).ended
 
--- by how many ms a replay's moment rises with what the device is out for: that of a command, 0 for an undo or a probe
+-- by how many ms a replay's moment rises with what the device is out for: that of a command, 0 for
+-- an undo or a probe
 abbrev pub grip_takes : Setting → Option Grip → ℕ
 grip_takes w None = 0
 grip_takes w (Some grip) = by_purpose grip.purpose
@@ -176,44 +218,66 @@ grip_takes w (Some grip) = by_purpose grip.purpose
 
 -- a device that is home, and counted up, stands at its standing value
 abbrev pub DevicesStand : {D : Type 0} → (D → ℕ) → OpenHub D → Type 0
-DevicesStand {D} stands s = (d : DeviceId) (device : D) → slice_get s.places d ≡ Some (Home device) → (read_of (configuration_of s)).up d ≡ true
-    → stands device ≡ standing_value s.setting (read_of (configuration_of s)) (configuration_of s).grips d
+DevicesStand {D} stands s =
+    (d : DeviceId) (device : D) → slice_get s.places d ≡ Some (Home device)
+    → (read_of (configuration_of s)).up d ≡ true
+    → stands device
+    ≡ standing_value s.setting (read_of (configuration_of s)) (configuration_of s).grips d
 
 -- how many probes of the device were taken
 abbrev pub probes_taken : {D : Type 0} → OpenHub D → DeviceId → ℕ
 probes_taken s d = s.rounds - (progress_at s.devices d).probes_left
 
--- how often it has failed up to now at least: its faults at the opening, and the failures that the history tells of
+-- how often it has failed up to now at least: its faults at the opening, and the failures that the
+-- history tells of
 abbrev pub faults_told : {D : Type 0} → OpenHub D → DeviceId → ℕ
 faults_told s d = (progress_at s.devices d).at_opening.faults + told_falls (entries_of s.history) d
 
--- the calls of a device that is home rose since the opening by those that the history tells of, its probes by those that were taken, and its faults by its failures at least, and at most by these and its probes
+-- the calls of a device that is home rose since the opening by those that the history tells of, its
+-- probes by those that were taken, and its faults by its failures at least, and at most by these
+-- and its probes
 pub record CallsAreTold {D : Type 0} (turns probes faults : D → ℕ) (s : OpenHub D) : Type 0 where
-  pub turns_rose : (d : DeviceId) (device : D) → slice_get s.places d ≡ Some (Home device) → turns device ≡ (progress_at s.devices d).at_opening.turns + told_calls s.setting.runs (entries_of s.history) d
-  pub probes_rose : (d : DeviceId) (device : D) → slice_get s.places d ≡ Some (Home device) → probes device ≡ (progress_at s.devices d).at_opening.probes + probes_taken s d
-  pub falls_told : (d : DeviceId) (device : D) → slice_get s.places d ≡ Some (Home device) → faults_told s d ≤ faults device
-  pub few_faults : (d : DeviceId) (device : D) → slice_get s.places d ≡ Some (Home device) → faults device ≤ faults_told s d + probes_taken s d
+  pub turns_rose : (d : DeviceId) (device : D) → slice_get s.places d ≡ Some (Home device)
+      → turns device ≡ (progress_at s.devices d).at_opening.turns + told_calls s.setting.runs
+      (entries_of s.history) d
+  pub probes_rose : (d : DeviceId) (device : D) → slice_get s.places d ≡ Some (Home device)
+      → probes device ≡ (progress_at s.devices d).at_opening.probes + probes_taken s d
+  pub falls_told : (d : DeviceId) (device : D) → slice_get s.places d ≡ Some (Home device)
+      → faults_told s d ≤ faults device
+  pub few_faults : (d : DeviceId) (device : D) → slice_get s.places d ≡ Some (Home device)
+      → faults device ≤ faults_told s d + probes_taken s d
 
--- in every hub each device has a place, and one that is home stands in that of its number, the history is well formed, the grips that are out fit it, aborts are justified, devices stand where they should, and their calls are told;
--- outside the weak model the four clauses of the order hold, reads are clean, and places are the scheduler's; and under it answers, dooms and ends are such as the weak model allows
-pub record HubStands {D : Type 0} (tag stands turns probes faults : D → ℕ) (s : OpenHub D) : Type 0 where
+-- in every hub each device has a place, and one that is home stands in that of its number, the
+-- history is well formed, the grips that are out fit it, aborts are justified, devices stand where
+-- they should, and their calls are told; outside the weak model the four clauses of the order hold,
+-- reads are clean, and places are the scheduler's; and under it answers, dooms and ends are such as
+-- the weak model allows
+pub record HubStands {D : Type 0} (tag stands turns probes faults : D → ℕ)
+    (s : OpenHub D) : Type 0 where
   pub size : length s.places ≡ length s.setting.first
-  pub numbered : (d : DeviceId) (device : D) → slice_get s.places d ≡ Some (Home device) → tag device ≡ d
+  pub numbered : (d : DeviceId) (device : D) → slice_get s.places d ≡ Some (Home device)
+      → tag device ≡ d
   pub few_runs : length s.setting.runs ≤ most_runs
   pub few_devices : length s.setting.first ≤ most_devices
   pub well_formed : IsWellFormed s.setting (entries_of s.history)
   pub grips : GripsFit s.setting (read_of (configuration_of s)) (configuration_of s).grips
-  pub order : is_weak s.setting.mode ≡ false → OrderStands s.setting (read_of (configuration_of s)) (configuration_of s).grips
+  pub order : is_weak s.setting.mode ≡ false
+      → OrderStands s.setting (read_of (configuration_of s)) (configuration_of s).grips
   pub clean : is_weak s.setting.mode ≡ false → ReadsAreClean s.setting (entries_of s.history)
   pub places : is_weak s.setting.mode ≡ false → PlacesAreScheduled s.setting (entries_of s.history)
-  pub weakly : is_weak s.setting.mode ≡ true → IsTrue (each_entry s.setting (weakly_allowed s.setting) (entries_of s.history))
+  pub weakly : is_weak s.setting.mode ≡ true
+      → IsTrue (each_entry s.setting (weakly_allowed s.setting) (entries_of s.history))
   pub justified : IsJustified s.setting (entries_of s.history)
   -- no moment that the history tells is later than the last one
   pub moment : (read_of (configuration_of s)).moment ≤ s.moment
   pub stand : DevicesStand stands s
   pub told : CallsAreTold turns probes faults s
 
--- where no device is out and some run has not ended, some run that has not ended does not wait, at any moment
+-- where no device is out and some run has not ended, some run that has not ended does not wait, at
+-- any moment
 abbrev pub SomeRunMoves : Configuration → Type 0
-SomeRunMoves s = (r : RunId) → is_run s.setting.runs r ≡ true → ((read_of s).run r).ended ≡ None → ((d : DeviceId) → s.grips d ≡ None)
-    → (q : RunId) × (is_run s.setting.runs q ≡ true) × (((read_of s).run q).ended ≡ None) × ((m : Moment) (why : Why) → choice_of s q m ≢ Waits why)
+SomeRunMoves s =
+    (r : RunId) → is_run s.setting.runs r ≡ true → ((read_of s).run r).ended ≡ None
+    → ((d : DeviceId) → s.grips d ≡ None)
+    → (q : RunId) × (is_run s.setting.runs q ≡ true) × (((read_of s).run q).ended ≡ None)
+    × ((m : Moment) (why : Why) → choice_of s q m ≢ Waits why)

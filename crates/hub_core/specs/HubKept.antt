@@ -39,18 +39,24 @@ is_placed_later n stamp (Back d k) = true
 -- each run of the line was placed before the runs behind it
 abbrev pub placed_in_order : Reading → List Item → Bool
 placed_in_order n [] = true
-placed_in_order n (Ran r ∷ is) = list_all (is_placed_later n (stamp_of n r.0)) is && placed_in_order n is
+placed_in_order n (Ran r ∷ is) =
+    list_all (is_placed_later n (stamp_of n r.0)) is && placed_in_order n is
 placed_in_order n (Failed d k ∷ is) = placed_in_order n is
 placed_in_order n (Back d k ∷ is) = placed_in_order n is
 
 -- a live run that has touched a device, or has out a grip, waits for no run by its model
 abbrev pub ActsInTurn : Setting → Reading → Grips → Type 0
-ActsInTurn w n g = (r : RunId) (d : DeviceId) → IsTrue (is_live n r && (has_touched n g r d || has_grip g r d)) → strict_wait w n r ≡ None
+ActsInTurn w n g =
+    (r : RunId) (d : DeviceId) → IsTrue (is_live n r && (has_touched n g r d || has_grip g r d))
+    → strict_wait w n r ≡ None
 
--- a run that follows another is placed after the end of that one, and stands behind it where both stand in the line
+-- a run that follows another is placed after the end of that one, and stands behind it where both
+-- stand in the line
 pub record FollowersStand (w : Setting) (n : Reading) : Type 0 where
-  pub ended : (r : RunId) (f : RunNo) → followed_by w.runs r ≡ Some f → is_some (n.run r).placed ≡ true → is_some (n.run f.0).ended ≡ true
-  pub behind_it : (r : RunId) (f : RunNo) → followed_by w.runs r ≡ Some f → is_in_line n r ≡ true → is_in_line n f.0 ≡ true → list_any (is_ran r) (behind f.0 n.line) ≡ true
+  pub ended : (r : RunId) (f : RunNo) → followed_by w.runs r ≡ Some f
+      → is_some (n.run r).placed ≡ true → is_some (n.run f.0).ended ≡ true
+  pub behind_it : (r : RunId) (f : RunNo) → followed_by w.runs r ≡ Some f → is_in_line n r ≡ true
+      → is_in_line n f.0 ≡ true → list_any (is_ran r) (behind f.0 n.line) ≡ true
 
 -- no run is doomed for a lease that it kept too long
 abbrev pub keeps_leases : Entry → Bool
@@ -87,7 +93,8 @@ probes_of s d = (read_of s).rose d + (if is_probed s.grips d then 1 else 0) + s.
 
 -- a run that has a command out has had no answer since it was doomed
 abbrev pub NoneAnsweredDoomed : Reading → Grips → Type 0
-NoneAnsweredDoomed n g = EachOut g (λ d grip. not (is_command grip.purpose && (n.run grip.maker).answered_doomed))
+NoneAnsweredDoomed n g =
+    EachOut g (λ d grip. not (is_command grip.purpose && (n.run grip.maker).answered_doomed))
 
 -- an undo drives a value of the device's kind, and a probe restores one
 abbrev pub undo_fits : Kind → Purpose → Bool
@@ -107,20 +114,25 @@ pub record HistoryIsKept (s : Configuration) : Type 0 where
   pub justified : IsJustified s.setting (entries_of s.history)
   pub places : PlacesAreScheduled s.setting (entries_of s.history)
   pub isolated : IsTrue (is_strict s.setting.mode) → IsStrict s.setting (entries_of s.history)
-  pub unrevoked : s.setting.mode.scheduler ≡ Fcfs → IsTrue (list_all keeps_leases (entries_of s.history))
-  pub in_order : s.setting.mode.scheduler ≡ Fcfs → IsTrue (placed_in_order (read_of s) (read_of s).line)
+  pub unrevoked : s.setting.mode.scheduler ≡ Fcfs
+      → IsTrue (list_all keeps_leases (entries_of s.history))
+  pub in_order : s.setting.mode.scheduler ≡ Fcfs
+      → IsTrue (placed_in_order (read_of s) (read_of s).line)
   pub followed : FollowersStand s.setting (read_of s)
   pub in_turn : ActsInTurn s.setting (read_of s) s.grips
   pub first : NoneAnsweredDoomed (read_of s) s.grips
 
--- what is kept of a configuration in which each device stands, or stood as it went out, at this value: of a window under a model with an order, that may be opened
-pub record ConfigurationIsKept (s : Configuration) (rounds opened : ℕ) (held : DeviceId → ℕ) : Type 0 where
+-- what is kept of a configuration in which each device stands, or stood as it went out, at this
+-- value: of a window under a model with an order, that may be opened
+pub record ConfigurationIsKept (s : Configuration) (rounds opened : ℕ)
+    (held : DeviceId → ℕ) : Type 0 where
   pub opens : MayOpen s.setting rounds opened
   pub strong : is_weak s.setting.mode ≡ false
   pub kinds : length s.setting.kinds ≡ length s.setting.first
   -- each restart answers a probe, and no more probes of a device are taken than there are rounds
   pub probes : (d : DeviceId) → probes_of s d ≤ rounds
-  pub values : (d : DeviceId) → d < length s.setting.first → IsTrue (has_value (kind_at s.setting.kinds d) (stand_at s.setting.first d).value)
+  pub values : (d : DeviceId) → d < length s.setting.first
+      → IsTrue (has_value (kind_at s.setting.kinds d) (stand_at s.setting.first d).value)
   pub undos : UndosFit s.setting s.grips
   pub history : HistoryIsKept s
   pub order : OrderIsKept s.setting (read_of s) s.grips held

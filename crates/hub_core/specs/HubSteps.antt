@@ -27,7 +27,9 @@ pub record HubState : Type 0 where
 
 -- what a command of the run does with its device
 abbrev pub command_task : Configuration → RunId → Command → Task
-command_task s r c = if reads c.job then Sense else Drive (driven (kind_at s.setting.kinds c.device.0) c.job ((read_of s).run r).register)
+command_task s r c =
+    if reads c.job then Sense
+    else Drive (driven (kind_at s.setting.kinds c.device.0) c.job ((read_of s).run r).register)
 
 abbrev pub task_of : Configuration → ActorId → Purpose → Task
 task_of s r (Commands k) = command_task s r (command_at s.setting.runs r k)
@@ -46,7 +48,10 @@ same_task (Probe v) (Probe u) = same_optional v u
 same_task a b = false
 
 abbrev pub same_slip : Slip → Slip → Bool
-same_slip a b = (a.ticket == b.ticket) && (a.device.0 == b.device.0) && (a.maker == b.maker) && (a.stood == b.stood) && (a.turns == b.turns) && (a.probes == b.probes) && (a.faults == b.faults)
+same_slip a b =
+    (a.ticket == b.ticket) && (a.device.0 == b.device.0) && (a.maker == b.maker)
+    && (a.stood == b.stood) && (a.turns == b.turns) && (a.probes == b.probes)
+    && (a.faults == b.faults)
 
 abbrev pub same_carried : Carried → Carried → Bool
 same_carried a b = same_slip a.slip b.slip && same_task a.task b.task
@@ -56,7 +61,8 @@ abbrev pub is_kept : HubState → Carried → Bool
 is_kept s told = unwrap_or (option_map (same_carried told) (s.carried told.slip.device.0)) false
 
 abbrev pub stranger : HubState → Carried → Stranger
-stranger s told = record { kept = option_map (λ c. c.slip) (s.carried told.slip.device.0); told = told.slip }
+stranger s told =
+    record { kept = option_map (λ c. c.slip) (s.carried told.slip.device.0); told = told.slip }
 
 -- what a call answers, and the hub after it
 
@@ -80,7 +86,8 @@ pub record ProbeTaken : Type 0 where
 
 -- the device leaves with this slip
 abbrev pub carrying : HubState → ActorId → DeviceId → Purpose → Slip → DeviceId → Option Carried
-carrying s r d purpose slip = put s.carried d (Some (record { slip = slip; task = task_of s.configuration r purpose }))
+carrying s r d purpose slip =
+    put s.carried d (Some (record { slip = slip; task = task_of s.configuration r purpose }))
 
 abbrev pub carried_after : HubState → RunId → Choice → Slip → DeviceId → Option Carried
 carried_after s r Absent slip = s.carried
@@ -94,12 +101,18 @@ abbrev pub take : HubState → RunId → Moment → Slip → RunTaken
 take s r m slip =
     record {
       choice = choice_of s.configuration r m;
-      next = record { configuration = after_take s.configuration r m; carried = carried_after s r (choice_of s.configuration r m) slip };
+      next = record {
+        configuration = after_take s.configuration r m;
+        carried = carried_after s r (choice_of s.configuration r m) slip;
+      };
     }
 
 -- the grip's device is home again
 abbrev pub taken_back : HubState → Configuration → Carried → Told → HubState
-taken_back s c told result = record { configuration = came_home (c.grips told.slip.device.0); carried = put s.carried told.slip.device.0 None }
+taken_back s c told result = record {
+  configuration = came_home (c.grips told.slip.device.0);
+  carried = put s.carried told.slip.device.0 None;
+}
   where
     came_home : Option Grip → Configuration
     came_home None = c
@@ -107,27 +120,36 @@ taken_back s c told result = record { configuration = came_home (c.grips told.sl
 
 -- the entries of the grip that is out of this device
 abbrev pub entries_back : Configuration → Carried → Told → List Entry
-entries_back c told result = unwrap_or (option_map (λ grip. give_entries c.setting (read_of c) told.slip.device.0 grip result) (c.grips told.slip.device.0)) []
+entries_back c told result =
+    unwrap_or
+    (option_map (λ grip. give_entries c.setting (read_of c) told.slip.device.0 grip result)
+    (c.grips told.slip.device.0)) []
 
 -- a grip comes back; one that is not the one which is out is refused, and nothing changes
 abbrev pub give_if : Bool → HubState → Configuration → Carried → Told → RunGiven
-give_if true s c told result = record { answer = Gave (entries_back c told result); next = taken_back s c told result }
+give_if true s c told result =
+    record { answer = Gave (entries_back c told result); next = taken_back s c told result }
 give_if false s c told result = record { answer = Refused (stranger s told); next = s }
 
 -- the grip of a run
 abbrev pub give : HubState → Carried → Told → Moment → RunGiven
-give s told result m = give_if (is_kept s told && nat_lt 0 told.slip.maker) s (at_moment s.configuration m) told result
+give s told result m =
+    give_if (is_kept s told && nat_lt 0 told.slip.maker) s (at_moment s.configuration m) told result
 
 -- the grip of the detector
 abbrev pub give_probe : HubState → Carried → Told → RunGiven
-give_probe s told result = give_if (is_kept s told && (told.slip.maker == 0)) s s.configuration told result
+give_probe s told result =
+    give_if (is_kept s told && (told.slip.maker == 0)) s s.configuration told result
 
 -- a probe of the device goes out, where it may
 abbrev pub take_probe : HubState → DeviceId → Slip → ProbeTaken
 take_probe s d slip =
     if may_probe s.configuration d then record {
       task = Some (task_of s.configuration 0 (probe_grip s.configuration d).purpose);
-      next = record { configuration = after_take_probe s.configuration d; carried = carrying s 0 d (probe_grip s.configuration d).purpose slip };
+      next = record {
+        configuration = after_take_probe s.configuration d;
+        carried = carrying s 0 d (probe_grip s.configuration d).purpose slip;
+      };
     } else record { task = None; next = s }
 
 -- a call of a hub, and its answer; the slip is that of the grip that the call hands out, if it does
@@ -155,7 +177,14 @@ SlipFits r choice slip = ⊤
 
 -- one step of a hub: what a call answers, and what the hub shows after it
 abbrev pub HubStep : HubState → Call → CallAnswer → HubState → Type 0
-HubStep s (Take r m slip) answer after = (answer ≡ Chose (take s r m slip).choice) × (after ≡ (take s r m slip).next) × SlipFits r (take s r m slip).choice slip
-HubStep s (Give told result m) answer after = (answer ≡ Returned (give s told result m).answer) × (after ≡ (give s told result m).next)
-HubStep s (TakeProbe d slip) answer after = (answer ≡ Probed (take_probe s d slip).task) × (after ≡ (take_probe s d slip).next) × (IsTrue (may_probe s.configuration d) → IsSlipOf 0 d slip)
-HubStep s (GiveProbe told result) answer after = (answer ≡ Returned (give_probe s told result).answer) × (after ≡ (give_probe s told result).next)
+HubStep s (Take r m slip) answer after =
+    (answer ≡ Chose (take s r m slip).choice) × (after ≡ (take s r m slip).next)
+    × SlipFits r (take s r m slip).choice slip
+HubStep s (Give told result m) answer after =
+    (answer ≡ Returned (give s told result m).answer) × (after ≡ (give s told result m).next)
+HubStep s (TakeProbe d slip) answer after =
+    (answer ≡ Probed (take_probe s d slip).task) × (after ≡ (take_probe s d slip).next)
+    × (IsTrue (may_probe s.configuration d) → IsSlipOf 0 d slip)
+HubStep s (GiveProbe told result) answer after =
+    (answer ≡ Returned (give_probe s told result).answer)
+    × (after ≡ (give_probe s told result).next)

@@ -26,9 +26,11 @@ use Rattle.lock_leasing.specs.Configurations.{Configuration, Grips, read_of}
 use Rattle.lock_leasing.specs.Waits.{grip_wait}
 use Rattle.std.specs.Prelude.{Bool, IsTrue, List, Option, Some, [], count_by, false, length, nat_lt, option_map, slice_get, suc, sum_by, true, ℕ, ◌+◌, ◌-◌, ◌<◌, ◌≡◌, ◌≤◌}
 
--- how often the device was called up to now: its counts at the opening, and what the window made of them
+-- how often the device was called up to now: its counts at the opening, and what the window made of
+-- them
 abbrev pub turns_now : {D : Type 0} → OpenHub D → DeviceId → ℕ
-turns_now s d = (progress_at s.devices d).at_opening.turns + told_calls s.setting.runs (entries_of s.history) d
+turns_now s d =
+    (progress_at s.devices d).at_opening.turns + told_calls s.setting.runs (entries_of s.history) d
 
 abbrev pub probes_now : {D : Type 0} → OpenHub D → DeviceId → ℕ
 probes_now s d = (progress_at s.devices d).at_opening.probes + probes_taken s d
@@ -38,7 +40,8 @@ abbrev pub all_probes_taken : {D : Type 0} → OpenHub D → ℕ
 all_probes_taken s = sum_by (λ known. s.rounds - known.probes_left) s.devices
 
 -- a device that is home stands at its value if it is counted up, and its calls are told
-pub record FitsAtHome {D : Type 0} (stands turns probes faults : D → ℕ) (s : OpenHub D) (d : DeviceId) (device : D) : Type 0 where
+pub record FitsAtHome {D : Type 0} (stands turns probes faults : D → ℕ) (s : OpenHub D)
+    (d : DeviceId) (device : D) : Type 0 where
   pub stand : (read_of (configuration_of s)).up d ≡ true → stands device ≡ held_in s d
   pub turns_are : turns device ≡ turns_now s d
   pub probes_are : probes device ≡ probes_now s d
@@ -46,14 +49,16 @@ pub record FitsAtHome {D : Type 0} (stands turns probes faults : D → ℕ) (s :
   pub few_faults : faults device ≤ faults_told s d + probes_taken s d
 
 -- a slip says the same of a device that is out, whose task is that of its purpose
-pub record FitsOut {D : Type 0} (s : OpenHub D) (d : DeviceId) (slip : Slip) (task : Task) : Type 0 where
+pub record FitsOut {D : Type 0} (s : OpenHub D) (d : DeviceId) (slip : Slip)
+    (task : Task) : Type 0 where
   pub device : slip.device.0 ≡ d
   pub stand : IsTrue (is_counted_up task) → slip.stood ≡ held_in s d
   pub turns_are : slip.turns ≡ turns_now s d
   pub probes_are : slip.probes + probed task ≡ probes_now s d
   pub falls_told : faults_told s d ≤ slip.faults
   pub few_faults : slip.faults + probed task ≤ faults_told s d + probes_taken s d
-  pub does : task ≡ task_of (configuration_of s) slip.maker (purpose_of (progress_at s.devices d).purpose)
+  pub does : task
+      ≡ task_of (configuration_of s) slip.maker (purpose_of (progress_at s.devices d).purpose)
 
 -- a device that is out for a run
 abbrev pub is_away : {D : Type 0} → Place D → Bool
@@ -61,16 +66,22 @@ is_away (Home device) = false
 is_away (Out slip task) = nat_lt 0 slip.maker
 
 -- what is kept of what a hub shows, where this is kept of its configuration
-pub record HubIsKeptBy (Kept : Configuration → ℕ → ℕ → (DeviceId → ℕ) → Type 0) {D : Type 0} (stands turns probes faults : D → ℕ) (s : OpenHub D) : Type 0 where
+pub record HubIsKeptBy (Kept : Configuration → ℕ → ℕ → (DeviceId → ℕ) → Type 0) {D : Type 0}
+    (stands turns probes faults : D → ℕ) (s : OpenHub D) : Type 0 where
   pub configuration : Kept (configuration_of s) s.rounds s.opened (held_in s)
   pub devices_size : length s.devices ≡ length s.setting.first
   pub places_size : length s.places ≡ length s.setting.first
-  pub home : (d : DeviceId) (device : D) → slice_get s.places d ≡ Some (Home device) → FitsAtHome stands turns probes faults s d device
-  pub out : (d : DeviceId) (slip : Slip) (task : Task) → slice_get s.places d ≡ Some (Out slip task) → FitsOut s d slip task
-  pub low : (d : DeviceId) → CountsAreLow s.opened (progress_at s.devices d).at_opening.turns (progress_at s.devices d).at_opening.probes (progress_at s.devices d).at_opening.faults
-  pub values : (d : DeviceId) → d < length s.setting.first → IsTrue (has_value (kind_at s.setting.kinds d) (held_in s d))
+  pub home : (d : DeviceId) (device : D) → slice_get s.places d ≡ Some (Home device)
+      → FitsAtHome stands turns probes faults s d device
+  pub out : (d : DeviceId) (slip : Slip) (task : Task) → slice_get s.places d ≡ Some (Out slip task)
+      → FitsOut s d slip task
+  pub low : (d : DeviceId) → CountsAreLow s.opened (progress_at s.devices d).at_opening.turns
+      (progress_at s.devices d).at_opening.probes (progress_at s.devices d).at_opening.faults
+  pub values : (d : DeviceId) → d < length s.setting.first
+      → IsTrue (has_value (kind_at s.setting.kinds d) (held_in s d))
   -- the hub has counted the failures and restarts of each device as the history tells them
-  pub events : (d : DeviceId) → d < length s.setting.first → (progress_at s.devices d).events ≡ events_in (read_of (configuration_of s)) d
+  pub events : (d : DeviceId) → d < length s.setting.first
+      → (progress_at s.devices d).events ≡ events_in (read_of (configuration_of s)) d
   -- each ticket is of a call that is told, of a device that is out for a run, or of a probe
   pub few_tickets : s.tickets ≤ length s.history + count_by is_away s.places + all_probes_taken s
 
@@ -82,10 +93,13 @@ HubIsKept stands turns probes faults s = HubIsKeptBy IsKeptByModel stands turns 
 abbrev pub IsEmptyFor : {T : Type 0} → Listed T → ℕ → Type 0
 IsEmptyFor list n = (list.items ≡ []) × (n ≤ list.spare)
 
--- a window has room for every entry of its history, and for every item and every device in the lists that its closing fills
+-- a window has room for every entry of its history, and for every item and every device in the
+-- lists that its closing fills
 pub record HasRoomLeft (rounds : ℕ) (h : HistoryState) (closing : ClosingLists) : Type 0 where
-  pub history : most_entries (length h.setting.runs) (length h.setting.first) rounds ≤ h.spare + length h.history
-  pub order : IsEmptyFor closing.order (most_items (length h.setting.runs) (length h.setting.first) rounds)
+  pub history : most_entries (length h.setting.runs) (length h.setting.first) rounds
+      ≤ h.spare + length h.history
+  pub order : IsEmptyFor closing.order
+      (most_items (length h.setting.runs) (length h.setting.first) rounds)
   pub last : IsEmptyFor closing.last (length h.setting.first)
   pub world : IsEmptyFor closing.world (length h.setting.first)
   pub turns : IsEmptyFor closing.turns (length h.setting.first)
@@ -107,11 +121,13 @@ open_of h = record {
 -- of each run of the window, the device whose grip it holds
 pub record HandsAre (w : Setting) (g : Grips) (hands : List (Option DeviceNo)) : Type 0 where
   pub size : length hands ≡ length w.runs
-  pub each : (i : ℕ) (hand : Option DeviceNo) → slice_get hands i ≡ Some hand → option_map (λ d. d.0) hand ≡ grip_wait w g (suc i)
+  pub each : (i : ℕ) (hand : Option DeviceNo) → slice_get hands i ≡ Some hand
+      → option_map (λ d. d.0) hand ≡ grip_wait w g (suc i)
 
 -- what the type of a hub keeps of its parts
 pub record IsWhole {D : Type 0} (stands turns probes faults : D → ℕ) (h : Inside D) : Type 0 where
   pub shown : HubIsKept stands turns probes faults (open_of h)
   pub room : HasRoomLeft h.rounds h.history h.closing
-  pub order : OrderIsBeside h.rounds h.history (configuration_of (open_of h)).grips h.order.line h.order.table
+  pub order : OrderIsBeside h.rounds h.history
+      (configuration_of (open_of h)).grips h.order.line h.order.table
   pub hands : HandsAre h.history.setting (configuration_of (open_of h)).grips h.away.hands.items

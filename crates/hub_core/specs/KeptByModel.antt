@@ -20,11 +20,13 @@ pub record HistoryStands (s : Configuration) : Type 0 where
   pub justified : IsJustified s.setting (entries_of s.history)
 
 -- of a configuration in which each device stands, or stood as it went out, at this value
-pub record IsKeptByModel (s : Configuration) (rounds opened : ℕ) (held : DeviceId → ℕ) : Type 0 where
+pub record IsKeptByModel (s : Configuration) (rounds opened : ℕ)
+    (held : DeviceId → ℕ) : Type 0 where
   pub opens : MayOpen s.setting rounds opened
   pub kinds : length s.setting.kinds ≡ length s.setting.first
   pub probes : (d : DeviceId) → probes_of s d ≤ rounds
-  pub values : (d : DeviceId) → d < length s.setting.first → IsTrue (has_value (kind_at s.setting.kinds d) (stand_at s.setting.first d).value)
+  pub values : (d : DeviceId) → d < length s.setting.first
+      → IsTrue (has_value (kind_at s.setting.kinds d) (stand_at s.setting.first d).value)
   pub history : HistoryStands s
   pub grips : GripsFit s.setting (read_of s) s.grips
   -- where the model has an order

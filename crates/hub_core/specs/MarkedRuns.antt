@@ -14,13 +14,15 @@ abbrev pub is_out_for_command : Configuration → DeviceId → Bool
 is_out_for_command s d = unwrap_or (option_map (λ grip. is_command grip.purpose) (s.grips d)) false
 
 -- the run is live, not doomed, and has a command left on the device, which is that of its command k
-pub record HoldsStill (s : Configuration) (r : RunId) (k : CommandIndex) (d : DeviceId) : Type 0 where
+pub record HoldsStill (s : Configuration) (r : RunId) (k : CommandIndex)
+    (d : DeviceId) : Type 0 where
   pub live : is_live (read_of s) r ≡ true
   pub going : is_doomed (read_of s) r ≡ false
   pub device : (command_at s.setting.runs r k).device.0 ≡ d
   pub left : pends s.setting (read_of s) r d ≡ true
 
--- the step has answered a command on the device, and made no other entry, and its run holds the device still
+-- the step has answered a command on the device, and made no other entry, and its run holds the
+-- device still
 pub record IsAnsweredStill (s : Configuration) (d : DeviceId) (entries : List Entry) : Type 0 where
   pub run : RunNo
   pub command : CommandIndex

@@ -16,7 +16,8 @@ use Rattle.lock_leasing.specs.Configurations.{Configuration, Grip}
 use Rattle.std.specs.Prelude.{List, None, Option, Some, length, option_map, slice_get, slice_index_or, ℕ}
 use Rattle.window_order.specs.KeptOrders.{purpose_of}
 
--- what a hub shows: what is fixed, the rounds of probes and how many windows were opened before, the history and the last moment, what is known of each device, and its place
+-- what a hub shows: what is fixed, the rounds of probes and how many windows were opened before,
+-- the history and the last moment, what is known of each device, and its place
 pub record OpenHub (D : Type 0) : Type 0 where
   pub setting : Setting
   pub rounds : ℕ
@@ -38,7 +39,13 @@ abbrev pub events_in : Reading → DeviceId → Events
 events_in n d = record { fell = n.fell d; rose = n.rose d }
 
 abbrev pub no_device : DeviceProgress
-no_device = record { held = 0; probes_left = 0; purpose = Command 0; at_opening = no_counts; events = no_events }
+no_device = record {
+  held = 0;
+  probes_left = 0;
+  purpose = Command 0;
+  at_opening = no_counts;
+  events = no_events;
+}
 
 -- what is known of the device
 abbrev pub progress_at : List DeviceProgress → DeviceId → DeviceProgress
@@ -48,7 +55,8 @@ progress_at devices d = slice_index_or devices d no_device
 abbrev pub grip_in : {D : Type 0} → Option (Place D) → KeptPurpose → Option Grip
 grip_in None purpose = None
 grip_in (Some (Home device)) purpose = None
-grip_in (Some (Out slip task)) purpose = Some (record { maker = slip.maker; purpose = purpose_of purpose })
+grip_in (Some (Out slip task)) purpose =
+    Some (record { maker = slip.maker; purpose = purpose_of purpose })
 
 -- what that grip carries
 abbrev pub carried_in : {D : Type 0} → Option (Place D) → Option Carried
@@ -66,7 +74,8 @@ configuration_of s = record {
 }
 
 abbrev pub hub_state_of : {D : Type 0} → OpenHub D → HubState
-hub_state_of s = record { configuration = configuration_of s; carried = λ d. carried_in (slice_get s.places d) }
+hub_state_of s =
+    record { configuration = configuration_of s; carried = λ d. carried_in (slice_get s.places d) }
 
 -- where the device stands, or stood as it went out
 abbrev pub held_in : {D : Type 0} → OpenHub D → DeviceId → ℕ
@@ -74,4 +83,11 @@ held_in s d = (progress_at s.devices d).held
 
 -- what a reading says of a run, in short
 abbrev pub progress_of : OfRun → RunProgress
-progress_of o = record { arrived = o.arrived; placed = option_map (λ p. p.stamp) o.placed; answered = length o.answers; register = o.register; doomed = o.doomed; ended = o.ended }
+progress_of o = record {
+  arrived = o.arrived;
+  placed = option_map (λ p. p.stamp) o.placed;
+  answered = length o.answers;
+  register = o.register;
+  doomed = o.doomed;
+  ended = o.ended;
+}

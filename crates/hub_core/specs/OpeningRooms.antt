@@ -19,20 +19,29 @@ use Rattle.timeline_scheduler.specs.Scratches.{ScratchRoom}
 
 -- nothing has happened to a run
 abbrev pub no_progress : RunProgress
-no_progress = record { arrived = None; placed = None; answered = 0; register = 0; doomed = None; ended = None }
+no_progress = record {
+  arrived = None;
+  placed = None;
+  answered = 0;
+  register = 0;
+  doomed = None;
+  ended = None;
+}
 
 -- an empty list with room for so many items and no more
 abbrev pub IsRoomFor : {T : Type 0} → Listed T → ℕ → Type 0
 IsRoomFor list n = (list.items ≡ []) × (list.spare ≡ n)
 
 -- no entry and no progress of so many runs, with room for so many entries
-pub record IsHistoryRoom (entries runs : ℕ) (book : Listed Kept) (progress : List RunProgress) : Type 0 where
+pub record IsHistoryRoom (entries runs : ℕ) (book : Listed Kept)
+    (progress : List RunProgress) : Type 0 where
   pub no_entry : book.items ≡ []
   pub room : book.spare ≡ entries
   pub nothing_done : progress ≡ replicate runs no_progress
 
 -- an empty line with room for so many items, and the table of a window that opens
-pub record IsOrderRoom (items : ℕ) (runs : List Run) (first : List Stand) (line : Marked) (table : List LineageState) : Type 0 where
+pub record IsOrderRoom (items : ℕ) (runs : List Run) (first : List Stand) (line : Marked)
+    (table : List LineageState) : Type 0 where
   pub no_item : line.marks ≡ []
   pub none_sealed : line.sealed ≡ 0
   pub runs_kept : AreKeptOf runs line.runs
@@ -52,12 +61,22 @@ pub record IsClosingRoom (items devices : ℕ) (closing : ClosingLists) : Type 0
   pub turns : IsRoomFor closing.turns devices
   pub faults : IsRoomFor closing.faults devices
 
--- as a window opens, a device stands at this value, so many probes of it may be taken, and these are its counts
+-- as a window opens, a device stands at this value, so many probes of it may be taken, and these
+-- are its counts
 abbrev pub known_first : ℕ → ℕ → ℕ → ℕ → ℕ → DeviceProgress
 known_first rounds value turns probes faults =
-    record { held = value; probes_left = rounds; purpose = Command 0; at_opening = record { turns = turns; probes = probes; faults = faults }; events = no_events }
+    record {
+      held = value;
+      probes_left = rounds;
+      purpose = Command 0;
+      at_opening = record { turns = turns; probes = probes; faults = faults };
+      events = no_events;
+    }
 
 -- the first n devices of the home are known as they are
-pub record AreKnown {D : Type 0} (turns probes faults : D → ℕ) (home : HomeState D) (rounds n : ℕ) (known : List DeviceProgress) : Type 0 where
+pub record AreKnown {D : Type 0} (turns probes faults : D → ℕ) (home : HomeState D) (rounds n : ℕ)
+    (known : List DeviceProgress) : Type 0 where
   pub size : length known ≡ n
-  pub each : (d : DeviceId) (device : D) → d < n → slice_get home.devices d ≡ Some device → slice_get known d ≡ Some (known_first rounds (stand_at home.world d).value (turns device) (probes device) (faults device))
+  pub each : (d : DeviceId) (device : D) → d < n → slice_get home.devices d ≡ Some device
+      → slice_get known d ≡ Some (known_first rounds (stand_at home.world d).value (turns device)
+      (probes device) (faults device))

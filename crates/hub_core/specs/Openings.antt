@@ -38,15 +38,19 @@ is_mode mode = by_model mode.model
     by_model Partitioned = is_fcfs mode.scheduler
     by_model Eventual = true
 
--- a window of these runs may be opened on the home that is as the setting says, with so many rounds of probes, after so many windows
+-- a window of these runs may be opened on the home that is as the setting says, with so many rounds
+-- of probes, after so many windows
 pub record MayOpen (w : Setting) (rounds opened : ℕ) : Type 0 where
   pub few_devices : length w.first ≤ most_devices
   pub few_runs : length w.runs ≤ most_runs
   pub few_commands : (r : RunId) → length (commands_of w.runs r) ≤ most_commands
   -- each command is on a device of the home, and names values of its kind
-  pub homed : (r : RunId) (k : CommandIndex) (c : Command) → slice_get (commands_of w.runs r) k ≡ Some c → IsTrue (is_device w c.device.0 && names_values_of (kind_at w.kinds c.device.0) c.job)
+  pub homed : (r : RunId) (k : CommandIndex) (c : Command) → slice_get (commands_of w.runs r) k
+      ≡ Some c
+      → IsTrue (is_device w c.device.0 && names_values_of (kind_at w.kinds c.device.0) c.job)
   -- a run follows an earlier run, or none
-  pub follows : (r : RunId) (f : RunNo) → followed_by w.runs r ≡ Some f → IsTrue (nat_lt 0 f.0 && nat_lt f.0 r)
+  pub follows : (r : RunId) (f : RunNo) → followed_by w.runs r ≡ Some f
+      → IsTrue (nat_lt 0 f.0 && nat_lt f.0 r)
   pub mode : IsTrue (is_mode w.mode)
   pub few_rounds : rounds ≤ most_probes
   pub few_windows : opened < 2 ^ 31

@@ -20,7 +20,8 @@ use Rattle.std.specs.Prelude.{List, None, Option, Some, if◌then◌else◌, len
 use Rattle.timeline_scheduler.specs.Scratches.{HoldsTimes, ScratchRoom, planned_in}
 use Rattle.timeline_scheduler.specs.declared.slots.Slot.{Slot}
 
--- the scratch is one for the devices of the home, and for the items that the line of a window with so many rounds of probes may have
+-- the scratch is one for the devices of the home, and for the items that the line of a window with
+-- so many rounds of probes may have
 pub record IsForHome (w : Setting) (rounds : ℕ) (room : ScratchRoom) : Type 0 where
   pub devices : length room.slots ≡ length w.first
   pub items : most_items (length w.runs) (length w.first) rounds ≤ room.items
@@ -30,10 +31,13 @@ pub record HasSameRoom (before after : ScratchRoom) : Type 0 where
   pub devices : length after.slots ≡ length before.slots
   pub items : after.items ≡ before.items
 
--- the scratch holds the set of items that stand before the run at this moment, and its times at this place
-pub record HoldsGap (room : ScratchRoom) (s : Configuration) (r : RunId) (m : Moment) (at : LinePlace) : Type 0 where
+-- the scratch holds the set of items that stand before the run at this moment, and its times at
+-- this place
+pub record HoldsGap (room : ScratchRoom) (s : Configuration) (r : RunId) (m : Moment)
+    (at : LinePlace) : Type 0 where
   pub set : room.before ≡ gap_set s.setting (read_of s) r m
-  pub times : HoldsTimes room.slots (planned_times s.setting (read_of s) r (front_for s.setting (read_of s) r at m) m)
+  pub times : HoldsTimes room.slots
+      (planned_times s.setting (read_of s) r (front_for s.setting (read_of s) r at m) m)
 
 -- .. where runs are placed by the timeline
 abbrev pub HoldsPlan : ScratchRoom → Configuration → RunId → Moment → LinePlace → Type 0
@@ -60,7 +64,8 @@ HoldsChosen room s r m chosen = ((read_of s).run r).placed ≡ None → by_chose
 
 -- these are the uses of each device in a run's plan
 abbrev pub AreUsesOf : List (Option PlannedUse) → List Planned → Type 0
-AreUsesOf uses planned = (d : DeviceId) → d < most_devices → slice_get uses d ≡ Some (planned_use planned d)
+AreUsesOf uses planned =
+    (d : DeviceId) → d < most_devices → slice_get uses d ≡ Some (planned_use planned d)
 
 -- the use of a device that is planned from and to these times
 abbrev pub use_between : Moment × Moment → PlannedUse
@@ -68,9 +73,12 @@ use_between (from, to) = record { from = from; to = to }
 
 -- the use of the device that the scratch holds for a run with these commands
 abbrev pub held_use : List Slot → List Command → DeviceId → Option PlannedUse
-held_use slots commands d = if list_any (is_on d) commands then option_map use_between (planned_in slots d) else None
+held_use slots commands d =
+    if list_any (is_on d) commands then option_map use_between (planned_in slots d) else None
 
--- what is kept of a hub besides its window, with so many rounds of probes: each run that is marked is blocked, and the scratch is for the home and the line
-pub record PartsFit (s : Configuration) (rounds : ℕ) (blocked : BlockedState) (room : ScratchRoom) : Type 0 where
+-- what is kept of a hub besides its window, with so many rounds of probes: each run that is marked
+-- is blocked, and the scratch is for the home and the line
+pub record PartsFit (s : Configuration) (rounds : ℕ) (blocked : BlockedState)
+    (room : ScratchRoom) : Type 0 where
   pub marks : AreBlocked s blocked
   pub scratch : IsForHome s.setting rounds room

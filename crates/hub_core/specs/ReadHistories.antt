@@ -27,11 +27,13 @@ read_in s = reading s.setting (entries_of s.history)
 
 -- the entry is appended, and takes one place of the room
 abbrev pub with_entry : HistoryState → ActorId → Entry → HistoryState
-with_entry s maker entry = record s { history = s.history ++ kept_by maker (entry ∷ []); spare = s.spare - 1 }
+with_entry s maker entry =
+    record s { history = s.history ++ kept_by maker (entry ∷ []); spare = s.spare - 1 }
 
 -- .. or the entries of a step
 abbrev pub with_more : HistoryState → ActorId → List Entry → HistoryState
-with_more s maker entries = record s { history = s.history ++ kept_by maker entries; spare = s.spare - length entries }
+with_more s maker entries =
+    record s { history = s.history ++ kept_by maker entries; spare = s.spare - length entries }
 
 -- the run is doomed, where there is a cause
 abbrev pub with_doom : HistoryState → RunId → Option Cause → HistoryState
@@ -46,4 +48,5 @@ with_lost s d (Some r) = with_entry s 0 (Doomed r (Lost d))
 -- the progress of each run is what the history says
 pub record IsReadBeside (s : HistoryState) (progress : List RunProgress) : Type 0 where
   pub size : length progress ≡ length s.setting.runs
-  pub progress_is : (i : ℕ) → i < length s.setting.runs → slice_get progress i ≡ Some (progress_of ((read_in s).run (suc i)))
+  pub progress_is : (i : ℕ) → i < length s.setting.runs
+      → slice_get progress i ≡ Some (progress_of ((read_in s).run (suc i)))

@@ -46,14 +46,19 @@ first_case (c ∷ cs) otherwise = unwrap_or c (first_case cs otherwise)
 abbrev pub only_if : {A : Type 0} → Bool → A → Option A
 only_if b x = if b then Some x else None
 
--- The cases of the next command, c with the number k, of the run r; each tells what it does where it applies
+-- The cases of the next command, c with the number k, of the run r; each tells what it does where
+-- it applies
 
 -- a lease on the device is overdue: its run is doomed
 abbrev pub overdue_case : Setting → Reading → Grips → RunId → Moment → Command → Option Choice
-overdue_case w n g r m c = option_map (λ x. Moves (Doomed (run_no x) (Revoked (run_no r) c.device (lease_deadline w n x c.device.0) m) ∷ [])) (overdue_for w n g r c.device.0 m)
+overdue_case w n g r m c =
+    option_map (λ x. Moves
+    (Doomed (run_no x) (Revoked (run_no r) c.device (lease_deadline w n x c.device.0) m) ∷ []))
+    (overdue_for w n g r c.device.0 m)
 
 abbrev pub behind_case : Setting → Reading → Grips → RunId → Command → Option Choice
-behind_case w n g r c = option_map (λ x. Waits (Behind c.device (run_no x))) (behind_wait w n g r c.device.0)
+behind_case w n g r c =
+    option_map (λ x. Waits (Behind c.device (run_no x))) (behind_wait w n g r c.device.0)
 
 abbrev pub dirty_case : Setting → Reading → Grips → RunId → Command → Option Choice
 dirty_case w n g r c = option_map (λ x. Waits (Dirty c.device (run_no x))) (dirty_wait w n g r c)
@@ -66,7 +71,8 @@ busy_case w n g r c = only_if (busy_wait w n g r c.device.0) (Waits (Busy c.devi
 
 -- the answer Down without a device call
 abbrev pub down_entries : RunId → CommandIndex → Command → List Entry
-down_entries r k c = Did (run_no r) k Down ∷ (if c.must then Doomed (run_no r) (MustDown k) ∷ [] else [])
+down_entries r k c =
+    Did (run_no r) k Down ∷ (if c.must then Doomed (run_no r) (MustDown k) ∷ [] else [])
 
 -- the run sees the device down, or it is counted down; under the weak model there are no views
 abbrev pub answers_down : Setting → Reading → RunId → DeviceId → Bool
@@ -75,18 +81,23 @@ answers_down w n r d = (not (is_weak w.mode) && sees_down n r d) || not (n.up d)
 abbrev pub down_case : Setting → Reading → RunId → CommandIndex → Command → Option Choice
 down_case w n r k c = only_if (answers_down w n r c.device.0) (Moves (down_entries r k c))
 
-abbrev pub command_cases : Bool → Setting → Reading → Grips → RunId → Moment → CommandIndex → Command → List (Option Choice)
+abbrev pub command_cases : Bool → Setting → Reading → Grips → RunId → Moment → CommandIndex
+    → Command → List (Option Choice)
 command_cases true w n g r m k c = busy_case w n g r c ∷ down_case w n r k c ∷ []
-command_cases false w n g r m k c = overdue_case w n g r m c ∷ behind_case w n g r c ∷ dirty_case w n g r c ∷ strict_case w n r ∷ busy_case w n g r c ∷ down_case w n r k c ∷ []
+command_cases false w n g r m k c =
+    overdue_case w n g r m c ∷ behind_case w n g r c ∷ dirty_case w n g r c ∷ strict_case w n r
+    ∷ busy_case w n g r c ∷ down_case w n r k c ∷ []
 
 -- the answer Skipped, to a command whose guard does not hold
 abbrev pub skip_entries : RunId → CommandIndex → List Entry
 skip_entries r k = Did (run_no r) k Skipped ∷ []
 
 -- a command whose guard does not hold waits for no run but one that the model waits for
-abbrev pub decide_command : Setting → Reading → Grips → RunId → Moment → CommandIndex → Command → Choice
+abbrev pub decide_command : Setting → Reading → Grips → RunId → Moment → CommandIndex
+    → Command → Choice
 decide_command w n g r m k c =
-    if holds c.when (n.run r).register then first_case (command_cases (is_weak w.mode) w n g r m k c) (HandsOut c.device.0 (Commands k))
+    if holds c.when (n.run r).register then first_case
+    (command_cases (is_weak w.mode) w n g r m k c) (HandsOut c.device.0 (Commands k))
     else first_case (strict_case w n r ∷ []) (Moves (skip_entries r k))
 
 -- The other cases of a run's step
@@ -94,20 +105,29 @@ decide_command w n g r m k c =
 abbrev pub aborts : RunId → Cause → Choice
 aborts r cause = Over (Aborted cause) (Ended (run_no r) (Aborted cause) ∷ [])
 
--- the device is counted down, and the write is dropped; else the value is driven at which it would stand without the run
+-- the device is counted down, and the write is dropped; else the value is driven at which it would
+-- stand without the run
 abbrev pub undo_choice : Setting → Reading → Grips → RunId → DeviceId → Choice
-undo_choice w n g r d = if n.up d then HandsOut d (Undoes (value_without w n g r d)) else Moves (Undid (run_no r) (device_no d) false ∷ [])
+undo_choice w n g r d =
+    if n.up d then HandsOut d (Undoes (value_without w n g r d))
+    else Moves (Undid (run_no r) (device_no d) false ∷ [])
 
 abbrev pub undo_cases : Setting → Reading → Grips → RunId → List (Option Choice)
-undo_cases w n g r = option_map (λ d. Waits (Busy (device_no d))) (undo_wait w n g r) ∷ option_map (undo_choice w n g r) (next_undo_of w n g r) ∷ []
+undo_cases w n g r =
+    option_map (λ d. Waits (Busy (device_no d))) (undo_wait w n g r)
+    ∷ option_map (undo_choice w n g r) (next_undo_of w n g r) ∷ []
 
--- a doomed run undoes its effective writes, by ascending device, and then ends; under the weak model it ends at once
+-- a doomed run undoes its effective writes, by ascending device, and then ends; under the weak
+-- model it ends at once
 abbrev pub decide_doomed : Setting → Reading → Grips → RunId → Cause → Choice
-decide_doomed w n g r cause = first_case (if is_weak w.mode then [] else undo_cases w n g r) (aborts r cause)
+decide_doomed w n g r cause =
+    first_case (if is_weak w.mode then [] else undo_cases w n g r) (aborts r cause)
 
 -- a run with all its commands answered commits, where no device that it needs up is down
 abbrev pub decide_answered : Setting → Reading → Grips → RunId → Choice
-decide_answered w n g r = unwrap_or (option_map (λ d. Moves (Doomed (run_no r) (DownAtEnd (device_no d)) ∷ [])) (down_at_end w n g r)) (Over Committed (Ended (run_no r) Committed ∷ []))
+decide_answered w n g r =
+    unwrap_or (option_map (λ d. Moves (Doomed (run_no r) (DownAtEnd (device_no d)) ∷ []))
+    (down_at_end w n g r)) (Over Committed (Ended (run_no r) Committed ∷ []))
 
 abbrev pub place_choice : RunId → Moment → Placing → Choice
 place_choice r m (At s) = Moves (Placed (run_no r) (length s.front) m ∷ [])
@@ -115,7 +135,9 @@ place_choice r m (DeniedBy d x) = Waits (Denied (device_no d) (run_no x))
 
 -- a run that has arrived waits for the run that it follows, and is then placed
 abbrev pub decide_arrived : Setting → Reading → Grips → RunId → Moment → Choice
-decide_arrived w n g r m = first_case (option_map (λ f. Waits (Follow f)) (follow_wait w n r) ∷ []) (place_choice r m (scheduled_place w n g r m))
+decide_arrived w n g r m =
+    first_case (option_map (λ f. Waits (Follow f)) (follow_wait w n r) ∷ [])
+    (place_choice r m (scheduled_place w n g r m))
 
 -- the cases of a run's step, in order, before all its commands are answered
 abbrev pub run_cases : Setting → Reading → Grips → RunId → Moment → List (Option Choice)
@@ -137,8 +159,10 @@ decide w n g r m = first_case (run_cases w n g r m) (decide_answered w n g r)
 abbrev pub command_entries : Setting → Reading → RunId → CommandIndex → Told → List Entry
 command_entries w n r k Worked = Did (run_no r) k Fine ∷ []
 command_entries w n r k (Sensed x) =
-    Did (run_no r) k (Found x) ∷ (if fails (command_at w.runs r k) (Found x) && not (is_doomed n r) then Doomed (run_no r) (Refuted k x) ∷ [] else [])
-command_entries w n r k Died = Fell c.device ∷ Did (run_no r) k Down ∷ (if is_doomed n r then [] else dooms)
+    Did (run_no r) k (Found x) ∷ (if fails (command_at w.runs r k) (Found x) && not (is_doomed n r)
+    then Doomed (run_no r) (Refuted k x) ∷ [] else [])
+command_entries w n r k Died =
+    Fell c.device ∷ Did (run_no r) k Down ∷ (if is_doomed n r then [] else dooms)
   where
     c : Command
     c = command_at w.runs r k
@@ -154,14 +178,17 @@ undo_entries r d Worked = Undid (run_no r) (device_no d) true ∷ []
 undo_entries r d (Sensed x) = Undid (run_no r) (device_no d) true ∷ []
 undo_entries r d Died = Fell (device_no d) ∷ Undid (run_no r) (device_no d) false ∷ []
 
--- a device that was counted up falls where it does not answer; one that was counted down is back where it answers
+-- a device that was counted up falls where it does not answer; one that was counted down is back
+-- where it answers
 abbrev pub probe_entries : Setting → Reading → DeviceId → Told → List Entry
 probe_entries w n d told = if n.up d then while_up told else while_down told
   where
     while_up : Told → List Entry
     while_up Worked = []
     while_up (Sensed x) = []
-    while_up Died = Fell (device_no d) ∷ option_to_list (option_map (λ x. Doomed (run_no x) (Lost (device_no d))) (lost_by w n d))
+    while_up Died =
+        Fell (device_no d)
+        ∷ option_to_list (option_map (λ x. Doomed (run_no x) (Lost (device_no d))) (lost_by w n d))
 
     while_down : Told → List Entry
     while_down Worked = Rose (device_no d) ∷ []
@@ -180,7 +207,13 @@ give_entries w n d grip told = by_purpose grip.purpose
 
 -- an empty history, the home as it is, and so many probes of each device
 abbrev pub opened : Setting → ℕ → Configuration
-opened w rounds = record { setting = w; history = []; moment = 0; probes = λ d. if is_device w d then rounds else 0; grips = no_grips }
+opened w rounds = record {
+  setting = w;
+  history = [];
+  moment = 0;
+  probes = λ d. if is_device w d then rounds else 0;
+  grips = no_grips;
+}
 
 abbrev pub with_entries : Configuration → ActorId → List Entry → Configuration
 with_entries s maker entries = record s { history = s.history ++ kept_by maker entries }
@@ -201,18 +234,21 @@ after_choice s r Absent = s
 after_choice s r (Over e entries) = with_entries s r entries
 after_choice s r (Moves entries) = with_entries s r entries
 after_choice s r (Waits why) = s
-after_choice s r (HandsOut d purpose) = with_grip s d (Some (record { maker = r; purpose = purpose }))
+after_choice s r (HandsOut d purpose) =
+    with_grip s d (Some (record { maker = r; purpose = purpose }))
 
 abbrev pub after_take : Configuration → RunId → Moment → Configuration
 after_take s r m = after_choice (at_moment s m) r (choice_of s r m)
 
 -- the grip of the device is back, with what it was told
 abbrev pub after_give : Configuration → DeviceId → Grip → Told → Configuration
-after_give s d grip told = with_grip (with_entries s grip.maker (give_entries s.setting (read_of s) d grip told)) d None
+after_give s d grip told =
+    with_grip (with_entries s grip.maker (give_entries s.setting (read_of s) d grip told)) d None
 
 -- a probe restores the standing value, where the device is counted down
 abbrev pub restored : Configuration → DeviceId → Option ℕ
-restored s d = if (read_of s).up d then None else Some (standing_value s.setting (read_of s) s.grips d)
+restored s d =
+    if (read_of s).up d then None else Some (standing_value s.setting (read_of s) s.grips d)
 
 -- the device is home, and a probe of it is left
 abbrev pub may_probe : Configuration → DeviceId → Bool
@@ -222,15 +258,22 @@ abbrev pub probe_grip : Configuration → DeviceId → Grip
 probe_grip s d = record { maker = 0; purpose = Probes (restored s d) }
 
 abbrev pub after_take_probe : Configuration → DeviceId → Configuration
-after_take_probe s d = if may_probe s d then record s { probes = put s.probes d (s.probes d - 1); grips = put s.grips d (Some (probe_grip s d)) } else s
+after_take_probe s d =
+    if may_probe s d then record s {
+      probes = put s.probes d (s.probes d - 1);
+      grips = put s.grips d (Some (probe_grip s d));
+    } else s
 
 -- What r is told to wait for at this moment: the first reason, in the order of the cases
 abbrev pub MustWait : Configuration → RunId → Moment → Why → Type 0
 MustWait s r m why = choice_of s r m ≡ Waits why
 
--- why the window cannot be closed: the smallest run that has not ended, else the smallest device that is out
+-- why the window cannot be closed: the smallest run that has not ended, else the smallest device
+-- that is out
 abbrev pub not_quiet : Configuration → Option NotQuiet
-not_quiet s = option_or (option_map (λ r. StillLive (run_no r)) live) (option_map (λ d. StillOut (device_no d)) out)
+not_quiet s =
+    option_or (option_map (λ r. StillLive (run_no r)) live)
+    (option_map (λ d. StillOut (device_no d)) out)
   where
     live : Option RunId
     live = find (λ r. is_none ((read_of s).run r).ended) (run_numbers s.setting)

@@ -1,4 +1,5 @@
--- What is kept of a hub's configuration in each of its steps under the weak model, which promises no order.
+-- What is kept of a hub's configuration in each of its steps under the weak model, which promises
+-- no order.
 use Rattle.command_rules.specs.Rosters.{commands_of}
 use Rattle.history_book.specs.Histories.{entries_of}
 use Rattle.history_book.specs.Readings.{Reading, is_doomed}
@@ -14,8 +15,9 @@ use Rattle.lock_leasing.specs.Configurations.{Commands, Configuration, Grip, Pro
 use Rattle.lock_leasing.specs.Places.{GripsFit}
 use Rattle.std.specs.Prelude.{Bool, IsTrue, None, Some, false, length, not, true, ℕ, ◌&&◌, ◌<◌, ◌==◌, ◌≡◌, ◌≤◌}
 
--- the device may be out so: for a command of a run that is not doomed, where it is counted up, for no undo,
--- and for a probe that restores the last value written where it is counted down, and none where it is counted up
+-- the device may be out so: for a command of a run that is not doomed, where it is counted up, for
+-- no undo, and for a probe that restores the last value written where it is counted down, and none
+-- where it is counted up
 abbrev pub goes_weakly : Reading → DeviceId → Grip → Bool
 goes_weakly n d grip = by_purpose grip.purpose
   where
@@ -27,21 +29,26 @@ goes_weakly n d grip = by_purpose grip.purpose
 
 -- no must command of a run that is not doomed has failed
 abbrev pub NoneHasFailed : Setting → Reading → Type 0
-NoneHasFailed w n = (r : RunId) → (n.run r).doomed ≡ None → IsTrue (none_fails (commands_of w.runs r) (n.run r).answers)
+NoneHasFailed w n =
+    (r : RunId) → (n.run r).doomed ≡ None
+    → IsTrue (none_fails (commands_of w.runs r) (n.run r).answers)
 
--- what is kept of a configuration of the weak model in which the hub holds this to be the value of each device: the last one written
+-- what is kept of a configuration of the weak model in which the hub holds this to be the value of
+-- each device: the last one written
 pub record WeakIsKept (s : Configuration) (rounds opened : ℕ) (held : DeviceId → ℕ) : Type 0 where
   pub opens : MayOpen s.setting rounds opened
   pub weak : is_weak s.setting.mode ≡ true
   pub kinds : length s.setting.kinds ≡ length s.setting.first
   -- each restart answers a probe, and no more probes of a device are taken than there are rounds
   pub probes : (d : DeviceId) → probes_of s d ≤ rounds
-  pub values : (d : DeviceId) → d < length s.setting.first → IsTrue (has_value (kind_at s.setting.kinds d) (stand_at s.setting.first d).value)
+  pub values : (d : DeviceId) → d < length s.setting.first
+      → IsTrue (has_value (kind_at s.setting.kinds d) (stand_at s.setting.first d).value)
   pub well_formed : IsWellFormed s.setting (entries_of s.history)
   pub moment : (read_of s).moment ≤ s.moment
   pub allowed : IsTrue (each_entry s.setting (weakly_allowed s.setting) (entries_of s.history))
   pub grips : GripsFit s.setting (read_of s) s.grips
   pub out : EachOut s.grips (goes_weakly (read_of s))
   pub passes : NoneHasFailed s.setting (read_of s)
-  -- also where the device is counted down, or has just died: there the hub leaves what it holds as it was
+  -- also where the device is counted down, or has just died: there the hub leaves what it holds as
+  -- it was
   pub held_is : (d : DeviceId) → d < length s.setting.first → held d ≡ (read_of s).last d

@@ -1,4 +1,5 @@
--- The step of a run under the weak model that is placed: it waits for a device that is out, and for nothing else, and ends at once where it is doomed.
+-- The step of a run under the weak model that is placed: it waits for a device that is out, and for
+-- nothing else, and ends at once where it is doomed.
 use Rattle.command_rules.specs.Rosters.{run_no}
 use Rattle.history_book.specs.Readings.{Reading, next_command, next_of}
 use Rattle.history_book.specs.Settings.{Setting}
@@ -12,12 +13,19 @@ use Rattle.hub_core.specs.declared.waits.Why.TheVariants.{Busy}
 use Rattle.lock_leasing.specs.Configurations.{Commands, Grips, is_out}
 use Rattle.std.specs.Prelude.{[], if◌then◌else◌, not, option_map, ◌∷◌}
 
--- the next command, with the number k: it is skipped, its device is out, the answer is Down with no call, or the device goes out
+-- the next command, with the number k: it is skipped, its device is out, the answer is Down with no
+-- call, or the device goes out
 abbrev pub weak_command : Reading → Grips → RunId → CommandIndex → Command → Choice
 weak_command n g r k c =
-    if holds c.when (n.run r).register then first_case (only_if (is_out g c.device.0) (Waits (Busy c.device)) ∷ only_if (not (n.up c.device.0)) (Moves (down_entries r k c)) ∷ []) (HandsOut c.device.0 (Commands k))
+    if holds c.when (n.run r).register
+    then first_case (only_if (is_out g c.device.0) (Waits (Busy c.device)) ∷ only_if
+    (not (n.up c.device.0)) (Moves (down_entries r k c)) ∷ []) (HandsOut c.device.0 (Commands k))
     else Moves (skip_entries r k)
 
--- what a run does that is placed and has not ended: it ends where it is doomed, else has its next command, and at last commits
+-- what a run does that is placed and has not ended: it ends where it is doomed, else has its next
+-- command, and at last commits
 abbrev pub weak_rest : Setting → Reading → Grips → RunId → Choice
-weak_rest w n g r = first_case (option_map (aborts r) (n.run r).doomed ∷ option_map (weak_command n g r (next_of n r)) (next_command w n r) ∷ []) (Over Committed (Ended (run_no r) Committed ∷ []))
+weak_rest w n g r =
+    first_case (option_map (aborts r) (n.run r).doomed
+    ∷ option_map (weak_command n g r (next_of n r)) (next_command w n r) ∷ [])
+    (Over Committed (Ended (run_no r) Committed ∷ []))

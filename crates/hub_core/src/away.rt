@@ -1,5 +1,5 @@
-//! The devices of a window: which are home and which are away with a grip, what is known of each, and which one each run
-//! holds.
+//! The devices of a window: which are home and which are away with a grip, what is known of each,
+//! and which one each run holds.
 ghost use Rattle.std.specs.Prelude.{◌≡◌, ◌+◌, ◌<◌, ◌^◌};
 ghost use Rattle.device_gate.specs.Calls.{held_after};
 ghost use Rattle.device_gate.specs.Grips.{WasCalled};
@@ -34,7 +34,8 @@ pub(crate) struct Away<D: Device> {
     pub(crate) hands: List<Option<DeviceNo>>,
 }
 
-/// What a device told that came home, where it is known to stand, and how often it has failed and come back.
+/// What a device told that came home, where it is known to stand, and how often it has failed and
+/// come back.
 #[derive(Drop)]
 pub(crate) struct Came {
     pub(crate) told: Told,
@@ -54,7 +55,8 @@ impl<D: Device> Away<D> {
         }
     }
 
-    /// The device goes out to the maker, a run or 0 for the detector, for this task; this is known of it then. A run holds it.
+    /// The device goes out to the maker, a run or 0 for the detector, for this task; this is known
+    /// of it then. A run holds it.
     #[inline(always)]
     pub(crate) fn send(
         &mut self,
@@ -63,8 +65,10 @@ impl<D: Device> Away<D> {
         known: DeviceProgress,
         task: Task,
     ) -> Grip<D, Ready>
-        requires may { MaySend D.stands D.turns D.probes D.faults self.old d.0 maker known.held task }
-        ensures sent { IsSent D.turns D.probes D.faults self.old d maker known task result self.new }
+        requires may { MaySend D.stands D.turns D.probes D.faults self.old d.0 maker
+            known.held task }
+        ensures sent { IsSent D.turns D.probes D.faults self.old d maker known task
+            result self.new }
     {
         self.known.set(d.0 as u64, known);
         if maker > 0 {
@@ -79,9 +83,13 @@ impl<D: Device> Away<D> {
         requires may { MayComeHome self.old grip }
         ensures home { IsHomeAgain self.old grip self.new }
         ensures told { result.told ≡ grip.stage.told }
-        ensures held { result.held ≡ held_after grip.stage.told grip.task (progress_at self.old.known.items grip.slip.device.0).held }
-        ensures events { result.events ≡ events_after grip.task grip.stage.told (progress_at self.old.known.items grip.slip.device.0).events }
-        ensures called { WasCalled grip.stage.told grip.task grip.slip (D.tag grip.device) (D.stands grip.device) (D.turns grip.device) (D.probes grip.device) (D.faults grip.device) }
+        ensures held { result.held ≡ held_after grip.stage.told grip.task
+            (progress_at self.old.known.items grip.slip.device.0).held }
+        ensures events { result.events ≡ events_after grip.task grip.stage.told
+            (progress_at self.old.known.items grip.slip.device.0).events }
+        ensures called { WasCalled grip.stage.told grip.task grip.slip (D.tag grip.device)
+            (D.stands grip.device) (D.turns grip.device) (D.probes grip.device)
+            (D.faults grip.device) }
     {
         let slip = grip.slip();
         let task = grip.task();

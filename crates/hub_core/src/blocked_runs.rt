@@ -8,7 +8,8 @@ use home_types::{DeviceNo, List, NoMemory, RunNo};
 use std::alloc::Global;
 use std::marker::Model;
 
-/// The runs of a window that are marked, a bit for each run, and for each device those that were marked there.
+/// The runs of a window that are marked, a bit for each run, and for each device those that were
+/// marked there.
 ///
 /// A run that is marked no more may still have its bit at a device.
 #[derive(Drop)]
@@ -52,7 +53,8 @@ impl BlockedRuns {
         self.runs
     }
 
-    /// Marks the run at this device. A run above 64 and one at no device of the home stay as they are.
+    /// Marks the run at this device. A run above 64 and one at no device of the home stay as they
+    /// are.
     pub(crate) fn mark(&mut self, r: RunNo, d: DeviceNo)
         ensures { HasMarked self.old r.0 d.0 self.new }
     {

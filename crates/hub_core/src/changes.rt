@@ -58,7 +58,8 @@ impl<D: Device> OpenWindow<D> {
 
     /// The run arrives.
     pub(crate) fn arrive(&mut self, r: RunNo, moment: u64) -> Made
-        requires { choice_of (configuration_of self.old) r.0 moment ≡ told_choice r.0 (max self.old.moment moment) Chosen.Arrives }
+        requires { choice_of (configuration_of self.old) r.0 moment
+            ≡ told_choice r.0 (max self.old.moment moment) Chosen.Arrives }
         ensures answer { Answers self.old r.0 moment (Moves (entries_made result)) self.new }
         ensures packed { IsPacked result }
         ensures window { SameWindow self.old self.new }
@@ -67,11 +68,13 @@ impl<D: Device> OpenWindow<D> {
         one_made(self.history.arrive(r, self.moment))
     }
 
-    /// The run is placed behind so many items of the line. Where that is by the timeline, the scratch holds their set, and its
-    /// planned times.
+    /// The run is placed behind so many items of the line. Where that is by the timeline, the
+    /// scratch holds their set, and its planned times.
     pub(crate) fn join(&mut self, r: RunNo, moment: u64, at: u32, scratch: &Scratch) -> Made
-        requires chosen { choice_of (configuration_of self.old) r.0 moment ≡ told_choice r.0 (max self.old.moment moment) (Chosen.Joins at) }
-        requires planned { HoldsPlan scratch.now (configuration_of self.old) r.0 (max self.old.moment moment) at }
+        requires chosen { choice_of (configuration_of self.old) r.0 moment
+            ≡ told_choice r.0 (max self.old.moment moment) (Chosen.Joins at) }
+        requires planned { HoldsPlan scratch.now (configuration_of self.old) r.0
+            (max self.old.moment moment) at }
         ensures answer { Answers self.old r.0 moment (Moves (entries_made result)) self.new }
         ensures packed { IsPacked result }
         ensures window { SameWindow self.old self.new }
@@ -83,12 +86,14 @@ impl<D: Device> OpenWindow<D> {
         }
     }
 
-    /// The entry, the line and the table are told the place of the run, behind so many items of the line. By the timeline
-    /// these are brought before the others first.
+    /// The entry, the line and the table are told the place of the run, behind so many items of the
+    /// line. By the timeline these are brought before the others first.
     fn place(&mut self, r: RunNo, moment: u64, at: u32, scratch: &Scratch) -> Made
         requires strong { is_weak self.old.setting.mode ≡ false }
-        requires chosen { choice_of (configuration_of self.old) r.0 moment ≡ told_choice r.0 (max self.old.moment moment) (Chosen.Joins at) }
-        requires planned { HoldsPlan scratch.now (configuration_of self.old) r.0 (max self.old.moment moment) at }
+        requires chosen { choice_of (configuration_of self.old) r.0 moment
+            ≡ told_choice r.0 (max self.old.moment moment) (Chosen.Joins at) }
+        requires planned { HoldsPlan scratch.now (configuration_of self.old) r.0
+            (max self.old.moment moment) at }
         ensures answer { Answers self.old r.0 moment (Moves (entries_made result)) self.new }
         ensures packed { IsPacked result }
         ensures window { SameWindow self.old self.new }
@@ -103,7 +108,8 @@ impl<D: Device> OpenWindow<D> {
 
     /// The run's write on the device, which is counted down, is dropped: it is undone with no call.
     pub(crate) fn drop_undo(&mut self, r: RunNo, moment: u64, d: DeviceNo) -> Made
-        requires { choice_of (configuration_of self.old) r.0 moment ≡ told_choice r.0 (max self.old.moment moment) (Chosen.Drops d) }
+        requires { choice_of (configuration_of self.old) r.0 moment
+            ≡ told_choice r.0 (max self.old.moment moment) (Chosen.Drops d) }
         ensures answer { Answers self.old r.0 moment (Moves (entries_made result)) self.new }
         ensures packed { IsPacked result }
         ensures window { SameWindow self.old self.new }
@@ -113,10 +119,11 @@ impl<D: Device> OpenWindow<D> {
         one_made(self.history.undo(r, d, false))
     }
 
-    /// The run's command with the number `k` is answered `Down` with no call of its device, and where it is a must the
-    /// run is doomed.
+    /// The run's command with the number `k` is answered `Down` with no call of its device, and
+    /// where it is a must the run is doomed.
     pub(crate) fn answer_down(&mut self, r: RunNo, moment: u64, k: u32, must: bool) -> Made
-        requires { choice_of (configuration_of self.old) r.0 moment ≡ told_choice r.0 (max self.old.moment moment) (Chosen.AnswersDown k must) }
+        requires { choice_of (configuration_of self.old) r.0 moment
+            ≡ told_choice r.0 (max self.old.moment moment) (Chosen.AnswersDown k must) }
         ensures answer { Answers self.old r.0 moment (Moves (entries_made result)) self.new }
         ensures packed { IsPacked result }
         ensures window { SameWindow self.old self.new }
@@ -134,9 +141,11 @@ impl<D: Device> OpenWindow<D> {
         }
     }
 
-    /// The run's command with the number `k` is skipped, since its guard does not hold. That is no access to its device.
+    /// The run's command with the number `k` is skipped, since its guard does not hold. That is no
+    /// access to its device.
     pub(crate) fn skip(&mut self, r: RunNo, moment: u64, k: u32) -> Made
-        requires { choice_of (configuration_of self.old) r.0 moment ≡ told_choice r.0 (max self.old.moment moment) (Chosen.Skips k) }
+        requires { choice_of (configuration_of self.old) r.0 moment
+            ≡ told_choice r.0 (max self.old.moment moment) (Chosen.Skips k) }
         ensures answer { Answers self.old r.0 moment (Moves (entries_made result)) self.new }
         ensures packed { IsPacked result }
         ensures window { SameWindow self.old self.new }
@@ -148,9 +157,11 @@ impl<D: Device> OpenWindow<D> {
         one_made(entry)
     }
 
-    /// The run, which has all its commands answered, is doomed, since it needs the device up, which is counted down.
+    /// The run, which has all its commands answered, is doomed, since it needs the device up, which
+    /// is counted down.
     pub(crate) fn fail_at_end(&mut self, r: RunNo, moment: u64, d: DeviceNo) -> Made
-        requires { choice_of (configuration_of self.old) r.0 moment ≡ told_choice r.0 (max self.old.moment moment) (Chosen.FailsAtEnd d) }
+        requires { choice_of (configuration_of self.old) r.0 moment
+            ≡ told_choice r.0 (max self.old.moment moment) (Chosen.FailsAtEnd d) }
         ensures answer { Answers self.old r.0 moment (Moves (entries_made result)) self.new }
         ensures packed { IsPacked result }
         ensures window { SameWindow self.old self.new }
@@ -160,8 +171,9 @@ impl<D: Device> OpenWindow<D> {
         one_made(self.history.doom(r.0, r, Cause::DownAtEnd(d)))
     }
 
-    /// The lease of the borrower on the device is overdue for the run `r`, which asks for it, with this deadline, in ms: the
-    /// borrower is doomed. It is done with each device that it has acquired, but for the one that is out for a command of it.
+    /// The lease of the borrower on the device is overdue for the run `r`, which asks for it, with
+    /// this deadline, in ms: the borrower is doomed. It is done with each device that it has
+    /// acquired, but for the one that is out for a command of it.
     pub(crate) fn revoke(
         &mut self,
         r: RunNo,
@@ -170,7 +182,8 @@ impl<D: Device> OpenWindow<D> {
         d: DeviceNo,
         deadline: u64,
     ) -> Made
-        requires { choice_of (configuration_of self.old) r.0 moment ≡ told_choice r.0 (max self.old.moment moment) (Chosen.Revokes borrower d deadline) }
+        requires { choice_of (configuration_of self.old) r.0 moment
+            ≡ told_choice r.0 (max self.old.moment moment) (Chosen.Revokes borrower d deadline) }
         ensures answer { Answers self.old r.0 moment (Moves (entries_made result)) self.new }
         ensures packed { IsPacked result }
         ensures window { SameWindow self.old self.new }
@@ -189,8 +202,10 @@ impl<D: Device> OpenWindow<D> {
 
     /// The run commits.
     pub(crate) fn commit(&mut self, r: RunNo, moment: u64) -> Made
-        requires { choice_of (configuration_of self.old) r.0 moment ≡ told_choice r.0 (max self.old.moment moment) Chosen.Commits }
-        ensures answer { Answers self.old r.0 moment (Over Committed (entries_made result)) self.new }
+        requires { choice_of (configuration_of self.old) r.0 moment
+            ≡ told_choice r.0 (max self.old.moment moment) Chosen.Commits }
+        ensures answer { Answers self.old r.0 moment
+            (Over Committed (entries_made result)) self.new }
         ensures packed { IsPacked result }
         ensures window { SameWindow self.old self.new }
     {
@@ -201,8 +216,10 @@ impl<D: Device> OpenWindow<D> {
 
     /// The run ends aborted, for this cause.
     pub(crate) fn abort(&mut self, r: RunNo, moment: u64, cause: Cause) -> Made
-        requires { choice_of (configuration_of self.old) r.0 moment ≡ told_choice r.0 (max self.old.moment moment) (Chosen.Aborts cause) }
-        ensures answer { Answers self.old r.0 moment (Over (Aborted cause) (entries_made result)) self.new }
+        requires { choice_of (configuration_of self.old) r.0 moment
+            ≡ told_choice r.0 (max self.old.moment moment) (Chosen.Aborts cause) }
+        ensures answer { Answers self.old r.0 moment
+            (Over (Aborted cause) (entries_made result)) self.new }
         ensures packed { IsPacked result }
         ensures window { SameWindow self.old self.new }
     {
@@ -221,7 +238,8 @@ impl<D: Device> OpenWindow<D> {
         d: DeviceNo,
         purpose: Purpose,
     ) -> Grip<D, Ready>
-        requires { choice_of (configuration_of self.old) r.0 moment ≡ HandsOut d.0 (purpose_of purpose) }
+        requires { choice_of (configuration_of self.old) r.0 moment
+            ≡ HandsOut d.0 (purpose_of purpose) }
         ensures out { DeviceGoesOut self.old r.0 moment result self.new }
         ensures window { SameWindow self.old self.new }
     {
@@ -234,8 +252,9 @@ impl<D: Device> OpenWindow<D> {
     }
 }
 
-/// The run, whose command with the number `k` was just answered so, and not skipped, notes that on the device, which stands
-/// at this value. Under the weak model it has no access there, and notes nothing.
+/// The run, whose command with the number `k` was just answered so, and not skipped, notes that on
+/// the device, which stands at this value. Under the weak model it has no access there, and notes
+/// nothing.
 #[inline(always)]
 pub(crate) fn note_answer(
     history: &ReadHistory,
@@ -247,10 +266,15 @@ pub(crate) fn note_answer(
     held: Value,
 )
     requires access { is_access answer ≡ true }
-    requires told { is_weak history.now.setting.mode ≡ false → MayNoteAnswer history.now r.0 k d.0 order.old.table }
+    requires told { is_weak history.now.setting.mode ≡ false
+        → MayNoteAnswer history.now r.0 k d.0 order.old.table }
     ensures line { order.new.line ≡ order.old.line }
     ensures weakly { is_weak history.now.setting.mode ≡ true → order.new.table ≡ order.old.table }
-    ensures ordered { is_weak history.now.setting.mode ≡ false → order.new.table ≡ with_lineage order.old.table d.0 (noted_first r.0 (is_first r.0 (lineage_at order.old.table d.0)) (view_when (is_told answer)) (if is_fine answer then Some held else None) (is_doomed (read_in history.now) r.0 || not (pends history.now.setting (read_in history.now) r.0 d.0))) }
+    ensures ordered { is_weak history.now.setting.mode ≡ false
+        → order.new.table ≡ with_lineage order.old.table d.0 (noted_first r.0
+        (is_first r.0 (lineage_at order.old.table d.0)) (view_when (is_told answer))
+        (if is_fine answer then Some held else None) (is_doomed (read_in history.now) r.0
+        || not (pends history.now.setting (read_in history.now) r.0 d.0))) }
 {
     if history.is_weak() {
         return;
@@ -259,13 +283,16 @@ pub(crate) fn note_answer(
     order.note(d, r, note_of(answer, held, is_last));
 }
 
-/// The run, whose command with the number `k` was just skipped, leaves the device where that was its last command there.
-/// Under the weak model it has no access there.
+/// The run, whose command with the number `k` was just skipped, leaves the device where that was
+/// its last command there. Under the weak model it has no access there.
 fn leave_skipped(history: &ReadHistory, order: &mut KeptOrder, r: RunNo, k: u32, d: DeviceNo)
     requires { MayLeave history.now r.0 k d.0 order.old.table }
     ensures line { order.new.line ≡ order.old.line }
     ensures weakly { is_weak history.now.setting.mode ≡ true → order.new.table ≡ order.old.table }
-    ensures ordered { is_weak history.now.setting.mode ≡ false → order.new.table ≡ (if is_doomed (read_in history.now) r.0 || not (pends history.now.setting (read_in history.now) r.0 d.0) then with_lineage order.old.table d.0 (left_by r.0 (is_first r.0 (lineage_at order.old.table d.0))) else order.old.table) }
+    ensures ordered { is_weak history.now.setting.mode ≡ false
+        → order.new.table ≡ (if is_doomed (read_in history.now) r.0 || not
+        (pends history.now.setting (read_in history.now) r.0 d.0) then with_lineage order.old.table
+        d.0 (left_by r.0 (is_first r.0 (lineage_at order.old.table d.0))) else order.old.table) }
 {
     if history.is_weak() {
         return;
@@ -289,7 +316,8 @@ pub(crate) fn doom_for(
     ensures history { history.new ≡ with_doom history.old r.0 cause }
     ensures line { order.new.line ≡ order.old.line }
     ensures table { cause ≡ None → order.new.table ≡ order.old.table }
-    ensures doomed { IsSome cause → ChangesEach (λ d. doomed_lineage r.0) order.old.table order.new.table }
+    ensures doomed { IsSome cause
+        → ChangesEach (λ d. doomed_lineage r.0) order.old.table order.new.table }
 {
     let Some(cause) = cause else {
         return None;

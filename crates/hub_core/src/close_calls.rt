@@ -31,10 +31,12 @@ impl<D: Device> OpenWindow<D> {
     ///
     /// Refused where `quiet` tells why: the hub comes back as it is. Takes no memory.
     pub(crate) fn close_window(self) -> Result<(Home<D>, WindowRecord), (OpenWindow<D>, NotQuiet)>
-        ensures closed { IfOk result (λ closed. WindowIsClosed D.turns D.probes D.faults self closed.0 closed.1) }
+        ensures closed { IfOk result
+            (λ closed. WindowIsClosed D.turns D.probes D.faults self closed.0 closed.1) }
         ensures quiet { IfOk result (λ closed. not_quiet (configuration_of self) ≡ None) }
         ensures same { IfErr result (λ refused. refused.0 ≡ self) }
-        ensures refused { IfErr result (λ refused. not_quiet (configuration_of self) ≡ Some refused.1) }
+        ensures refused { IfErr result
+            (λ refused. not_quiet (configuration_of self) ≡ Some refused.1) }
     {
         if let Some(why) = self.quiet() {
             return Err((self, why));
@@ -91,7 +93,8 @@ impl<D: Device> OpenWindow<D> {
     }
 }
 
-/// The order that a record claims: the line, under the weak model none; in a list that has room for it.
+/// The order that a record claims: the line, under the weak model none; in a list that has room for
+/// it.
 fn order_of(weak: bool, empty: List<Item>, line: &Line) -> List<Item>
     requires room { IsEmptyFor empty (length line.now.marks) }
     ensures ordered { weak ≡ false → result.items ≡ items_of line.now.marks }
@@ -110,7 +113,8 @@ fn stands_left(
     requires room { IsEmptyFor empty (length table.now) }
     requires size { length known.now.items ≡ length table.now }
     ensures ordered { weak ≡ false → result.items ≡ map stand_left table.now }
-    ensures weakly { weak ≡ true → result.items ≡ all_known_left known.now.items table.now (length table.now) }
+    ensures weakly { weak ≡ true
+        → result.items ≡ all_known_left known.now.items table.now (length table.now) }
 {
     if weak {
         stands_known(empty, table, known)
@@ -186,10 +190,14 @@ fn rises_in<D: Device>(
 ) -> Rises
     requires turns { IsEmptyFor turns (length known.now.items) }
     requires faults { IsEmptyFor faults (length known.now.items) }
-    requires turns_fell { NoneFell D.turns (λ device. device.at_opening.turns) known.now.items devices.now.items }
-    requires faults_fell { NoneFell D.faults (λ device. device.at_opening.faults) known.now.items devices.now.items }
-    ensures turns { HaveRisen D.turns (λ device. device.at_opening.turns) known.now.items devices.now.items (length known.now.items) result.turns.items }
-    ensures faults { HaveRisen D.faults (λ device. device.at_opening.faults) known.now.items devices.now.items (length known.now.items) result.faults.items }
+    requires turns_fell { NoneFell D.turns
+        (λ device. device.at_opening.turns) known.now.items devices.now.items }
+    requires faults_fell { NoneFell D.faults
+        (λ device. device.at_opening.faults) known.now.items devices.now.items }
+    ensures turns { HaveRisen D.turns (λ device. device.at_opening.turns) known.now.items
+        devices.now.items (length known.now.items) result.turns.items }
+    ensures faults { HaveRisen D.faults (λ device. device.at_opening.faults) known.now.items
+        devices.now.items (length known.now.items) result.faults.items }
 {
     let mut rises = Rises { turns, faults };
     'devices: for at in 0..known.len() {

@@ -46,26 +46,32 @@ pub(crate) enum Chosen {
     Aborts(Cause),
     /// It is doomed, and its write on the device, which is counted down, is dropped.
     Drops(DeviceNo),
-    /// The lease of this other run on the device is past this deadline, in ms: the borrower is doomed.
+    /// The lease of this other run on the device is past this deadline, in ms: the borrower is
+    /// doomed.
     Revokes(RunNo, DeviceNo, u64),
-    /// Its next command, of this number, is answered `Down` with no call of its device, and dooms it where it is a must.
+    /// Its next command, of this number, is answered `Down` with no call of its device, and dooms
+    /// it where it is a must.
     AnswersDown(u32, bool),
     /// Its next command, of this number, is skipped, since its guard does not hold.
     Skips(u32),
-    /// It is doomed, since all its commands are answered and the device, which it needs up, is counted down.
+    /// It is doomed, since all its commands are answered and the device, which it needs up, is
+    /// counted down.
     FailsAtEnd(DeviceNo),
     Waits(Why),
     HandsOut(DeviceNo, Purpose),
 }
 
 impl<D: Device> OpenWindow<D> {
-    /// What the step of the run `r` is to do at this moment, in ms, or at the last one where that is later, by the cases of a
-    /// step in order. Where that is to be placed by the timeline, the scratch then holds the set and the planned times.
+    /// What the step of the run `r` is to do at this moment, in ms, or at the last one where that
+    /// is later, by the cases of a step in order. Where that is to be placed by the timeline, the
+    /// scratch then holds the set and the planned times.
     #[inline(always)]
     pub(crate) fn decide(&self, r: RunNo, moment: u64, scratch: &mut Scratch) -> Chosen
         requires scratch { IsForHome self.now.setting self.now.rounds scratch.old }
-        ensures choice { told_choice r.0 (max self.now.moment moment) result ≡ choice_of (configuration_of self.now) r.0 moment }
-        ensures planned { HoldsChosen scratch.new (configuration_of self.now) r.0 (max self.now.moment moment) result }
+        ensures choice { told_choice r.0 (max self.now.moment moment) result
+            ≡ choice_of (configuration_of self.now) r.0 moment }
+        ensures planned { HoldsChosen scratch.new (configuration_of self.now) r.0
+            (max self.now.moment moment) result }
         ensures size { HasSameRoom scratch.old scratch.new }
     {
         if !self.history.has_run(r) {
@@ -103,12 +109,13 @@ impl<D: Device> OpenWindow<D> {
         }
     }
 
-    /// What `r` is to do, which is doomed for this cause: it undoes its effective writes, by ascending device, and then
-    /// ends. A write on a device that is counted down is dropped.
+    /// What `r` is to do, which is doomed for this cause: it undoes its effective writes, by
+    /// ascending device, and then ends. A write on a device that is counted down is dropped.
     fn decide_doomed(&self, r: RunNo, cause: Cause) -> Chosen
         requires strong { is_weak self.now.setting.mode ≡ false }
         requires live { is_live (read_of (configuration_of self.now)) r.0 ≡ true }
-        ensures { (m : ℕ) → told_choice r.0 m result ≡ strong_doomed self.now.setting (read_of (configuration_of self.now)) (configuration_of self.now).grips r.0 cause }
+        ensures { (m : ℕ) → told_choice r.0 m result ≡ strong_doomed self.now.setting
+            (read_of (configuration_of self.now)) (configuration_of self.now).grips r.0 cause }
     {
         let standing = self.standing();
         match next_undo(standing.table, r) {
@@ -130,12 +137,13 @@ impl<D: Device> OpenWindow<D> {
         }
     }
 
-    /// What `r` is to do, which has all its commands answered: it commits, where the model finds no device down that it
-    /// needs up.
+    /// What `r` is to do, which has all its commands answered: it commits, where the model finds no
+    /// device down that it needs up.
     fn decide_answered(&self, r: RunNo) -> Chosen
         requires strong { is_weak self.now.setting.mode ≡ false }
         requires turn { IsUnderWay (read_of (configuration_of self.now)) r.0 }
-        ensures { (m : ℕ) → told_choice r.0 m result ≡ decide_answered self.now.setting (read_of (configuration_of self.now)) (configuration_of self.now).grips r.0 }
+        ensures { (m : ℕ) → told_choice r.0 m result ≡ decide_answered self.now.setting
+            (read_of (configuration_of self.now)) (configuration_of self.now).grips r.0 }
     {
         let standing = self.standing();
         match down_at_end(self.history.model(), &standing, r) {
@@ -144,12 +152,13 @@ impl<D: Device> OpenWindow<D> {
         }
     }
 
-    /// What `r` is to do whose next command, with the number `k`, has a guard that does not hold: it is skipped, where the
-    /// model lets the run go.
+    /// What `r` is to do whose next command, with the number `k`, has a guard that does not hold:
+    /// it is skipped, where the model lets the run go.
     fn decide_skip(&self, r: RunNo, k: u32) -> Chosen
         requires strong { is_weak self.now.setting.mode ≡ false }
         requires turn { IsUnderWay (read_of (configuration_of self.now)) r.0 }
-        ensures { (m : ℕ) → told_choice r.0 m result ≡ skipped_command self.now.setting (read_of (configuration_of self.now)) r.0 k }
+        ensures { (m : ℕ) → told_choice r.0 m result
+            ≡ skipped_command self.now.setting (read_of (configuration_of self.now)) r.0 k }
     {
         let standing = self.standing();
         match may_go(self.history.model(), &standing, r) {
@@ -158,14 +167,16 @@ impl<D: Device> OpenWindow<D> {
         }
     }
 
-    /// What the next command of `r`, with the number `k`, is to do at this moment, in ms: it revokes a lease on its device that
-    /// is overdue, or does what it may where none is.
+    /// What the next command of `r`, with the number `k`, is to do at this moment, in ms: it
+    /// revokes a lease on its device that is overdue, or does what it may where none is.
     #[inline(always)]
     fn decide_command(&self, r: RunNo, k: u32, command: Command, moment: u64) -> Chosen
         requires strong { is_weak self.now.setting.mode ≡ false }
         requires turn { IsAtCommand (configuration_of self.now) r.0 k }
         requires command { command_at self.now.setting.runs r.0 k ≡ command }
-        ensures { told_choice r.0 moment result ≡ strong_command self.now.setting (read_of (configuration_of self.now)) (configuration_of self.now).grips r.0 moment k command }
+        ensures { told_choice r.0 moment result
+            ≡ strong_command self.now.setting (read_of (configuration_of self.now))
+            (configuration_of self.now).grips r.0 moment k command }
     {
         let d = command.device;
         match self.overdue_lease(r, d, moment) {
@@ -174,13 +185,15 @@ impl<D: Device> OpenWindow<D> {
         }
     }
 
-    /// What the next command of `r`, with the number `k`, is to do, where no lease on its device is overdue.
+    /// What the next command of `r`, with the number `k`, is to do, where no lease on its device is
+    /// overdue.
     #[inline(always)]
     fn decide_current(&self, r: RunNo, k: u32, command: Command) -> Chosen
         requires strong { is_weak self.now.setting.mode ≡ false }
         requires turn { IsAtCommand (configuration_of self.now) r.0 k }
         requires command { command_at self.now.setting.runs r.0 k ≡ command }
-        ensures { (m : ℕ) → told_choice r.0 m result ≡ current_command self.now.setting (read_of (configuration_of self.now)) (configuration_of self.now).grips r.0 k command }
+        ensures { (m : ℕ) → told_choice r.0 m result ≡ current_command self.now.setting
+            (read_of (configuration_of self.now)) (configuration_of self.now).grips r.0 k command }
     {
         let standing = self.standing();
         match test_touch(&standing, r, k) {
@@ -196,14 +209,15 @@ impl<D: Device> OpenWindow<D> {
 
     /// What the next command of `r`, with the number `k`, is to do, where no run bars it.
     ///
-    /// A run that sees the device down is told so, whether it is home or not. Else the run waits until it is home, and
-    /// is told that it is down where it is counted so.
+    /// A run that sees the device down is told so, whether it is home or not. Else the run waits
+    /// until it is home, and is told that it is down where it is counted so.
     #[inline(always)]
     fn decide_unbarred(&self, r: RunNo, k: u32, command: Command) -> Chosen
         requires strong { is_weak self.now.setting.mode ≡ false }
         requires turn { IsAtCommand (configuration_of self.now) r.0 k }
         requires command { command_at self.now.setting.runs r.0 k ≡ command }
-        ensures { (m : ℕ) → told_choice r.0 m result ≡ unbarred_command self.now.setting (read_of (configuration_of self.now)) (configuration_of self.now).grips r.0 k command }
+        ensures { (m : ℕ) → told_choice r.0 m result ≡ unbarred_command self.now.setting
+            (read_of (configuration_of self.now)) (configuration_of self.now).grips r.0 k command }
     {
         let d = command.device;
         if sees_down(&self.order.table, r, d) {
@@ -222,7 +236,8 @@ impl<D: Device> OpenWindow<D> {
     /// The device whose grip the run holds.
     pub(crate) fn grip_of(&self, r: RunNo) -> Option<DeviceNo>
         requires { IsTrue (is_run self.now.setting.runs r.0) }
-        ensures { option_map (λ d. d.0) result ≡ grip_wait self.now.setting (configuration_of self.now).grips r.0 }
+        ensures { option_map (λ d. d.0) result
+            ≡ grip_wait self.now.setting (configuration_of self.now).grips r.0 }
     {
         *self.away.hands.get(r.0 as u64 - 1).unwrap()
     }
@@ -237,7 +252,9 @@ impl<D: Device> OpenWindow<D> {
     /// What the grip of the run is to do for this purpose.
     #[inline(always)]
     pub(crate) fn task(&self, r: RunNo, purpose: Purpose) -> Task
-        requires command { (k : ℕ) → purpose_of purpose ≡ Commands k → IsTrue (is_run self.now.setting.runs r.0) × (k < length (commands_of self.now.setting.runs r.0)) }
+        requires command { (k : ℕ) → purpose_of purpose ≡ Commands k
+            → IsTrue (is_run self.now.setting.runs r.0)
+            × (k < length (commands_of self.now.setting.runs r.0)) }
         ensures { result ≡ task_of (configuration_of self.now) r.0 (purpose_of purpose) }
     {
         match purpose {
@@ -252,7 +269,8 @@ impl<D: Device> OpenWindow<D> {
     fn command_task(&self, r: RunNo, k: u32) -> Task
         requires run { IsTrue (is_run self.now.setting.runs r.0) }
         requires command { k < length (commands_of self.now.setting.runs r.0) }
-        ensures { result ≡ command_task (configuration_of self.now) r.0 (command_at self.now.setting.runs r.0 k) }
+        ensures { result ≡ command_task (configuration_of self.now) r.0
+            (command_at self.now.setting.runs r.0 k) }
     {
         let command = self.history.command(r, k);
         if reads(command.job) {
@@ -268,7 +286,8 @@ impl<D: Device> OpenWindow<D> {
 #[inline(always)]
 fn sees_down(table: &Table, r: RunNo, d: DeviceNo) -> bool
     requires { d.0 < length table.now }
-    ensures { result ≡ unwrap_or (option_map sees_it_down (access_of r.0 (accesses_at table.now d.0))) false }
+    ensures { result
+        ≡ unwrap_or (option_map sees_it_down (access_of r.0 (accesses_at table.now d.0))) false }
 {
     match table.access(d, r) {
         Some(access) => access.view == Some(View::Down),

@@ -28,8 +28,9 @@ pub(crate) fn first_death(r: RunNo, first: bool) -> Option<RunNo>
     if first { Some(r) } else { None }
 }
 
-/// The device, which was counted up, has failed for the time of this number, counted from 1: the failure comes into the
-/// line, in which all before the first live run is sealed then, the device is counted down, and the history tells it.
+/// The device, which was counted up, has failed for the time of this number, counted from 1: the
+/// failure comes into the line, in which all before the first live run is sealed then, the device
+/// is counted down, and the history tells it.
 pub(crate) fn note_fall(
     history: &mut ReadHistory,
     order: &mut KeptOrder,
@@ -38,10 +39,12 @@ pub(crate) fn note_fall(
     number: u32,
     first: Option<RunNo>,
 ) -> Failure
-    requires may { MayTurn true (Failed d number) history.old.spare d order.old.line order.old.table }
+    requires may { MayTurn true
+        (Failed d number) history.old.spare d order.old.line order.old.table }
     ensures entry { result.entry ≡ Entry.Fell d }
     ensures history { history.new ≡ with_entry history.old maker (Entry.Fell d) }
-    ensures order { HasFallen history.old d first number order.old.line order.new.line order.old.table order.new.table }
+    ensures order { HasFallen history.old d first number order.old.line order.new.line
+        order.old.table order.new.table }
     ensures lost { result.lost ≡ lost_run history.old.history (accesses_at order.old.table d.0) }
 {
     let lost = fell(
@@ -59,8 +62,9 @@ pub(crate) fn note_fall(
     }
 }
 
-/// The device, which was counted down, is back for the time of this number, counted from 1: the restart comes into the
-/// line, in which all before the first live run is sealed then, the device is counted up, and the history tells it.
+/// The device, which was counted down, is back for the time of this number, counted from 1: the
+/// restart comes into the line, in which all before the first live run is sealed then, the device
+/// is counted up, and the history tells it.
 pub(crate) fn note_rise(
     history: &mut ReadHistory,
     order: &mut KeptOrder,
@@ -68,18 +72,20 @@ pub(crate) fn note_rise(
     d: DeviceNo,
     number: u32,
 ) -> Entry
-    requires may { MayTurn false (Back d number) history.old.spare d order.old.line order.old.table }
+    requires may { MayTurn false
+        (Back d number) history.old.spare d order.old.line order.old.table }
     ensures entry { result ≡ Entry.Rose d }
     ensures history { history.new ≡ with_entry history.old maker (Entry.Rose d) }
-    ensures order { HasRisen history.old d number order.old.line order.new.line order.old.table order.new.table }
+    ensures order { HasRisen history.old d number order.old.line order.new.line order.old.table
+        order.new.table }
 {
     rose(&mut order.line, &mut order.table, history.book(), d, number);
     seal(&mut order.line);
     history.rise(maker, d)
 }
 
-/// The run is doomed that the failure of the device loses, where there is one. It stays the holder of the device that is
-/// out for it.
+/// The run is doomed that the failure of the device loses, where there is one. It stays the holder
+/// of the device that is out for it.
 pub(crate) fn doom_lost(
     history: &mut ReadHistory,
     order: &mut KeptOrder,
@@ -87,7 +93,8 @@ pub(crate) fn doom_lost(
     d: DeviceNo,
     lost: Option<RunNo>,
 ) -> Option<Entry>
-    requires run { IfSome lost (λ r. IsTrue (is_run history.old.setting.runs r.0) × (r.0 ≤ length hands.now.items)) }
+    requires run { IfSome lost
+        (λ r. IsTrue (is_run history.old.setting.runs r.0) × (r.0 ≤ length hands.now.items)) }
     requires room { IsSome lost → 0 < history.old.spare }
     ensures entry { result ≡ option_map (λ r. Entry.Doomed r (Cause.Lost d)) lost }
     ensures history { history.new ≡ with_lost history.old d lost }

@@ -17,8 +17,8 @@ use device_states::Device;
 use history_book::{Entry, Made};
 use home_types::{DeviceNo, RunNo};
 
-/// The run waits: it is marked at the device of its next command, if it is at a command. A lender is not: its wait may end
-/// as a lease falls due.
+/// The run waits: it is marked at the device of its next command, if it is at a command. A lender
+/// is not: its wait may end as a lease falls due.
 #[inline(always)]
 pub(crate) fn mark_waiting<D: Device>(blocked: &mut BlockedRuns, window: &OpenWindow<D>, r: RunNo)
     ensures { MayBeMarked (configuration_of window.now) blocked.old r.0 blocked.new }
@@ -32,7 +32,8 @@ pub(crate) fn mark_waiting<D: Device>(blocked: &mut BlockedRuns, window: &OpenWi
     blocked.mark(r, d);
 }
 
-/// A step of the run under the weak model: it may have freed everybody, and where it waits the run alone is marked.
+/// A step of the run under the weak model: it may have freed everybody, and where it waits the run
+/// alone is marked.
 pub(crate) fn free_weakly<D: Device>(
     blocked: &mut BlockedRuns,
     window: &OpenWindow<D>,
@@ -51,18 +52,20 @@ pub(crate) fn free_weakly<D: Device>(
     }
 }
 
-/// The device has gone out for a run. While it is out for a command, its run holds it, and who is blocked there stays so.
+/// The device has gone out for a run. While it is out for a command, its run holds it, and who is
+/// blocked there stays so.
 #[inline(always)]
 pub(crate) fn free_going<D: Device>(blocked: &mut BlockedRuns, window: &OpenWindow<D>, d: DeviceNo)
-    ensures { AreLeft blocked.old blocked.new (λ e. is_out_for_command (configuration_of window.now) d.0 ≡ false → e ≢ d.0) }
+    ensures { AreLeft blocked.old blocked.new
+        (λ e. is_out_for_command (configuration_of window.now) d.0 ≡ false → e ≢ d.0) }
 {
     if !window.is_out_for_command(d) {
         blocked.unmark_at(d);
     }
 }
 
-/// The device has come home, with these entries. A run that has been answered there and has a command left there holds
-/// it still, and who is blocked there stays so.
+/// The device has come home, with these entries. A run that has been answered there and has a
+/// command left there holds it still, and who is blocked there stays so.
 #[inline(always)]
 pub(crate) fn free_back<D: Device>(
     blocked: &mut BlockedRuns,
@@ -70,7 +73,9 @@ pub(crate) fn free_back<D: Device>(
     d: DeviceNo,
     made: &Made,
 )
-    ensures { AreLeft blocked.old blocked.new (λ e. IsAnsweredStill (configuration_of window.now) d.0 (entries_made made.now) ⊎ ((e ≢ d.0) × (list_all (is_quiet window.now.setting e) (entries_made made.now) ≡ true))) }
+    ensures { AreLeft blocked.old blocked.new
+        (λ e. IsAnsweredStill (configuration_of window.now) d.0 (entries_made made.now)
+        ⊎ ((e ≢ d.0) × (list_all (is_quiet window.now.setting e) (entries_made made.now) ≡ true))) }
 {
     if is_answered_still(window, d, made) {
         return;
@@ -79,10 +84,12 @@ pub(crate) fn free_back<D: Device>(
     free_each(blocked, window, made);
 }
 
-/// Whether a step has answered a command on the device, and made no other entry, and its run holds the device still.
+/// Whether a step has answered a command on the device, and made no other entry, and its run holds
+/// the device still.
 #[inline(always)]
 fn is_answered_still<D: Device>(window: &OpenWindow<D>, d: DeviceNo, made: &Made) -> bool
-    ensures { IsTrue result → IsAnsweredStill (configuration_of window.now) d.0 (entries_made made.now) }
+    ensures { IsTrue result
+        → IsAnsweredStill (configuration_of window.now) d.0 (entries_made made.now) }
 {
     match *made {
         Made {
@@ -94,10 +101,12 @@ fn is_answered_still<D: Device>(window: &OpenWindow<D>, d: DeviceNo, made: &Made
     }
 }
 
-/// A run's step has made these entries. Where the run was placed at the end of the line, nobody is free.
+/// A run's step has made these entries. Where the run was placed at the end of the line, nobody is
+/// free.
 #[inline(always)]
 pub(crate) fn free_made<D: Device>(blocked: &mut BlockedRuns, window: &OpenWindow<D>, made: &Made)
-    ensures { AreLeft blocked.old blocked.new (λ d. EndNoWait window.now.setting (read_of (configuration_of window.now)) d (entries_made made.now)) }
+    ensures { AreLeft blocked.old blocked.new (λ d. EndNoWait window.now.setting
+        (read_of (configuration_of window.now)) d (entries_made made.now)) }
 {
     if is_placed_last(window, made) {
         return;
@@ -108,7 +117,8 @@ pub(crate) fn free_made<D: Device>(blocked: &mut BlockedRuns, window: &OpenWindo
 /// Whether a step has placed a run at the end of the line, and made no other entry.
 #[inline(always)]
 fn is_placed_last<D: Device>(window: &OpenWindow<D>, made: &Made) -> bool
-    ensures { IsTrue result → IsPlacedLast (read_of (configuration_of window.now)) (entries_made made.now) }
+    ensures { IsTrue result
+        → IsPlacedLast (read_of (configuration_of window.now)) (entries_made made.now) }
 {
     match *made {
         Made {
@@ -123,7 +133,8 @@ fn is_placed_last<D: Device>(window: &OpenWindow<D>, made: &Made) -> bool
 /// A step has made these entries.
 #[inline(always)]
 fn free_each<D: Device>(blocked: &mut BlockedRuns, window: &OpenWindow<D>, made: &Made)
-    ensures { AreLeft blocked.old blocked.new (λ d. list_all (is_quiet window.now.setting d) (entries_made made.now) ≡ true) }
+    ensures { AreLeft blocked.old blocked.new
+        (λ d. list_all (is_quiet window.now.setting d) (entries_made made.now) ≡ true) }
 {
     free_some(blocked, window, made.a);
     free_some(blocked, window, made.b);
@@ -133,15 +144,17 @@ fn free_each<D: Device>(blocked: &mut BlockedRuns, window: &OpenWindow<D>, made:
 /// A step has made this entry, where there is one.
 #[inline(always)]
 fn free_some<D: Device>(blocked: &mut BlockedRuns, window: &OpenWindow<D>, entry: Option<Entry>)
-    ensures { AreLeft blocked.old blocked.new (λ d. list_all (is_quiet window.now.setting d) (option_to_list entry) ≡ true) }
+    ensures { AreLeft blocked.old blocked.new
+        (λ d. list_all (is_quiet window.now.setting d) (option_to_list entry) ≡ true) }
 {
     if let Some(entry) = entry {
         free_by(blocked, window, entry);
     }
 }
 
-/// A step has made this entry. A doom may free those that are blocked at the devices of its run, as may a placing and an
-/// end, which free everybody under the two strict models; an entry on a device those that are blocked there.
+/// A step has made this entry. A doom may free those that are blocked at the devices of its run, as
+/// may a placing and an end, which free everybody under the two strict models; an entry on a device
+/// those that are blocked there.
 #[inline(always)]
 fn free_by<D: Device>(blocked: &mut BlockedRuns, window: &OpenWindow<D>, entry: Entry)
     ensures { AreLeft blocked.old blocked.new (λ d. is_quiet window.now.setting d entry ≡ true) }
@@ -162,7 +175,9 @@ fn free_by<D: Device>(blocked: &mut BlockedRuns, window: &OpenWindow<D>, entry: 
 
 /// The run stands where it did not, or stands before the others no more.
 fn free_passed<D: Device>(blocked: &mut BlockedRuns, window: &OpenWindow<D>, r: RunNo)
-    ensures { AreLeft blocked.old blocked.new (λ d. (not (is_strict window.now.setting.mode) && not (touches window.now.setting.runs r.0 d)) ≡ true) }
+    ensures { AreLeft blocked.old blocked.new (λ d.
+        (not (is_strict window.now.setting.mode) && not (touches window.now.setting.runs r.0 d))
+        ≡ true) }
 {
     if window.is_strict() {
         return blocked.unmark_all();
@@ -172,7 +187,8 @@ fn free_passed<D: Device>(blocked: &mut BlockedRuns, window: &OpenWindow<D>, r: 
 
 /// Those that are blocked at the devices of the run are free.
 fn free_beside<D: Device>(blocked: &mut BlockedRuns, window: &OpenWindow<D>, r: RunNo)
-    ensures { AreLeft blocked.old blocked.new (λ d. not (touches window.now.setting.runs r.0 d) ≡ true) }
+    ensures { AreLeft blocked.old blocked.new
+        (λ d. not (touches window.now.setting.runs r.0 d) ≡ true) }
 {
     if !window.has_run(r) {
         // There is such a run.

@@ -8,11 +8,13 @@ use device_states::Device;
 use history_book::Made;
 
 impl<D: Device> OpenWindow<D> {
-    /// Takes the device of a run's grip home, at this moment, in ms, or at the last one where that is later.
+    /// Takes the device of a run's grip home, at this moment, in ms, or at the last one where that
+    /// is later.
     ///
-    /// Answers the entries that it makes: the command's answer, for a read with the value found, and the doom of a run whose
-    /// must `check` found another value; or that the run's write is undone. A grip that is not the one with which its device
-    /// is out, or that is the detector's, comes back with a `Stranger`, and nothing changes. Takes no memory.
+    /// Answers the entries that it makes: the command's answer, for a read with the value found,
+    /// and the doom of a run whose must `check` found another value; or that the run's write is
+    /// undone. A grip that is not the one with which its device is out, or that is the detector's,
+    /// comes back with a `Stranger`, and nothing changes. Takes no memory.
     #[inline(always)]
     pub(crate) fn give(
         &mut self,

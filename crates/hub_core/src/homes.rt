@@ -15,7 +15,8 @@ use std::marker::Model;
 
 /// A home between its windows: the kinds of its devices, its state, and the devices themselves.
 ///
-/// The type keeps that each device is the one of its number, and, where it is up, stands where the state says.
+/// The type keeps that each device is the one of its number, and, where it is up, stands where the
+/// state says.
 #[derive(Drop)]
 pub struct Home<D: Device> {
     pub(crate) kinds: List<Kind>,
@@ -29,9 +30,19 @@ impl<D: Device> Model for Home<D> {
 
     ghost Value = { HomeState D };
 
-    ghost view = { λ h. record { kinds = h.kinds.items; world = h.world.devices.items; devices = h.devices.items; opened = h.opened } };
+    ghost view = { λ h. record {
+      kinds = h.kinds.items;
+      world = h.world.devices.items;
+      devices = h.devices.items;
+      opened = h.opened;
+    } };
 
-    ghost invariant = { λ h. HomeIsKept D.tag D.stands D.turns D.probes D.faults (record { kinds = h.kinds.items; world = h.world.devices.items; devices = h.devices.items; opened = h.opened }) };
+    ghost invariant = { λ h. HomeIsKept D.tag D.stands D.turns D.probes D.faults (record {
+      kinds = h.kinds.items;
+      world = h.world.devices.items;
+      devices = h.devices.items;
+      opened = h.opened;
+    }) };
 }
 
 impl<D: Device> Home<D> {
@@ -62,7 +73,8 @@ impl<D: Device> Home<D> {
         })
     }
 
-    /// The state of the home: after the last window, or as the home was built or resumed. A journal of these kinds keeps it.
+    /// The state of the home: after the last window, or as the home was built or resumed. A journal
+    /// of these kinds keeps it.
     pub fn world(&self) -> &World
         ensures world { result.now.devices.items ≡ self.now.world }
         ensures state { IsStateOf self.now.kinds result.now.devices.items }

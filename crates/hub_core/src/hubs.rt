@@ -29,9 +29,10 @@ use window_order::Purpose;
 
 /// An open window.
 ///
-/// Contracts see what is fixed, its history, its last moment, what it knows of each device, and the places of the
-/// devices. The type keeps that these agree, that each run which is marked as blocked waits at
-/// every moment, and that the scratch is for the devices of the home and for the items that the line may have.
+/// Contracts see what is fixed, its history, its last moment, what it knows of each device, and the
+/// places of the devices. The type keeps that these agree, that each run which is marked as blocked
+/// waits at every moment, and that the scratch is for the devices of the home and for the items
+/// that the line may have.
 #[derive(Drop)]
 pub struct Hub<D: Device> {
     pub(crate) window: OpenWindow<D>,
@@ -48,7 +49,8 @@ impl<D: Device> Model for Hub<D> {
 
     ghost view = { λ h. h.window };
 
-    ghost invariant = { λ h. PartsFit (configuration_of h.window) h.window.rounds h.blocked h.scratch };
+    ghost invariant = { λ h. PartsFit (configuration_of h.window) h.window.rounds
+        h.blocked h.scratch };
 }
 
 impl<D: Device> Hub<D> {
@@ -74,21 +76,23 @@ impl<D: Device> Hub<D> {
         self.window.whole();
     }
 
-    /// The lineage table of the window. It has at most one access of each run on a device, under the weak model none, and
-    /// outside it it represents the configuration.
+    /// The lineage table of the window. It has at most one access of each run on a device, under
+    /// the weak model none, and outside it it represents the configuration.
     pub fn table(&self) -> &Table
-        ensures represents { is_weak self.now.setting.mode ≡ false → Represents self.now.setting (read_of (configuration_of self.now)) (configuration_of self.now).grips result.now }
+        ensures represents { is_weak self.now.setting.mode ≡ false → Represents self.now.setting
+            (read_of (configuration_of self.now)) (configuration_of self.now).grips result.now }
         ensures few { (d : ℕ) → length (accesses_at result.now d) ≤ length self.now.setting.runs }
         ensures disciplined { (d : ℕ) → IsDisciplined (accesses_at result.now d) }
-        ensures bare { is_weak self.now.setting.mode ≡ true → (d : ℕ) → accesses_at result.now d ≡ [] }
+        ensures bare { is_weak self.now.setting.mode ≡ true
+            → (d : ℕ) → accesses_at result.now d ≡ [] }
     {
         let window = &self.window;
         window.order.table.kept();
         &window.order.table
     }
 
-    /// Whether the run is known to wait, at every moment, until another actor makes a step that may free it. Looks at
-    /// one bit. A run of which it is not known may wait too.
+    /// Whether the run is known to wait, at every moment, until another actor makes a step that may
+    /// free it. Looks at one bit. A run of which it is not known may wait too.
     pub fn is_blocked(&self, r: RunNo) -> bool
         ensures { IsTrue result → IsBlocked (configuration_of self.now) r.0 }
     {
@@ -102,8 +106,9 @@ impl<D: Device> Hub<D> {
         self.blocked.marked()
     }
 
-    /// How many items of the line are final: those before the first live run, all where none is live. They stay in their
-    /// order, whatever comes, and outside the weak model the order of the window's record begins with them.
+    /// How many items of the line are final: those before the first live run, all where none is
+    /// live. They stay in their order, whatever comes, and outside the weak model the order of the
+    /// window's record begins with them.
     pub fn sealed(&self) -> u32
         ensures { result ≡ sealed_of self.now.setting (entries_of self.now.history) }
     {
@@ -111,9 +116,12 @@ impl<D: Device> Hub<D> {
         window.order.line.sealed()
     }
 
-    /// The item at this place of the line, counted from 0, where it is final. `None` from `sealed` on.
+    /// The item at this place of the line, counted from 0, where it is final. `None` from `sealed`
+    /// on.
     pub fn final_item(&self, at: u32) -> Option<Item>
-        ensures { result ≡ slice_get (take (sealed_of self.now.setting (entries_of self.now.history)) (line_of self.now.setting (entries_of self.now.history))) at }
+        ensures { result
+            ≡ slice_get (take (sealed_of self.now.setting (entries_of self.now.history))
+            (line_of self.now.setting (entries_of self.now.history))) at }
     {
         let window = &self.window;
         if at < window.order.line.sealed() {
@@ -130,9 +138,11 @@ impl<D: Device> Hub<D> {
         self.window.moment
     }
 
-    /// Whether nothing was done in the window: no entry, the last moment 0, no device out and no probe taken.
+    /// Whether nothing was done in the window: no entry, the last moment 0, no device out and no
+    /// probe taken.
     pub fn fresh(&self) -> bool
-        ensures { IsTrue result ↔ (configuration_of self.now ≡ opened self.now.setting self.now.rounds) }
+        ensures { IsTrue result
+            ↔ (configuration_of self.now ≡ opened self.now.setting self.now.rounds) }
     {
         let window = &self.window;
         if window.history.len() != 0 {
@@ -154,7 +164,8 @@ impl<D: Device> Hub<D> {
         self.window.away.known(d).probes_left as u64
     }
 
-    /// Why the window cannot be closed: the smallest run that has not ended, else the smallest device that is out.
+    /// Why the window cannot be closed: the smallest run that has not ended, else the smallest
+    /// device that is out.
     pub fn quiet(&self) -> Option<NotQuiet>
         ensures { result ≡ not_quiet (configuration_of self.now) }
     {
@@ -182,8 +193,8 @@ impl<D: Device> Hub<D> {
         self.window.history.device_count()
     }
 
-    /// By how many ms a replay's moment rises with the command for which the device is out. 0 where it is home, or out
-    /// for an undo or a probe.
+    /// By how many ms a replay's moment rises with the command for which the device is out. 0 where
+    /// it is home, or out for an undo or a probe.
     pub fn takes(&self, d: DeviceNo) -> u32
         ensures { result ≡ grip_takes self.now.setting ((configuration_of self.now).grips d.0) }
     {
@@ -199,14 +210,18 @@ impl<D: Device> Hub<D> {
 
     /// Closes the window, and gives the home and the window's record.
     ///
-    /// Refused where `quiet` tells why: the hub comes back as it is. Takes no memory. Outside the weak model the order of the
-    /// record begins with the items that were final at each point of the window.
+    /// Refused where `quiet` tells why: the hub comes back as it is. Takes no memory. Outside the
+    /// weak model the order of the record begins with the items that were final at each point of
+    /// the window.
     pub fn close_window(self) -> Result<(Home<D>, WindowRecord), (Hub<D>, NotQuiet)>
-        ensures closed { IfOk result (λ closed. WindowIsClosed D.turns D.probes D.faults self closed.0 closed.1) }
-        ensures sealed { IfOk result (λ closed. is_weak self.setting.mode ≡ false → BeginsWithSealed self.setting (history_of closed.1) closed.1.order.items) }
+        ensures closed { IfOk result
+            (λ closed. WindowIsClosed D.turns D.probes D.faults self closed.0 closed.1) }
+        ensures sealed { IfOk result (λ closed. is_weak self.setting.mode ≡ false
+            → BeginsWithSealed self.setting (history_of closed.1) closed.1.order.items) }
         ensures quiet { IfOk result (λ closed. not_quiet (configuration_of self) ≡ None) }
         ensures same { IfErr result (λ refused. refused.0 ≡ self) }
-        ensures refused { IfErr result (λ refused. not_quiet (configuration_of self) ≡ Some refused.1) }
+        ensures refused { IfErr result
+            (λ refused. not_quiet (configuration_of self) ≡ Some refused.1) }
     {
         let Hub {
             window,

@@ -12,7 +12,8 @@ use window_order::Purpose;
 pub struct RunProgress {
     /// The moment when it arrived, in ms.
     pub arrived: Option<u64>,
-    /// The stamp of its placement: how many entries the history had. A run that was placed later has a greater one.
+    /// The stamp of its placement: how many entries the history had. A run that was placed later
+    /// has a greater one.
     pub placed: Option<u64>,
     /// How many of its commands are answered.
     pub answered: u32,
@@ -39,8 +40,8 @@ pub struct Events {
 }
 
 impl Events {
-    /// The same with what the device told of its task: one that was counted up, and died, has failed, and one that was counted
-    /// down, and answered, is back.
+    /// The same with what the device told of its task: one that was counted up, and died, has
+    /// failed, and one that was counted down, and answered, is back.
     #[inline(always)]
     pub(crate) fn after(self, task: Task, told: Told) -> Events
         requires fell { self.fell + 1 < 2 ^ 32 }

@@ -1,4 +1,5 @@
-//! Leases on the device of a run's next command: the run is their lender, which asks for the device.
+//! Leases on the device of a run's next command: the run is their lender, which asks for the
+//! device.
 ghost use Rattle.std.specs.Prelude.{◌≡◌, Some, false};
 ghost use Rattle.history_book.specs.Settings.{is_weak};
 ghost use Rattle.hub_core.specs.BlockedRuns.{NeverRevokes, next_device};
@@ -13,13 +14,15 @@ use home_types::{DeviceNo, RunNo, Scheduler};
 use lock_leasing::{lends, overdue};
 
 impl<D: Device> OpenWindow<D> {
-    /// The run whose lease on the device is overdue for `r` at this moment, in ms, and its deadline. Where runs are served as
-    /// they come none is, since each was placed before those behind it.
+    /// The run whose lease on the device is overdue for `r` at this moment, in ms, and its
+    /// deadline. Where runs are served as they come none is, since each was placed before those
+    /// behind it.
     #[inline(always)]
     pub(crate) fn overdue_lease(&self, r: RunNo, d: DeviceNo, moment: u64) -> Option<(RunNo, u64)>
         requires strong { is_weak self.now.setting.mode ≡ false }
         requires turn { IsAsking (configuration_of self.now) r.0 d.0 }
-        ensures { result ≡ overdue_lease self.now.setting (read_of (configuration_of self.now)) (configuration_of self.now).grips r.0 d.0 moment }
+        ensures { result ≡ overdue_lease self.now.setting (read_of (configuration_of self.now))
+            (configuration_of self.now).grips r.0 d.0 moment }
     {
         match self.history.scheduler() {
             Scheduler::Fcfs => None,

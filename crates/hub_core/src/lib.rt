@@ -1,4 +1,5 @@
-// The hub of a home: its windows, the steps in them, and what has to be believed of a window and of a day.
+// The hub of a home: its windows, the steps in them, and what has to be believed of a window and of
+// a day.
 #![tactic(auto)]
 
 mod away;

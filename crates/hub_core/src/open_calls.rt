@@ -73,10 +73,11 @@ struct Bounds {
 }
 
 impl<D: Device> Home<D> {
-    /// Opens a window of these runs on the home: its history is empty, and the home's state is its first one.
+    /// Opens a window of these runs on the home: its history is empty, and the home's state is its
+    /// first one.
     ///
-    /// Takes all memory of the window. Answers `NoMemory` where there is none to be had: the home comes back as it is,
-    /// and the roster is dropped.
+    /// Takes all memory of the window. Answers `NoMemory` where there is none to be had: the home
+    /// comes back as it is, and the roster is dropped.
     pub fn open_window(
         self,
         alloc: Global,
@@ -85,7 +86,8 @@ impl<D: Device> Home<D> {
         rounds: u32,
     ) -> Result<Hub<D>, (Home<D>, NoMemory)>
         requires may { MayOpen (setting_for self roster mode) rounds self.opened }
-        ensures opened { IfOk result (λ hub. IsOpened D.turns D.probes D.faults (setting_for self roster mode) rounds self hub) }
+        ensures opened { IfOk result (λ hub. IsOpened D.turns D.probes D.faults
+            (setting_for self roster mode) rounds self hub) }
         ensures refused { IfErr result (λ refused. refused.0 ≡ self) }
     {
         let Ok(room) = self.room(alloc, &roster, rounds) else {
@@ -127,7 +129,8 @@ impl<D: Device> Home<D> {
         }
     }
 
-    /// Puts the devices behind a gate. Where there is no memory for it the home comes back as it is.
+    /// Puts the devices behind a gate. Where there is no memory for it the home comes back as it
+    /// is.
     fn behind_gate(self, alloc: Global) -> Result<GatedHome<D>, Home<D>>
         ensures kinds { IfOk result (λ home. home.kinds.items ≡ self.kinds) }
         ensures world { IfOk result (λ home. home.world.devices.items ≡ self.world) }
@@ -165,13 +168,24 @@ impl<D: Device> Home<D> {
         requires runs { FitsIndex (runs_of roster.now) }
         requires devices { length self.now.world ≤ most_devices }
         requires rounds { rounds ≤ most_probes }
-        ensures history { IfOk result (λ room. IsHistoryRoom (most_entries (length roster.now.runs.items) (length self.now.world) rounds) (length roster.now.runs.items) room.state.history.book room.state.history.progress.items) }
-        ensures order { IfOk result (λ room. IsOrderRoom (most_items (length roster.now.runs.items) (length self.now.world) rounds) (runs_of roster.now) self.now.world room.state.order.line room.state.order.table) }
-        ensures devices { IfOk result (λ room. AreKnown D.turns D.probes D.faults self.now rounds (length self.now.devices) room.state.devices.items) }
-        ensures hands { IfOk result (λ room. room.state.hands.items ≡ replicate (length roster.now.runs.items) None) }
-        ensures closing { IfOk result (λ room. IsClosingRoom (most_items (length roster.now.runs.items) (length self.now.world) rounds) (length self.now.devices) room.closing) }
+        ensures history { IfOk result (λ room. IsHistoryRoom
+            (most_entries (length roster.now.runs.items) (length self.now.world) rounds)
+            (length roster.now.runs.items) room.state.history.book
+            room.state.history.progress.items) }
+        ensures order { IfOk result (λ room.
+            IsOrderRoom (most_items (length roster.now.runs.items) (length self.now.world) rounds)
+            (runs_of roster.now) self.now.world room.state.order.line room.state.order.table) }
+        ensures devices { IfOk result (λ room. AreKnown D.turns D.probes D.faults self.now rounds
+            (length self.now.devices) room.state.devices.items) }
+        ensures hands { IfOk result
+            (λ room. room.state.hands.items ≡ replicate (length roster.now.runs.items) None) }
+        ensures closing { IfOk result (λ room.
+            IsClosingRoom (most_items (length roster.now.runs.items) (length self.now.world) rounds)
+            (length self.now.devices) room.closing) }
         ensures blocked { IfOk result (λ room. NoneMarked room.blocked) }
-        ensures scratch { IfOk result (λ room. IsScratchFor (length self.now.world) (most_items (length roster.now.runs.items) (length self.now.world) rounds) room.scratch) }
+        ensures scratch { IfOk result (λ room. IsScratchFor (length self.now.world)
+            (most_items (length roster.now.runs.items) (length self.now.world) rounds)
+            room.scratch) }
     {
         let bounds = bounds_of(roster.runs.len(), self.world.devices.len(), rounds);
         let state = self.state_room(alloc, roster, rounds, bounds)?;
@@ -208,7 +222,8 @@ impl<D: Device> Home<D> {
         })
     }
 
-    /// Takes the memory of what a window of these runs keeps of them and of the devices, within these bounds.
+    /// Takes the memory of what a window of these runs keeps of them and of the devices, within
+    /// these bounds.
     fn state_room(
         &self,
         alloc: Global,
@@ -220,10 +235,14 @@ impl<D: Device> Home<D> {
         requires runs { FitsIndex (runs_of roster.now) }
         requires devices { length self.now.world ≤ most_devices }
         requires items { bounds.items < 2 ^ 32 }
-        ensures history { IfOk result (λ state. IsHistoryRoom bounds.entries (length roster.now.runs.items) state.history.book state.history.progress.items) }
-        ensures order { IfOk result (λ state. IsOrderRoom bounds.items (runs_of roster.now) self.now.world state.order.line state.order.table) }
-        ensures devices { IfOk result (λ state. AreKnown D.turns D.probes D.faults self.now rounds (length self.now.devices) state.devices.items) }
-        ensures hands { IfOk result (λ state. state.hands.items ≡ replicate (length roster.now.runs.items) None) }
+        ensures history { IfOk result (λ state. IsHistoryRoom bounds.entries
+            (length roster.now.runs.items) state.history.book state.history.progress.items) }
+        ensures order { IfOk result (λ state. IsOrderRoom bounds.items
+            (runs_of roster.now) self.now.world state.order.line state.order.table) }
+        ensures devices { IfOk result (λ state. AreKnown D.turns D.probes D.faults self.now rounds
+            (length self.now.devices) state.devices.items) }
+        ensures hands { IfOk result
+            (λ state. state.hands.items ≡ replicate (length roster.now.runs.items) None) }
     {
         let runs = roster.runs.len();
         let history = history_room(alloc, bounds.entries, runs)?;
@@ -261,7 +280,8 @@ impl<D: Device> Home<D> {
 
     /// What is known of each device as the window opens.
     fn known_devices(&self, alloc: Global, rounds: u32) -> Result<List<DeviceProgress>, NoMemory>
-        ensures { IfOk result (λ known. AreKnown D.turns D.probes D.faults self.now rounds (length self.now.devices) known.items) }
+        ensures { IfOk result (λ known. AreKnown D.turns D.probes D.faults self.now rounds
+            (length self.now.devices) known.items) }
     {
         let mut known = roomy_list(alloc, self.devices.len())?;
         'devices: for at in 0..self.devices.len() {
@@ -273,7 +293,9 @@ impl<D: Device> Home<D> {
     /// What is known of the device as the window opens.
     fn known_device(&self, at: u64, rounds: u32) -> DeviceProgress
         requires { at < length self.now.devices }
-        ensures { (device : D) → slice_get self.now.devices at ≡ Some device → result ≡ known_first rounds (stand_at self.now.world at).value (D.turns device) (D.probes device) (D.faults device) }
+        ensures { (device : D) → slice_get self.now.devices at ≡ Some device
+            → result ≡ known_first rounds (stand_at self.now.world at).value (D.turns device)
+            (D.probes device) (D.faults device) }
     {
         let device = self.devices.get(at).unwrap();
         let stand = self.world.devices.get(at).unwrap();
@@ -301,7 +323,12 @@ fn empty_history(
 ) -> ReadHistory
     requires no_entry { room.book.items ≡ [] }
     requires nothing_done { room.progress.items ≡ replicate (length roster.runs.items) no_progress }
-    ensures setting { result.setting ≡ record { runs = runs_of roster; mode = mode; kinds = kinds.items; first = first.devices.items } }
+    ensures setting { result.setting ≡ record {
+      runs = runs_of roster;
+      mode = mode;
+      kinds = kinds.items;
+      first = first.devices.items;
+    } }
     ensures history { result.history ≡ [] }
     ensures spare { result.spare ≡ room.book.spare }
 {
@@ -316,7 +343,8 @@ fn empty_history(
     }
 }
 
-/// The bounds of a window of so many runs, on a home of so many devices, with so many rounds of probes.
+/// The bounds of a window of so many runs, on a home of so many devices, with so many rounds of
+/// probes.
 fn bounds_of(runs: u64, devices: u64, rounds: u32) -> Bounds
     requires runs { runs ≤ most_runs }
     requires devices { devices ≤ most_devices }

@@ -21,7 +21,8 @@ use lock_leasing::Standing;
 use std::marker::Model;
 use window_order::{KeptOrder, Purpose};
 
-/// The lists that closing a window fills: empty, each with room for every device, but for the order.
+/// The lists that closing a window fills: empty, each with room for every device, but for the
+/// order.
 #[derive(Drop)]
 pub(crate) struct ClosingLists {
     /// For the order of the record, with room for each item that the line may have.
@@ -36,8 +37,8 @@ pub(crate) struct ClosingLists {
 
 /// The parts of an open window, and its steps; a hub is this with the runs that are blocked.
 ///
-/// Contracts see what is fixed, its history, its last moment, what it knows of each device, and the places of the
-/// devices. The type keeps that these agree.
+/// Contracts see what is fixed, its history, its last moment, what it knows of each device, and the
+/// places of the devices. The type keeps that these agree.
 #[derive(Drop)]
 pub(crate) struct OpenWindow<D: Device> {
     pub(crate) history: ReadHistory,
@@ -78,7 +79,8 @@ impl<D: Device> OpenWindow<D> {
     /// Table, line, history and roster of the window, outside the weak model.
     pub(crate) fn standing(&self) -> Standing<'_>
         requires strong { is_weak self.now.setting.mode ≡ false }
-        ensures { IsStandingOf (configuration_of self.now) result.table.now result.line.now.marks result.book.now.items (runs_of result.roster.now) }
+        ensures { IsStandingOf (configuration_of self.now) result.table.now result.line.now.marks
+            result.book.now.items (runs_of result.roster.now) }
     {
         self.order.table.kept();
         Standing {
@@ -126,13 +128,15 @@ impl<D: Device> OpenWindow<D> {
 
     /// Whether no probe of a device was taken.
     pub(crate) fn has_all_probes(&self) -> bool
-        ensures { IsTrue result ↔ ((d : ℕ) → d < length self.now.devices → (progress_at self.now.devices d).probes_left ≡ self.now.rounds) }
+        ensures { IsTrue result ↔ ((d : ℕ) → d < length self.now.devices
+            → (progress_at self.now.devices d).probes_left ≡ self.now.rounds) }
     {
         let known = self.away.known.as_slice();
         known.iter().all(|device| device.probes_left == self.rounds)
     }
 
-    /// Why the window cannot be closed: the smallest run that has not ended, else the smallest device that is out.
+    /// Why the window cannot be closed: the smallest run that has not ended, else the smallest
+    /// device that is out.
     pub(crate) fn quiet(&self) -> Option<NotQuiet>
         ensures { result ≡ not_quiet (configuration_of self.now) }
     {
@@ -159,7 +163,8 @@ impl<D: Device> OpenWindow<D> {
         }
     }
 
-    /// The device of the run's next command, where the run is at one: it is live, not doomed, and holds no grip.
+    /// The device of the run's next command, where the run is at one: it is live, not doomed, and
+    /// holds no grip.
     #[inline(always)]
     pub(crate) fn next_device(&self, r: RunNo) -> Option<DeviceNo>
         ensures { option_map (λ d. d.0) result ≡ next_device (configuration_of self.now) r.0 }
@@ -186,8 +191,8 @@ impl<D: Device> OpenWindow<D> {
         self.history.device_of(r, k)
     }
 
-    /// Whether the run, whose last answered command is the one with the number `k`, on this device, holds the device
-    /// still: it is not doomed and has a later command there.
+    /// Whether the run, whose last answered command is the one with the number `k`, on this device,
+    /// holds the device still: it is not doomed and has a later command there.
     #[inline(always)]
     pub(crate) fn holds_still(&self, r: RunNo, k: u32, d: DeviceNo) -> bool
         ensures { IsTrue result → HoldsStill (configuration_of self.now) r.0 k d.0 }

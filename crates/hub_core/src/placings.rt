@@ -21,9 +21,10 @@ use lock_leasing::Standing;
 use timeline_scheduler::{Scratch, place as least_place};
 
 impl<D: Device> OpenWindow<D> {
-    /// What the run `r` is to do at this moment, which arrived at that one, both in ms, and is not placed: it waits for the run
-    /// that it follows, and is then placed. Where that is by the timeline, the scratch then holds the set of items that stand
-    /// before it, and the planned times.
+    /// What the run `r` is to do at this moment, which arrived at that one, both in ms, and is not
+    /// placed: it waits for the run that it follows, and is then placed. Where that is by the
+    /// timeline, the scratch then holds the set of items that stand before it, and the planned
+    /// times.
     pub(crate) fn decide_arrived(
         &self,
         r: RunNo,
@@ -34,7 +35,8 @@ impl<D: Device> OpenWindow<D> {
         requires run { IsTrue (is_run self.now.setting.runs r.0) }
         requires turn { IsToBePlaced (read_of (configuration_of self.now)) r.0 arrived }
         requires scratch { IsForHome self.now.setting self.now.rounds scratch.old }
-        ensures choice { told_choice r.0 moment result ≡ decide_arrived self.now.setting (read_of (configuration_of self.now)) (configuration_of self.now).grips r.0 moment }
+        ensures choice { told_choice r.0 moment result ≡ decide_arrived self.now.setting
+            (read_of (configuration_of self.now)) (configuration_of self.now).grips r.0 moment }
         ensures planned { HoldsChosen scratch.new (configuration_of self.now) r.0 moment result }
         ensures size { HasSameRoom scratch.old scratch.new }
     {
@@ -49,7 +51,9 @@ impl<D: Device> OpenWindow<D> {
         requires run { IsTrue (is_run self.now.setting.runs r.0) }
         requires turn { IsToBePlaced (read_of (configuration_of self.now)) r.0 arrived }
         requires scratch { IsForHome self.now.setting self.now.rounds scratch.old }
-        ensures choice { told_choice r.0 moment result ≡ place_choice r.0 moment (scheduled_place self.now.setting (read_of (configuration_of self.now)) (configuration_of self.now).grips r.0 moment) }
+        ensures choice { told_choice r.0 moment result
+            ≡ place_choice r.0 moment (scheduled_place self.now.setting
+            (read_of (configuration_of self.now)) (configuration_of self.now).grips r.0 moment) }
         ensures planned { HoldsChosen scratch.new (configuration_of self.now) r.0 moment result }
         ensures size { HasSameRoom scratch.old scratch.new }
     {
@@ -68,7 +72,9 @@ impl<D: Device> OpenWindow<D> {
         requires strong { is_weak self.now.setting.mode ≡ false }
         requires run { IsTrue (is_run self.now.setting.runs r.0) }
         requires turn { IsToBePlaced (read_of (configuration_of self.now)) r.0 arrived }
-        ensures { told_choice r.0 moment result ≡ place_choice r.0 moment (just_in_time self.now.setting (read_of (configuration_of self.now)) (configuration_of self.now).grips r.0 moment) }
+        ensures { told_choice r.0 moment result
+            ≡ place_choice r.0 moment (just_in_time self.now.setting
+            (read_of (configuration_of self.now)) (configuration_of self.now).grips r.0 moment) }
     {
         match admit(&self.standing(), r, arrived, moment) {
             Admit::At(place) => Chosen::Joins(place),

@@ -18,8 +18,9 @@ use timeline_scheduler::Scratch;
 use window_order::PlannedUse;
 
 impl ReadHistory {
-    /// For how long the run, which is placed at this moment, in ms, is planned to use each of the 256 devices that a home
-    /// may have: where it is placed by the timeline, as the scratch holds it. `None` where it has no command.
+    /// For how long the run, which is placed at this moment, in ms, is planned to use each of the
+    /// 256 devices that a home may have: where it is placed by the timeline, as the scratch holds
+    /// it. `None` where it has no command.
     pub(crate) fn planned_uses(
         &self,
         r: RunNo,
@@ -27,8 +28,12 @@ impl ReadHistory {
         scratch: &Scratch,
     ) -> [Option<PlannedUse>; 256]
         requires run { IsTrue (is_run self.now.setting.runs r.0) }
-        requires homed { All (λ c. c.device.0 < most_devices) (commands_of self.now.setting.runs r.0) }
-        ensures { (front : List Item) → (scheduler_of self.now.setting.mode ≡ Timeline → HoldsTimes scratch.now.slots (planned_times self.now.setting (read_in self.now) r.0 front moment)) → AreUsesOf result (planned_times self.now.setting (read_in self.now) r.0 front moment) }
+        requires homed { All (λ c. c.device.0 < most_devices)
+            (commands_of self.now.setting.runs r.0) }
+        ensures { (front : List Item)
+            → (scheduler_of self.now.setting.mode ≡ Timeline → HoldsTimes scratch.now.slots
+            (planned_times self.now.setting (read_in self.now) r.0 front moment)) → AreUsesOf result
+            (planned_times self.now.setting (read_in self.now) r.0 front moment) }
     {
         let commands = self.roster().commands(r);
         match self.scheduler() {
@@ -38,11 +43,12 @@ impl ReadHistory {
     }
 }
 
-/// For how long a run with these commands is planned to use each device, where it waits for none: the commands follow one
-/// another from this moment on, in ms.
+/// For how long a run with these commands is planned to use each device, where it waits for none:
+/// the commands follow one another from this moment on, in ms.
 fn uses_in_turn(commands: &[Command], moment: u64) -> [Option<PlannedUse>; 256]
     requires { All (λ c. c.device.0 < most_devices) commands.now }
-    ensures { (d : ℕ) → d < most_devices → slice_get result d ≡ Some (planned_use (planned_in_turn moment commands.now) d) }
+    ensures { (d : ℕ) → d < most_devices
+        → slice_get result d ≡ Some (planned_use (planned_in_turn moment commands.now) d) }
 {
     let mut uses = [None; 256];
     let mut clock = moment;
@@ -71,7 +77,8 @@ fn used_again(used: Option<PlannedUse>, from: u64, to: u64) -> PlannedUse
 /// For how long a run with these commands is planned to use each device, as the scratch holds it.
 fn uses_held(commands: &[Command], scratch: &Scratch) -> [Option<PlannedUse>; 256]
     requires { All (λ c. c.device.0 < most_devices) commands.now }
-    ensures { (d : ℕ) → d < most_devices → slice_get result d ≡ Some (held_use scratch.now.slots commands.now d) }
+    ensures { (d : ℕ) → d < most_devices
+        → slice_get result d ≡ Some (held_use scratch.now.slots commands.now d) }
 {
     let mut uses = [None; 256];
     'commands: for command in commands {

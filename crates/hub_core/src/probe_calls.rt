@@ -19,10 +19,11 @@ use home_types::{DeviceNo, Value};
 use window_order::Purpose;
 
 impl<D: Device> OpenWindow<D> {
-    /// Hands out a probe of the device: none where it is out or no device of the home, or no probe of it is left.
+    /// Hands out a probe of the device: none where it is out or no device of the home, or no probe
+    /// of it is left.
     ///
-    /// Where the device is counted down, and answers the probe, the grip drives it to the value at which it should stand.
-    /// Takes no memory.
+    /// Where the device is counted down, and answers the probe, the grip drives it to the value at
+    /// which it should stand. Takes no memory.
     pub(crate) fn take_probe(&mut self, d: DeviceNo) -> Option<Grip<D, Ready>>
         ensures probed { IsProbed self.old d.0 result self.new }
         ensures window { SameWindow self.old self.new }
@@ -36,10 +37,10 @@ impl<D: Device> OpenWindow<D> {
 
     /// Takes the device of the detector's grip home.
     ///
-    /// Answers the entries that it makes: a device that was counted up, and did not answer, has failed, and the run is
-    /// doomed that sees it up and is not done with it; one that was counted down, and answered, is back. A grip that is not
-    /// the one with which its device is out, or that is a run's, comes back with a `Stranger`, and nothing changes. Takes no
-    /// memory.
+    /// Answers the entries that it makes: a device that was counted up, and did not answer, has
+    /// failed, and the run is doomed that sees it up and is not done with it; one that was counted
+    /// down, and answered, is back. A grip that is not the one with which its device is out, or
+    /// that is a run's, comes back with a `Stranger`, and nothing changes. Takes no memory.
     pub(crate) fn give_probe(
         &mut self,
         grip: Grip<D, Done>,
@@ -77,7 +78,8 @@ impl<D: Device> OpenWindow<D> {
         self.away.send(d, 0, sent, Task::Probe(value))
     }
 
-    /// The value that a probe of the device restores: where it is counted down, the one at which it should stand.
+    /// The value that a probe of the device restores: where it is counted down, the one at which it
+    /// should stand.
     fn restored(&self, d: DeviceNo) -> Option<Value>
         requires { is_device self.now.setting d.0 ≡ true }
         ensures { result ≡ restored (configuration_of self.now) d.0 }
@@ -110,11 +112,13 @@ impl<D: Device> OpenWindow<D> {
         }
     }
 
-    /// The probe finds the device as it is counted: it answers and is counted up, or it does not and is counted down.
+    /// The probe finds the device as it is counted: it answers and is counted up, or it does not
+    /// and is counted down.
     fn find_same(&mut self, grip: Grip<D, Done>) -> Made
         requires kept { IsKept self.old.places grip.slip grip.task }
         requires maker { grip.slip.maker ≡ 0 }
-        requires same { (read_of (configuration_of self.old)).up grip.slip.device.0 ≡ not (has_died grip.stage.told) }
+        requires same { (read_of (configuration_of self.old)).up grip.slip.device.0
+            ≡ not (has_died grip.stage.told) }
         ensures given { IsProbeGiven self.old grip (Ok result) self.new }
         ensures window { SameWindow self.old self.new }
     {

@@ -17,7 +17,8 @@ use home_types::{
 };
 use std::marker::Model;
 
-/// The history of a window, with the progress of each run kept beside it, so that no step reads it anew.
+/// The history of a window, with the progress of each run kept beside it, so that no step reads it
+/// anew.
 ///
 /// Contracts see what is fixed, the entries, and how many more it takes with no memory.
 #[derive(Drop)]
@@ -37,13 +38,23 @@ impl Model for ReadHistory {
     ghost Value = { HistoryState };
 
     ghost view = { λ h. record {
-      setting = record { runs = runs_of h.roster; mode = h.mode; kinds = h.kinds.items; first = h.first.devices.items };
+      setting = record {
+        runs = runs_of h.roster;
+        mode = h.mode;
+        kinds = h.kinds.items;
+        first = h.first.devices.items;
+      };
       history = h.book.items;
       spare = h.book.spare;
     } };
 
     ghost invariant = { λ h. IsReadBeside (record {
-      setting = record { runs = runs_of h.roster; mode = h.mode; kinds = h.kinds.items; first = h.first.devices.items };
+      setting = record {
+        runs = runs_of h.roster;
+        mode = h.mode;
+        kinds = h.kinds.items;
+        first = h.first.devices.items;
+      };
       history = h.book.items;
       spare = h.book.spare;
     }) h.progress.items };
@@ -91,7 +102,8 @@ impl ReadHistory {
     /// The run that `r` follows, where that has not ended.
     pub(crate) fn awaited_leader(&self, r: RunNo) -> Option<RunNo>
         requires run { IsTrue (is_run self.now.setting.runs r.0) }
-        requires leader { IfSome (followed_by self.now.setting.runs r.0) (λ f. IsTrue (is_run self.now.setting.runs f.0)) }
+        requires leader { IfSome (followed_by self.now.setting.runs r.0)
+            (λ f. IsTrue (is_run self.now.setting.runs f.0)) }
         ensures { result ≡ follow_wait self.now.setting (read_in self.now) r.0 }
     {
         let leader = self.roster().followed_by(r)?;
@@ -179,7 +191,8 @@ impl ReadHistory {
 
     /// The device of the run's command with the number `k`; none where there is no such command.
     pub(crate) fn device_of(&self, r: RunNo, k: u32) -> Option<DeviceNo>
-        ensures there { IfSome result (λ d. IsTrue (is_run self.now.setting.runs r.0) × (k < length (commands_of self.now.setting.runs r.0))) }
+        ensures there { IfSome result (λ d. IsTrue (is_run self.now.setting.runs r.0)
+            × (k < length (commands_of self.now.setting.runs r.0))) }
         ensures device { IfSome result (λ d. d ≡ (command_at self.now.setting.runs r.0 k).device) }
     {
         if !self.has_run(r) {
@@ -194,7 +207,8 @@ impl ReadHistory {
     /// Whether the run is live and not doomed.
     pub(crate) fn is_going(&self, r: RunNo) -> bool
         requires run { IsTrue (is_run self.now.setting.runs r.0) }
-        ensures { result ≡ (is_live (read_in self.now) r.0 && not (is_doomed (read_in self.now) r.0)) }
+        ensures { result
+            ≡ (is_live (read_in self.now) r.0 && not (is_doomed (read_in self.now) r.0)) }
     {
         let progress = self.progress(r);
         progress.placed.is_some() && progress.ended.is_none() && progress.doomed.is_none()
@@ -210,21 +224,22 @@ impl ReadHistory {
         }
     }
 
-    /// Whether the run is done with the device, on which its last answered command is, the one with the number `k`: it is
-    /// doomed, or has no later command there.
+    /// Whether the run is done with the device, on which its last answered command is, the one with
+    /// the number `k`: it is doomed, or has no later command there.
     #[inline(always)]
     pub(crate) fn is_done(&self, r: RunNo, k: u32, d: DeviceNo) -> bool
         requires run { IsTrue (is_run self.now.setting.runs r.0) }
         requires there { k < length (commands_of self.now.setting.runs r.0) }
         requires device { (command_at self.now.setting.runs r.0 k).device.0 ≡ d.0 }
         requires answered { next_of (read_in self.now) r.0 ≡ k + 1 }
-        ensures { result ≡ (is_doomed (read_in self.now) r.0 || not (pends self.now.setting (read_in self.now) r.0 d.0)) }
+        ensures { result ≡ (is_doomed (read_in self.now) r.0
+            || not (pends self.now.setting (read_in self.now) r.0 d.0)) }
     {
         self.progress(r).doomed.is_some() || self.roster.is_last(r, k)
     }
 
-    /// For what the run is doomed with this answer to its command with the number `k`: a must `check` that found another
-    /// value. A run that is doomed already is not doomed again.
+    /// For what the run is doomed with this answer to its command with the number `k`: a must
+    /// `check` that found another value. A run that is doomed already is not doomed again.
     #[inline(always)]
     pub(crate) fn refuted(&self, r: RunNo, k: u32, answer: Answer) -> Option<Cause>
         requires run { IsTrue (is_run self.now.setting.runs r.0) }
@@ -244,12 +259,14 @@ impl ReadHistory {
         }
     }
 
-    /// For what the run is doomed whose command with the number `k` died, the first one on its device or a later one. A run
-    /// that is doomed already is not doomed again. Under the weak model a later one counts as a first one.
+    /// For what the run is doomed whose command with the number `k` died, the first one on its
+    /// device or a later one. A run that is doomed already is not doomed again. Under the weak
+    /// model a later one counts as a first one.
     pub(crate) fn died_by(&self, r: RunNo, k: u32, first: bool) -> Option<Cause>
         requires run { IsTrue (is_run self.now.setting.runs r.0) }
         requires there { k < length (commands_of self.now.setting.runs r.0) }
-        ensures { result ≡ died_by self.now.setting (read_in self.now) r.0 k (first || is_weak self.now.setting.mode) }
+        ensures { result ≡ died_by self.now.setting (read_in self.now) r.0 k
+            (first || is_weak self.now.setting.mode) }
     {
         if self.progress(r).doomed.is_some() {
             return None;
@@ -265,7 +282,8 @@ impl ReadHistory {
     /// The smallest run that has not ended.
     pub(crate) fn first_unended(&self) -> Option<RunNo>
         requires few { length self.now.setting.runs < 2 ^ 32 }
-        ensures { option_map (λ x. x.0) result ≡ find (λ r. is_none ((read_in self.now).run r).ended) (run_numbers self.now.setting) }
+        ensures { option_map (λ x. x.0) result
+            ≡ find (λ r. is_none ((read_in self.now).run r).ended) (run_numbers self.now.setting) }
     {
         'runs: for at in 0..self.progress.len() {
             if self.progress.get(at).unwrap().ended.is_none() {
@@ -408,7 +426,8 @@ impl ReadHistory {
         entry
     }
 
-    /// The run's write on the device is undone: a drive did it, or it is dropped. The progress of a run does not say so.
+    /// The run's write on the device is undone: a drive did it, or it is dropped. The progress of a
+    /// run does not say so.
     pub(crate) fn undo(&mut self, r: RunNo, d: DeviceNo, drove: bool) -> Entry
         requires run { IsTrue (is_run self.old.setting.runs r.0) }
         requires room { 0 < self.old.spare }

@@ -24,16 +24,19 @@ impl<D: Device> Home<D> {
         self.kinds.get(d.0 as u64).copied()
     }
 
-    /// Tells the home that the device was found up at this value, as somebody turned it by hand: the next window begins
-    /// from there. The device that stood for it is let go for one that stands at the value.
+    /// Tells the home that the device was found up at this value, as somebody turned it by hand:
+    /// the next window begins from there. The device that stood for it is let go for one that
+    /// stands at the value.
     ///
-    /// Asks that the value is one of its kind, and that the counts of the device are no higher than the windows allow.
+    /// Asks that the value is one of its kind, and that the counts of the device are no higher than
+    /// the windows allow.
     pub fn restand(&mut self, d: DeviceNo, device: D, value: Value)
         requires there { d.0 < length self.old.devices }
         requires value { IsTrue (has_value (kind_at self.old.kinds d.0) value) }
         requires stands { D.stands device ≡ value }
         requires tag { D.tag device ≡ d.0 }
-        requires counts { CountsAreLow self.old.opened (D.turns device) (D.probes device) (D.faults device) }
+        requires counts { CountsAreLow self.old.opened (D.turns device) (D.probes device)
+            (D.faults device) }
         ensures { self.new ≡ restood self.old d.0 device value }
     {
         self.world

@@ -1,4 +1,5 @@
-//! A home that goes on where another one has stopped: its devices are built anew, and driven to where they stood.
+//! A home that goes on where another one has stopped: its devices are built anew, and driven to
+//! where they stood.
 ghost use Rattle.std.specs.Prelude.{◌≡◌, ◌≤◌, IfOk, Some, [], length, slice_get, ℕ};
 ghost use Rattle.home_journal.specs.Journals.{IsStateOf};
 ghost use Rattle.home_types.specs.Limits.{most_devices};
@@ -15,14 +16,15 @@ use routine_reader::{DeviceText, Script};
 use std::alloc::Global;
 
 impl<D: Device> Home<D> {
-    /// Builds the home of the script on the bench, and has it go on in the state `world`, in which an earlier home of
-    /// the script has stopped.
+    /// Builds the home of the script on the bench, and has it go on in the state `world`, in which
+    /// an earlier home of the script has stopped.
     ///
-    /// Each device that is up in `world` is driven to its value, once: where it answers it is up, where it dies it is
-    /// counted down, at that value. A device that is down there stays down, and is not called; a probe of a later window
-    /// may bring it back.
+    /// Each device that is up in `world` is driven to its value, once: where it answers it is up,
+    /// where it dies it is counted down, at that value. A device that is down there stays down, and
+    /// is not called; a probe of a later window may bring it back.
     ///
-    /// Answers `NoMemory` where there is none to be had; some of the devices may have been driven by then.
+    /// Answers `NoMemory` where there is none to be had; some of the devices may have been driven
+    /// by then.
     pub fn resume<B: Bench<Dev = D>>(
         alloc: Global,
         bench: &mut B,
@@ -52,7 +54,8 @@ impl<D: Device> Home<D> {
     }
 }
 
-/// Builds the devices of the script on the bench, and resumes each. Answers them with the state of the home then.
+/// Builds the devices of the script on the bench, and resumes each. Answers them with the state of
+/// the home then.
 fn resume_devices<B: Bench>(
     alloc: Global,
     script: &Script,
@@ -78,7 +81,8 @@ fn resume_devices<B: Bench>(
     Ok((devices, World { devices: stands }))
 }
 
-/// Builds the device of this number, and drives it to where it stood if it was up there. Answers how it stands then.
+/// Builds the device of this number, and drives it to where it stood if it was up there. Answers
+/// how it stands then.
 fn resume_device<B: Bench>(
     alloc: Global,
     text: &DeviceText,

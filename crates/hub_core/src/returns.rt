@@ -43,7 +43,8 @@ impl<D: Device> OpenWindow<D> {
     fn answer(&mut self, grip: Grip<D, Done>, moment: u64, k: u32) -> Made
         requires kept { IsKept self.old.places grip.slip grip.task }
         requires maker { 0 < grip.slip.maker }
-        requires purpose { (progress_at self.old.devices grip.slip.device.0).purpose ≡ Purpose.Command k }
+        requires purpose { (progress_at self.old.devices grip.slip.device.0).purpose
+            ≡ Purpose.Command k }
         ensures given { IsGiven self.old grip moment (Ok result) self.new }
         ensures window { SameWindow self.old self.new }
     {
@@ -56,13 +57,14 @@ impl<D: Device> OpenWindow<D> {
         }
     }
 
-    /// The call of the run's command with the number `k` worked: the command is answered, and where it is a must `check`
-    /// that found another value the run is doomed.
+    /// The call of the run's command with the number `k` worked: the command is answered, and where
+    /// it is a must `check` that found another value the run is doomed.
     #[inline(always)]
     fn answer_lived(&mut self, grip: Grip<D, Done>, moment: u64, k: u32) -> Made
         requires kept { IsKept self.old.places grip.slip grip.task }
         requires maker { 0 < grip.slip.maker }
-        requires purpose { (progress_at self.old.devices grip.slip.device.0).purpose ≡ Purpose.Command k }
+        requires purpose { (progress_at self.old.devices grip.slip.device.0).purpose
+            ≡ Purpose.Command k }
         requires lives { has_died grip.stage.told ≡ false }
         ensures given { IsGiven self.old grip moment (Ok result) self.new }
         ensures window { SameWindow self.old self.new }
@@ -84,12 +86,13 @@ impl<D: Device> OpenWindow<D> {
         }
     }
 
-    /// The call of the run's command with the number `k` died: its device fails, the command is answered `Down`, and the
-    /// run is doomed where it cannot go on so.
+    /// The call of the run's command with the number `k` died: its device fails, the command is
+    /// answered `Down`, and the run is doomed where it cannot go on so.
     fn answer_died(&mut self, grip: Grip<D, Done>, moment: u64, k: u32) -> Made
         requires kept { IsKept self.old.places grip.slip grip.task }
         requires maker { 0 < grip.slip.maker }
-        requires purpose { (progress_at self.old.devices grip.slip.device.0).purpose ≡ Purpose.Command k }
+        requires purpose { (progress_at self.old.devices grip.slip.device.0).purpose
+            ≡ Purpose.Command k }
         requires died { has_died grip.stage.told ≡ true }
         ensures given { IsGiven self.old grip moment (Ok result) self.new }
         ensures window { SameWindow self.old self.new }
@@ -131,7 +134,8 @@ impl<D: Device> OpenWindow<D> {
     fn undo(&mut self, grip: Grip<D, Done>, moment: u64) -> Made
         requires kept { IsKept self.old.places grip.slip grip.task }
         requires maker { 0 < grip.slip.maker }
-        requires purpose { is_undo (purpose_of (progress_at self.old.devices grip.slip.device.0).purpose) ≡ true }
+        requires purpose { is_undo
+            (purpose_of (progress_at self.old.devices grip.slip.device.0).purpose) ≡ true }
         ensures given { IsGiven self.old grip moment (Ok result) self.new }
         ensures window { SameWindow self.old self.new }
     {
@@ -146,7 +150,8 @@ impl<D: Device> OpenWindow<D> {
     fn undo_lived(&mut self, grip: Grip<D, Done>, moment: u64) -> Made
         requires kept { IsKept self.old.places grip.slip grip.task }
         requires maker { 0 < grip.slip.maker }
-        requires purpose { is_undo (purpose_of (progress_at self.old.devices grip.slip.device.0).purpose) ≡ true }
+        requires purpose { is_undo
+            (purpose_of (progress_at self.old.devices grip.slip.device.0).purpose) ≡ true }
         requires lives { has_died grip.stage.told ≡ false }
         ensures given { IsGiven self.old grip moment (Ok result) self.new }
         ensures window { SameWindow self.old self.new }
@@ -161,7 +166,8 @@ impl<D: Device> OpenWindow<D> {
     fn undo_died(&mut self, grip: Grip<D, Done>, moment: u64) -> Made
         requires kept { IsKept self.old.places grip.slip grip.task }
         requires maker { 0 < grip.slip.maker }
-        requires purpose { is_undo (purpose_of (progress_at self.old.devices grip.slip.device.0).purpose) ≡ true }
+        requires purpose { is_undo
+            (purpose_of (progress_at self.old.devices grip.slip.device.0).purpose) ≡ true }
         requires died { has_died grip.stage.told ≡ true }
         ensures given { IsGiven self.old grip moment (Ok result) self.new }
         ensures window { SameWindow self.old self.new }

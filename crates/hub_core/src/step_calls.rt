@@ -1,5 +1,6 @@
-//! The four calls that make a step of a hub: the window's step, and then the marks. After each of them the items of the
-//! line that were final before stand first, in their order, and no fewer are final.
+//! The four calls that make a step of a hub: the window's step, and then the marks. After each of
+//! them the items of the line that were final before stand first, in their order, and no fewer are
+//! final.
 ghost use Rattle.std.specs.Prelude.{◌≡◌, max, ℕ};
 ghost use Rattle.history_book.specs.Sealed.{StaysSealed};
 ghost use Rattle.hub_core.specs.BlockedMarks.{AreBlocked};
@@ -26,14 +27,15 @@ use timeline_scheduler::Scratch;
 impl<D: Device> Hub<D> {
     /// Makes the step of the run `r` at this moment, in ms, or at the last one where that is later.
     ///
-    /// Answers what the run does: hands out a device, makes entries, waits, or is over. `Wait` and `Absent` change
-    /// nothing but the last moment. Takes no memory.
+    /// Answers what the run does: hands out a device, makes entries, waits, or is over. `Wait` and
+    /// `Absent` change nothing but the last moment. Takes no memory.
 
     #[inline(always)]
     pub fn take(&mut self, r: RunNo, moment: u64) -> Turn<D>
         ensures turn { IsTurn self.old r.0 moment result self.new }
         ensures earliest { PlansEarliest (configuration_of self.old) r.0 result }
-        ensures sealed { StaysSealed (read_of (configuration_of self.old)) (read_of (configuration_of self.new)) }
+        ensures sealed { StaysSealed (read_of (configuration_of self.old))
+            (read_of (configuration_of self.new)) }
         ensures window { SameWindow self.old self.new }
     {
         self.window.whole();
@@ -62,11 +64,13 @@ impl<D: Device> Hub<D> {
         }
     }
 
-    /// Takes the device of a run's grip home, at this moment, in ms, or at the last one where that is later.
+    /// Takes the device of a run's grip home, at this moment, in ms, or at the last one where that
+    /// is later.
     ///
-    /// Answers the entries that it makes: the command's answer, for a read with the value found, and the doom of a run whose
-    /// must `check` found another value; or that the run's write is undone. A grip that is not the one with which its device
-    /// is out, or that is the detector's, comes back with a `Stranger`, and nothing changes. Takes no memory.
+    /// Answers the entries that it makes: the command's answer, for a read with the value found,
+    /// and the doom of a run whose must `check` found another value; or that the run's write is
+    /// undone. A grip that is not the one with which its device is out, or that is the detector's,
+    /// comes back with a `Stranger`, and nothing changes. Takes no memory.
     #[tactic(auto, using(crate::proofs::calls::FinalItems::given_sealed))]
     #[inline(always)]
     pub fn give(
@@ -75,7 +79,8 @@ impl<D: Device> Hub<D> {
         moment: u64,
     ) -> Result<Made, (Grip<D, Done>, Stranger)>
         ensures given { IsGiven self.old grip moment result self.new }
-        ensures sealed { StaysSealed (read_of (configuration_of self.old)) (read_of (configuration_of self.new)) }
+        ensures sealed { StaysSealed (read_of (configuration_of self.old))
+            (read_of (configuration_of self.new)) }
         ensures window { SameWindow self.old self.new }
     {
         self.window.whole();
@@ -94,14 +99,16 @@ impl<D: Device> Hub<D> {
         }
     }
 
-    /// Hands out a probe of the device: none where it is out or no device of the home, or no probe of it is left.
+    /// Hands out a probe of the device: none where it is out or no device of the home, or no probe
+    /// of it is left.
     ///
-    /// Where the device is counted down, and answers the probe, the grip drives it to the value at which it should stand.
-    /// Takes no memory.
+    /// Where the device is counted down, and answers the probe, the grip drives it to the value at
+    /// which it should stand. Takes no memory.
     #[tactic(auto, using(crate::proofs::calls::FinalItems::probed_sealed))]
     pub fn take_probe(&mut self, d: DeviceNo) -> Option<Grip<D, Ready>>
         ensures probed { IsProbed self.old d.0 result self.new }
-        ensures sealed { StaysSealed (read_of (configuration_of self.old)) (read_of (configuration_of self.new)) }
+        ensures sealed { StaysSealed (read_of (configuration_of self.old))
+            (read_of (configuration_of self.new)) }
         ensures window { SameWindow self.old self.new }
     {
         self.window.whole();
@@ -117,14 +124,15 @@ impl<D: Device> Hub<D> {
 
     /// Takes the device of the detector's grip home.
     ///
-    /// Answers the entries that it makes: a device that was counted up, and did not answer, has failed, and the run is
-    /// doomed that sees it up and is not done with it; one that was counted down, and answered, is back. A grip that is not
-    /// the one with which its device is out, or that is a run's, comes back with a `Stranger`, and nothing changes. Takes no
-    /// memory.
+    /// Answers the entries that it makes: a device that was counted up, and did not answer, has
+    /// failed, and the run is doomed that sees it up and is not done with it; one that was counted
+    /// down, and answered, is back. A grip that is not the one with which its device is out, or
+    /// that is a run's, comes back with a `Stranger`, and nothing changes. Takes no memory.
     #[tactic(auto, using(crate::proofs::calls::FinalItems::probe_given_sealed))]
     pub fn give_probe(&mut self, grip: Grip<D, Done>) -> Result<Made, (Grip<D, Done>, Stranger)>
         ensures given { IsProbeGiven self.old grip result self.new }
-        ensures sealed { StaysSealed (read_of (configuration_of self.old)) (read_of (configuration_of self.new)) }
+        ensures sealed { StaysSealed (read_of (configuration_of self.old))
+            (read_of (configuration_of self.new)) }
         ensures window { SameWindow self.old self.new }
     {
         self.window.whole();
@@ -146,7 +154,8 @@ impl<D: Device> Hub<D> {
 
 /// Makes the step that is chosen, in the window and then in the marks.
 ///
-/// It is apart from `take`, most of whose steps hand out or wait: only a call of it makes room for what the others make.
+/// It is apart from `take`, most of whose steps hand out or wait: only a call of it makes room for
+/// what the others make.
 #[inline(never)]
 fn make_step<D: Device>(
     window: &mut OpenWindow<D>,
@@ -156,8 +165,10 @@ fn make_step<D: Device>(
     moment: u64,
     chosen: Chosen,
 ) -> Turn<D>
-    requires chosen { told_choice r.0 (max window.old.moment moment) chosen ≡ choice_of (configuration_of window.old) r.0 moment }
-    requires planned { HoldsChosen scratch.old (configuration_of window.old) r.0 (max window.old.moment moment) chosen }
+    requires chosen { told_choice r.0 (max window.old.moment moment) chosen
+        ≡ choice_of (configuration_of window.old) r.0 moment }
+    requires planned { HoldsChosen scratch.old (configuration_of window.old) r.0
+        (max window.old.moment moment) chosen }
     requires marks { AreBlocked (configuration_of window.old) blocked.old }
     ensures turn { IsTurn window.old r.0 moment result window.new }
     ensures window { SameWindow window.old window.new }

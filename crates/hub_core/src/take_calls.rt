@@ -17,10 +17,12 @@ use home_types::RunNo;
 use timeline_scheduler::Scratch;
 
 impl<D: Device> OpenWindow<D> {
-    /// Makes the step of the run `r` that is chosen at this moment, in ms, or at the last one where that is later.
+    /// Makes the step of the run `r` that is chosen at this moment, in ms, or at the last one where
+    /// that is later.
     ///
-    /// Answers what the run does: hands out a device, makes entries, waits, or is over. `Wait` and `Absent` change
-    /// nothing but the last moment. A place by the timeline stands in the scratch. Takes no memory.
+    /// Answers what the run does: hands out a device, makes entries, waits, or is over. `Wait` and
+    /// `Absent` change nothing but the last moment. A place by the timeline stands in the scratch.
+    /// Takes no memory.
     #[inline(always)]
     pub(crate) fn follow(
         &mut self,
@@ -29,8 +31,10 @@ impl<D: Device> OpenWindow<D> {
         chosen: Chosen,
         scratch: &mut Scratch,
     ) -> Turn<D>
-        requires chosen { told_choice r.0 (max self.old.moment moment) chosen ≡ choice_of (configuration_of self.old) r.0 moment }
-        requires planned { HoldsChosen scratch.old (configuration_of self.old) r.0 (max self.old.moment moment) chosen }
+        requires chosen { told_choice r.0 (max self.old.moment moment) chosen
+            ≡ choice_of (configuration_of self.old) r.0 moment }
+        requires planned { HoldsChosen scratch.old (configuration_of self.old) r.0
+            (max self.old.moment moment) chosen }
         ensures turn { IsTurn self.old r.0 moment result self.new }
         ensures window { SameWindow self.old self.new }
         ensures size { HasSameRoom scratch.old scratch.new }
@@ -68,7 +72,8 @@ impl<D: Device> OpenWindow<D> {
     /// The run waits: nothing changes, but that the last moment may be later.
     #[inline(always)]
     pub(crate) fn wait(&mut self, r: RunNo, moment: u64, why: Why)
-        requires { told_choice r.0 (max self.old.moment moment) (Chosen.Waits why) ≡ choice_of (configuration_of self.old) r.0 moment }
+        requires { told_choice r.0 (max self.old.moment moment) (Chosen.Waits why)
+            ≡ choice_of (configuration_of self.old) r.0 moment }
         ensures turn { IsTurn self.old r.0 moment (Turn.Wait why) self.new }
         ensures window { SameWindow self.old self.new }
     {

@@ -21,12 +21,14 @@ use home_types::{Item, RunNo};
 use window_order::Purpose;
 
 impl<D: Device> OpenWindow<D> {
-    /// What the run is to do, which is placed and has not ended: it ends at once where it is doomed, else its next command
-    /// is skipped, waits for a device that is out, is told that it is down, or goes out, and with none left the run commits.
+    /// What the run is to do, which is placed and has not ended: it ends at once where it is
+    /// doomed, else its next command is skipped, waits for a device that is out, is told that it is
+    /// down, or goes out, and with none left the run commits.
     pub(crate) fn decide_weakly(&self, r: RunNo, progress: RunProgress) -> Chosen
         requires run { is_run self.now.setting.runs r.0 ≡ true }
         requires known { progress ≡ progress_of ((read_of (configuration_of self.now)).run r.0) }
-        ensures { (m : ℕ) → told_choice r.0 m result ≡ weak_rest self.now.setting (read_of (configuration_of self.now)) (configuration_of self.now).grips r.0 }
+        ensures { (m : ℕ) → told_choice r.0 m result ≡ weak_rest self.now.setting
+            (read_of (configuration_of self.now)) (configuration_of self.now).grips r.0 }
     {
         if let Some(cause) = progress.doomed {
             return Chosen::Aborts(cause);
@@ -51,7 +53,8 @@ impl<D: Device> OpenWindow<D> {
     /// The run is placed behind so many items of the line, which is its end, and has no access.
     pub(crate) fn place_weakly(&mut self, r: RunNo, moment: u64, at: u32) -> Made
         requires weak { is_weak self.old.setting.mode ≡ true }
-        requires chosen { choice_of (configuration_of self.old) r.0 moment ≡ told_choice r.0 (max self.old.moment moment) (Chosen.Joins at) }
+        requires chosen { choice_of (configuration_of self.old) r.0 moment
+            ≡ told_choice r.0 (max self.old.moment moment) (Chosen.Joins at) }
         ensures answer { Answers self.old r.0 moment (Moves (entries_made result)) self.new }
         ensures packed { IsPacked result }
         ensures window { SameWindow self.old self.new }

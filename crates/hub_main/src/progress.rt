@@ -5,7 +5,8 @@ use std::env;
 use std::env::VarError;
 use std::io::{IsTerminal, Write};
 
-/// The variable of the environment by which a line is asked for each reading, where standard error is no terminal.
+/// The variable of the environment by which a line is asked for each reading, where standard error
+/// is no terminal.
 const VARIABLE: &str = "LAZBENDIX_PROGRESS";
 
 /// How a watched day is shown.
@@ -29,8 +30,8 @@ pub struct ShownProgress<W: Write> {
     shown: Option<Counts>,
 }
 
-/// How a day is shown: on a terminal, in place where the record goes elsewhere; by lines where the environment asks for
-/// it; else not at all.
+/// How a day is shown: on a terminal, in place where the record goes elsewhere; by lines where the
+/// environment asks for it; else not at all.
 pub fn how_to_show(rt: &HostRuntime) -> Showing {
     if rt.stderr().is_terminal() {
         // lines of the record would fall into a line that is written anew

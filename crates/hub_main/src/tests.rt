@@ -3,7 +3,8 @@ use crate::progress::{Showing, ShownProgress};
 use status_board::{Counts, Teller};
 use std::test::*;
 
-/// Three readings of a day of two windows: before the first, behind it, and of the day that is over.
+/// Three readings of a day of two windows: before the first, behind it, and of the day that is
+/// over.
 fn readings() -> [Counts; 3] {
     let before = Counts::none();
     let behind = Counts {
@@ -38,7 +39,9 @@ fn a_reading_has_a_line(rt: HostRuntime) {
     assert_eq!(rt;
         str::from_utf8(&shown),
         Ok(
-            "window 0 of 2: 0 committed, 0 aborted\nwindow 1 of 2: 2 committed, 1 aborted\nwindow 2 of 2: 3 committed, 1 aborted\n"
+            "window 0 of 2: 0 committed, 0 aborted\n\
+            window 1 of 2: 2 committed, 1 aborted\n\
+            window 2 of 2: 3 committed, 1 aborted\n"
         )
     );
 }
@@ -50,7 +53,9 @@ fn a_terminal_has_one_line(rt: HostRuntime) {
     assert_eq!(rt;
         str::from_utf8(&shown),
         Ok(
-            "\rwindow 0 of 2: 0 committed, 0 aborted\u{1b}[K\rwindow 1 of 2: 2 committed, 1 aborted\u{1b}[K\rwindow 2 of 2: 3 committed, 1 aborted\u{1b}[K\n"
+            "\rwindow 0 of 2: 0 committed, 0 aborted\u{1b}[K\
+            \rwindow 1 of 2: 2 committed, 1 aborted\u{1b}[K\
+            \rwindow 2 of 2: 3 committed, 1 aborted\u{1b}[K\n"
         )
     );
 }

@@ -15,7 +15,8 @@ use Rattle.hub_table.specs.declared.told.NotTaken.{NotTaken}
 use Rattle.hub_table.specs.declared.told.NotTaken.TheVariants.{Differs, NotOut, OtherKind}
 use Rattle.std.specs.Prelude.{None, Option, Some, if◌then◌else◌, ℕ, ◌==◌, ◌≡◌}
 
--- what is wrong with an answer to the task that the device may not tell: a sense has found another value, all else is of another kind
+-- what is wrong with an answer to the task that the device may not tell: a sense has found another
+-- value, all else is of another kind
 abbrev pub unfit_for : Task → Told → NotTaken
 unfit_for (Drive v) told = OtherKind
 unfit_for Sense Worked = OtherKind
@@ -26,10 +27,14 @@ unfit_for (Probe restored) told = OtherKind
 -- why this is no answer to the call with this ticket, by what the device is out with
 abbrev pub refusal : Option (Slip × Task) → ℕ → Told → Option NotTaken
 refusal None ticket told = Some NotOut
-refusal (Some out) ticket told = if out.0.ticket == ticket then (if may_tell out.1 out.0.stood told then None else Some (unfit_for out.1 told)) else Some NotOut
+refusal (Some out) ticket told =
+    if out.0.ticket == ticket
+    then (if may_tell out.1 out.0.stood told then None else Some (unfit_for out.1 told))
+    else Some NotOut
 
 -- the device d was out with this ticket, told this, and is back
-pub record HasComeBack (s : OpenHub HandedDevice) (d ticket : ℕ) (told : Told) (m : ℕ) (made : Made) (t : OpenHub HandedDevice) : Type 0 where
+pub record HasComeBack (s : OpenHub HandedDevice) (d ticket : ℕ) (told : Told) (m : ℕ) (made : Made)
+    (t : OpenHub HandedDevice) : Type 0 where
   pub done : Gripped HandedDevice Done
   pub device : done.slip.device.0 ≡ d
   pub ticket_is : done.slip.ticket ≡ ticket

@@ -39,10 +39,13 @@ what_is_held grips = map (λ hand. lent_by hand) grips
 
 -- each grip is of the device in whose place it lies
 abbrev pub AreInPlace : {D : Type 0} → List (Option (Gripped D Ready)) → Type 0
-AreInPlace {D} grips = (d : ℕ) (grip : Gripped D Ready) → slice_get grips d ≡ Some (Some grip) → grip.slip.device.0 ≡ d
+AreInPlace {D} grips =
+    (d : ℕ) (grip : Gripped D Ready) → slice_get grips d ≡ Some (Some grip) → grip.slip.device.0 ≡ d
 
--- what the type of a table keeps: for each device that is out the grip with which it is out, and for no other one
-pub record GripsAreHeld {D : Type 0} (places : List (Place D)) (grips : List (Option (Gripped D Ready))) : Type 0 where
+-- what the type of a table keeps: for each device that is out the grip with which it is out, and
+-- for no other one
+pub record GripsAreHeld {D : Type 0} (places : List (Place D))
+    (grips : List (Option (Gripped D Ready))) : Type 0 where
   pub held : what_is_held grips ≡ what_is_lent places
   pub own : AreInPlace grips
 

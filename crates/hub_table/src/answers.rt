@@ -20,11 +20,11 @@ use history_book::Made;
 use home_types::DeviceNo;
 
 impl Table<HandedDevice> {
-    /// Hands in what the device told elsewhere to the call with this ticket, and gives it back at this moment, in ms, or
-    /// at the last one where that is later.
+    /// Hands in what the device told elsewhere to the call with this ticket, and gives it back at
+    /// this moment, in ms, or at the last one where that is later.
     ///
-    /// Answers the entries that it makes, or why it is not taken: then nothing changes, and a device that is out stays
-    /// out. Takes no memory.
+    /// Answers the entries that it makes, or why it is not taken: then nothing changes, and a
+    /// device that is out stays out. Takes no memory.
     pub fn answer(
         &mut self,
         d: DeviceNo,
@@ -32,10 +32,13 @@ impl Table<HandedDevice> {
         told: Told,
         moment: u64,
     ) -> Result<Made, NotTaken>
-        ensures answered { IfOk result (λ made. HasComeBack self.old d.0 ticket told moment made self.new) }
-        ensures refused { IfErr result (λ why. refusal (kept_of (slice_get self.old.places d.0)) ticket told ≡ Some why) }
+        ensures answered { IfOk result
+            (λ made. HasComeBack self.old d.0 ticket told moment made self.new) }
+        ensures refused { IfErr result
+            (λ why. refusal (kept_of (slice_get self.old.places d.0)) ticket told ≡ Some why) }
         ensures same { IfErr result (λ _. self.new ≡ self.old) }
-        ensures sealed { IfOk result (λ _. StaysSealed (read_of (configuration_of self.old)) (read_of (configuration_of self.new))) }
+        ensures sealed { IfOk result (λ _. StaysSealed (read_of (configuration_of self.old))
+            (read_of (configuration_of self.new))) }
         ensures window { IfOk result (λ _. SameWindow self.old self.new) }
     {
         if let Some(why) = refusal(look(&self.grips, d), ticket, told) {

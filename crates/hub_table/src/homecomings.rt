@@ -18,9 +18,12 @@ use hub_core::Hub;
 /// Makes the call of a grip that is out, and gives it back to its hub.
 pub(crate) fn bring_home<D: Device>(hub: &mut Hub<D>, grip: Grip<D, Ready>, moment: u64) -> Made
     requires { IsKept hub.old.places grip.slip grip.task }
-    ensures back { (done : Gripped D Done) × (done.slip ≡ grip.slip) × IsBack hub.old done moment result hub.new }
-    ensures home { (device : D) × (hub.new.places ≡ slice_set hub.old.places grip.slip.device.0 (Place.Home device)) }
-    ensures sealed { StaysSealed (read_of (configuration_of hub.old)) (read_of (configuration_of hub.new)) }
+    ensures back { (done : Gripped D Done) × (done.slip ≡ grip.slip)
+        × IsBack hub.old done moment result hub.new }
+    ensures home { (device : D)
+        × (hub.new.places ≡ slice_set hub.old.places grip.slip.device.0 (Place.Home device)) }
+    ensures sealed { StaysSealed (read_of (configuration_of hub.old))
+        (read_of (configuration_of hub.new)) }
     ensures window { SameWindow hub.old hub.new }
 {
     take_home(hub, grip.act(), moment)
@@ -30,8 +33,10 @@ pub(crate) fn bring_home<D: Device>(hub: &mut Hub<D>, grip: Grip<D, Ready>, mome
 pub(crate) fn take_home<D: Device>(hub: &mut Hub<D>, done: Grip<D, Done>, moment: u64) -> Made
     requires { IsKept hub.old.places done.slip done.task }
     ensures back { IsBack hub.old done moment result hub.new }
-    ensures home { (device : D) × (hub.new.places ≡ slice_set hub.old.places done.slip.device.0 (Place.Home device)) }
-    ensures sealed { StaysSealed (read_of (configuration_of hub.old)) (read_of (configuration_of hub.new)) }
+    ensures home { (device : D)
+        × (hub.new.places ≡ slice_set hub.old.places done.slip.device.0 (Place.Home device)) }
+    ensures sealed { StaysSealed (read_of (configuration_of hub.old))
+        (read_of (configuration_of hub.new)) }
     ensures window { SameWindow hub.old hub.new }
 {
     if done.slip().maker == 0 {

@@ -1,4 +1,5 @@
-// An open window beside the grips that are out of it: a hub for who keeps a device's number and its ticket, and no grip.
+// An open window beside the grips that are out of it: a hub for who keeps a device's number and its
+// ticket, and no grip.
 #![tactic(auto)]
 
 pub mod answers;

@@ -30,9 +30,9 @@ use std::marker::Model;
 
 /// An open window with the grips that are out of it.
 ///
-/// Contracts see what the hub shows. The type keeps that a grip lies in the place of each device that is out, the one
-/// with which it is out, and in no other place. Only `open` takes memory. One that is dropped makes the call of each
-/// grip and gives it back before the hub goes.
+/// Contracts see what the hub shows. The type keeps that a grip lies in the place of each device
+/// that is out, the one with which it is out, and in no other place. Only `open` takes memory. One
+/// that is dropped makes the call of each grip and gives it back before the hub goes.
 pub struct Table<D: Device> {
     pub(crate) hub: Hub<D>,
     /// The grip of each device that is out.
@@ -70,7 +70,8 @@ impl<D: Device> Drop for Table<D> {
 impl<D: Device> Table<D> {
     /// Opens a window on the home, for the runs of the roster and so many rounds of probes.
     ///
-    /// Takes all memory of the window. Answers `NoMemory` where there is none to be had, and gives the home back.
+    /// Takes all memory of the window. Answers `NoMemory` where there is none to be had, and gives
+    /// the home back.
     pub fn open(
         alloc: Global,
         home: Home<D>,
@@ -79,7 +80,8 @@ impl<D: Device> Table<D> {
         rounds: u32,
     ) -> Result<Table<D>, (Home<D>, NoMemory)>
         requires may { MayOpen (setting_for home roster mode) rounds home.opened }
-        ensures opened { IfOk result (λ table. IsOpened D.turns D.probes D.faults (setting_for home roster mode) rounds home table) }
+        ensures opened { IfOk result (λ table. IsOpened D.turns D.probes D.faults
+            (setting_for home roster mode) rounds home table) }
         ensures refused { IfErr result (λ refused. refused.0 ≡ home) }
     {
         home.kept();
@@ -104,11 +106,14 @@ impl<D: Device> Table<D> {
     ///
     /// Refused where something is left to do: the table comes back as it is. Takes no memory.
     pub fn close(self) -> Result<(Home<D>, WindowRecord), (Table<D>, NotQuiet)>
-        ensures closed { IfOk result (λ closed. WindowIsClosed D.turns D.probes D.faults self closed.0 closed.1) }
-        ensures sealed { IfOk result (λ closed. is_weak self.setting.mode ≡ false → BeginsWithSealed self.setting (history_of closed.1) closed.1.order.items) }
+        ensures closed { IfOk result
+            (λ closed. WindowIsClosed D.turns D.probes D.faults self closed.0 closed.1) }
+        ensures sealed { IfOk result (λ closed. is_weak self.setting.mode ≡ false
+            → BeginsWithSealed self.setting (history_of closed.1) closed.1.order.items) }
         ensures quiet { IfOk result (λ closed. not_quiet (configuration_of self) ≡ None) }
         ensures same { IfErr result (λ refused. refused.0 ≡ self) }
-        ensures refused { IfErr result (λ refused. not_quiet (configuration_of self) ≡ Some refused.1) }
+        ensures refused { IfErr result
+            (λ refused. not_quiet (configuration_of self) ≡ Some refused.1) }
     {
         let Table { hub, grips } = self;
         match hub.close_window() {
@@ -134,11 +139,13 @@ impl<D: Device> Table<D> {
         look(&self.grips, d)
     }
 
-    /// Makes the step of the run `r` at this moment, in ms, or at the last one where that is later. The grip of a device
-    /// that goes out stays here.
+    /// Makes the step of the run `r` at this moment, in ms, or at the last one where that is later.
+    /// The grip of a device that goes out stays here.
     pub fn take(&mut self, r: RunNo, moment: u64) -> Taken
-        ensures turn { (turn : Turn D) × IsTurn self.old r.0 moment turn self.new × PlansEarliest (configuration_of self.old) r.0 turn × (result ≡ taken_of turn) }
-        ensures sealed { StaysSealed (read_of (configuration_of self.old)) (read_of (configuration_of self.new)) }
+        ensures turn { (turn : Turn D) × IsTurn self.old r.0 moment turn self.new
+            × PlansEarliest (configuration_of self.old) r.0 turn × (result ≡ taken_of turn) }
+        ensures sealed { StaysSealed (read_of (configuration_of self.old))
+            (read_of (configuration_of self.new)) }
         ensures window { SameWindow self.old self.new }
     {
         match self.hub.take(r, moment) {
@@ -156,8 +163,10 @@ impl<D: Device> Table<D> {
 
     /// Sends a probe to the device, where one may be sent. Its grip stays here.
     pub fn probe(&mut self, d: DeviceNo) -> Option<(Slip, Task)>
-        ensures probed { (probe : Option (Gripped D Ready)) × IsProbed self.old d.0 probe self.new × (result ≡ lent_by probe) }
-        ensures sealed { StaysSealed (read_of (configuration_of self.old)) (read_of (configuration_of self.new)) }
+        ensures probed { (probe : Option (Gripped D Ready)) × IsProbed self.old d.0 probe self.new
+            × (result ≡ lent_by probe) }
+        ensures sealed { StaysSealed (read_of (configuration_of self.old))
+            (read_of (configuration_of self.new)) }
         ensures window { SameWindow self.old self.new }
     {
         match self.hub.take_probe(d) {
@@ -170,13 +179,15 @@ impl<D: Device> Table<D> {
         }
     }
 
-    /// Makes the call of the device, which is out, and gives it back. `None` where it is home or none of the home, and
-    /// nothing changes.
+    /// Makes the call of the device, which is out, and gives it back. `None` where it is home or
+    /// none of the home, and nothing changes.
     pub fn give(&mut self, d: DeviceNo, moment: u64) -> Option<Made>
-        ensures back { IfSome result (λ made. (done : Gripped D Done) × (done.slip.device.0 ≡ d.0) × IsBack self.old done moment made self.new) }
+        ensures back { IfSome result (λ made. (done : Gripped D Done) × (done.slip.device.0 ≡ d.0)
+            × IsBack self.old done moment made self.new) }
         ensures none { IfNone result (kept_of (slice_get self.old.places d.0) ≡ None) }
         ensures same { IfNone result (self.new ≡ self.old) }
-        ensures sealed { IfSome result (λ _. StaysSealed (read_of (configuration_of self.old)) (read_of (configuration_of self.new))) }
+        ensures sealed { IfSome result (λ _. StaysSealed (read_of (configuration_of self.old))
+            (read_of (configuration_of self.new))) }
         ensures window { IfSome result (λ _. SameWindow self.old self.new) }
     {
         match lift(&mut self.grips, d) {

@@ -31,7 +31,9 @@ counted_more s t maker moment told now entries counted is adds = is ∙ ap (λ n
 
 -- a step of a run
 pub turn_held : {D : Type 0} (plan : D → Plan) (window : NamedWindow) (name : DeskName) (s t : OpenHub D) (r m : ℕ) (turn : Turn D) (told now asleep left : ℕ) (desk desk_now : DeskState Lent)
-    → IsHeld plan window name s told asleep desk → IsTurn s r m turn t → SameWindow s t → IsWithin window m → now ≡ told + turn_entries turn → SleepersAreBlocked (configuration_of t) left → desk_now.name ≡ desk.name → desk_now.out ≡ out_after desk.out turn → IsHeld plan window name t now left desk_now
+    → IsHeld plan window name s told asleep desk → IsTurn s r m turn t → SameWindow s t → IsWithin window m → now ≡ told + turn_entries turn
+    → SleepersAreBlocked (configuration_of t) left → desk_now.name ≡ desk.name → desk_now.out ≡ out_after desk.out turn
+    → IsHeld plan window name t now left desk_now
 turn_held plan window name s t r m turn told now asleep left desk desk_now held is same early more are named goes = record {
   counted = counted_more s t r _ told now _ held.counted more (turn_adds s t r m turn is);
   named = turn_named plan window s t r m turn held.named is same early;
@@ -50,7 +52,9 @@ idle_sleepers s t r m Absent asleep is idle are = subst (λ (x : Configuration).
 
 -- a grip that comes back
 pub given_held : {D : Type 0} (plan : D → Plan) (window : NamedWindow) (name : DeskName) (s t : OpenHub D) (grip : Gripped D Done) (m : ℕ) (made : Made) (told now asleep left : ℕ) (desk desk_now : DeskState Lent)
-    → IsHeld plan window name s told asleep desk → IsGiven s grip m (Ok made) t → SameWindow s t → HasPlan plan window.plans grip → IsWithin window m → now ≡ told + length (entries_made made) → SleepersAreBlocked (configuration_of t) left → desk_now.name ≡ desk.name → desk_now.out ≡ slice_set desk.out grip.slip.device.0 None → IsHeld plan window name t now left desk_now
+    → IsHeld plan window name s told asleep desk → IsGiven s grip m (Ok made) t → SameWindow s t → HasPlan plan window.plans grip → IsWithin window m
+    → now ≡ told + length (entries_made made) → SleepersAreBlocked (configuration_of t) left → desk_now.name ≡ desk.name
+    → desk_now.out ≡ slice_set desk.out grip.slip.device.0 None → IsHeld plan window name t now left desk_now
 given_held plan window name s t grip m made told now asleep left desk desk_now held is same own early more are named comes = record {
   counted = counted_more s t grip.slip.maker _ told now _ held.counted more (given_adds s t grip m made is);
   named = given_named plan window s t grip m made held.named is same own early;
@@ -61,7 +65,8 @@ given_held plan window name s t grip m made told now asleep left desk desk_now h
 
 -- a probe that goes out
 pub probed_held : {D : Type 0} (plan : D → Plan) (window : NamedWindow) (name : DeskName) (s t : OpenHub D) (d : ℕ) (grip : Gripped D Ready) (told asleep left : ℕ) (desk desk_now : DeskState Lent)
-    → IsHeld plan window name s told asleep desk → IsProbed s d (Some grip) t → SameWindow s t → SleepersAreBlocked (configuration_of t) left → desk_now.name ≡ desk.name → desk_now.out ≡ slice_set desk.out grip.slip.device.0 (Some (grip.slip, grip.task)) → IsHeld plan window name t told left desk_now
+    → IsHeld plan window name s told asleep desk → IsProbed s d (Some grip) t → SameWindow s t → SleepersAreBlocked (configuration_of t) left → desk_now.name
+    ≡ desk.name → desk_now.out ≡ slice_set desk.out grip.slip.device.0 (Some (grip.slip, grip.task)) → IsHeld plan window name t told left desk_now
 probed_held plan window name s t d grip told asleep left desk desk_now held is same are named goes = record {
   counted = held.counted ∙ sym (ap length (probed_adds s t d (Some grip) is).0);
   named = probed_named plan window s t d (Some grip) held.named is same;
@@ -72,7 +77,9 @@ probed_held plan window name s t d grip told asleep left desk desk_now held is s
 
 -- the detector's grip that comes back
 pub probe_given_held : {D : Type 0} (plan : D → Plan) (window : NamedWindow) (name : DeskName) (s t : OpenHub D) (grip : Gripped D Done) (made : Made) (told now asleep left : ℕ) (desk desk_now : DeskState Lent)
-    → IsHeld plan window name s told asleep desk → IsProbeGiven s grip (Ok made) t → SameWindow s t → HasPlan plan window.plans grip → now ≡ told + length (entries_made made) → SleepersAreBlocked (configuration_of t) left → desk_now.name ≡ desk.name → desk_now.out ≡ slice_set desk.out grip.slip.device.0 None → IsHeld plan window name t now left desk_now
+    → IsHeld plan window name s told asleep desk → IsProbeGiven s grip (Ok made) t → SameWindow s t → HasPlan plan window.plans grip
+    → now ≡ told + length (entries_made made) → SleepersAreBlocked (configuration_of t) left → desk_now.name ≡ desk.name
+    → desk_now.out ≡ slice_set desk.out grip.slip.device.0 None → IsHeld plan window name t now left desk_now
 probe_given_held plan window name s t grip made told now asleep left desk desk_now held is same own more are named comes = record {
   counted = counted_more s t 0 _ told now _ held.counted more (probe_given_adds s t grip made is);
   named = probe_given_named plan window s t grip made held.named is same own;

@@ -50,12 +50,17 @@ has_if b word r = elim b as (λ c. has_run (if c then word else 0) r ≡ (c && h
 ]
 
 -- those that are called: who was, the restless, those that wait for their place, if this holds, and those that are blocked no more
-pub called : (called restless unplaced freed blocked left r : ℕ) (b : Bool) → freed ≡ (if b then unplaced else 0) → left < 2 ^ 64 → has_run (bit_or called (bit_or (bit_or restless freed) (bit_and blocked (bit_not w64 left)))) r ≡ (has_run called r || ((has_run restless r || (b && has_run unplaced r)) || (has_run blocked r && not (has_run left r))))
+pub called : (called restless unplaced freed blocked left r : ℕ) (b : Bool) → freed ≡ (if b then unplaced else 0) → left < 2 ^ 64
+    → has_run (bit_or called (bit_or (bit_or restless freed) (bit_and blocked (bit_not w64 left)))) r
+    ≡ (has_run called r || ((has_run restless r || (b && has_run unplaced r)) || (has_run blocked r && not (has_run left r))))
 called before restless unplaced freed blocked left r b are small =
     let some : has_run freed r ≡ (b && has_run unplaced r) = ap (λ word. has_run word r) are ∙ has_if b unplaced r in
     let either : has_run (bit_or restless freed) r ≡ (has_run restless r || (b && has_run unplaced r)) = has_either restless freed r ∙ ap (λ x. has_run restless r || x) some in
     let gone : has_run (bit_and blocked (bit_not w64 left)) r ≡ (has_run blocked r && not (has_run left r)) = has_without blocked left r small in
-    let all : has_run (bit_or (bit_or restless freed) (bit_and blocked (bit_not w64 left))) r ≡ ((has_run restless r || (b && has_run unplaced r)) || (has_run blocked r && not (has_run left r))) = has_either (bit_or restless freed) (bit_and blocked (bit_not w64 left)) r ∙ (ap (λ x. x || has_run (bit_and blocked (bit_not w64 left)) r) either ∙ ap (λ x. (has_run restless r || (b && has_run unplaced r)) || x) gone) in
+    let all : has_run (bit_or (bit_or restless freed) (bit_and blocked (bit_not w64 left))) r
+    ≡ ((has_run restless r || (b && has_run unplaced r)) || (has_run blocked r && not (has_run left r))) =
+    has_either (bit_or restless freed) (bit_and blocked (bit_not w64 left)) r
+    ∙ (ap (λ x. x || has_run (bit_and blocked (bit_not w64 left)) r) either ∙ ap (λ x. (has_run restless r || (b && has_run unplaced r)) || x) gone) in
     has_either before (bit_or (bit_or restless freed) (bit_and blocked (bit_not w64 left))) r ∙ ap (λ x. has_run before r || x) all
 
 -- those that wait for their place still

@@ -7,8 +7,10 @@ use Rattle.hub_threads.specs.Passes.{Lent, what_is_out}
 use Rattle.hub_threads.specs.Sleepers.{SleepersAreBlocked}
 use Rattle.std.specs.Prelude.{length, ℕ, ◌≡◌}
 
--- so many entries were told as the hub's history has, the hub is of the window of the name, each run of the word is blocked, and the desk of this name knows what is out of each place
-pub record IsHeld {D : Type 0} (plan : D → Plan) (window : NamedWindow) (name : DeskName) (s : OpenHub D) (told blocked : ℕ) (desk : DeskState Lent) : Type 0 where
+-- so many entries were told as the hub's history has, the hub is of the window of the name, each
+-- run of the word is blocked, and the desk of this name knows what is out of each place
+pub record IsHeld {D : Type 0} (plan : D → Plan) (window : NamedWindow) (name : DeskName)
+    (s : OpenHub D) (told blocked : ℕ) (desk : DeskState Lent) : Type 0 where
   pub counted : told ≡ length s.history
   pub named : IsNamed plan window s
   pub sleepers : SleepersAreBlocked (configuration_of s) blocked

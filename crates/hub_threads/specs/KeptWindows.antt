@@ -15,11 +15,17 @@ pub record KeepsOneMore {Q : Type 0} (old new : JournalState Q) (home : List Sta
   pub kept : new.kept ≡ old.kept + 1
   pub last : new.last ≡ Some home
 
--- where memory was wanted nothing is changed; else the window was worked, the disk has failed, and a crash leaves what was kept, with the last state of the window or without
-abbrev pub KeepFails : {D Q : Type 0} → (D → ℕ) → (D → Option (List (ℕ × ℕ))) → (D → ℕ) → (D → ℕ) → (D → ℕ) → Moment → Moment
-    → Bool → (Q → List ℕ) → (Q → ℕ) → (Q → ℕ → List ℕ → Type 0) → (Q → ℕ) → OpenHub D → JournalState Q → KeepFault D Q → Type 0
-KeepFails tag plan turns probes faults earliest latest told seen moment since failures hub journal (NoMemory same unmoved) = (same ≡ hub) × (unmoved ≡ journal)
-KeepFails tag plan turns probes faults earliest latest told seen moment since failures hub journal (Failed home closed disk) =
+-- where memory was wanted nothing is changed; else the window was worked, the disk has failed, and
+-- a crash leaves what was kept, with the last state of the window or without
+abbrev pub KeepFails : {D Q : Type 0} → (D → ℕ) → (D → Option (List (ℕ × ℕ))) → (D → ℕ) → (D → ℕ)
+    → (D → ℕ) → Moment → Moment
+    → Bool → (Q → List ℕ) → (Q → ℕ) → (Q → ℕ → List ℕ → Type 0) → (Q → ℕ) → OpenHub D
+    → JournalState Q → KeepFault D Q → Type 0
+KeepFails tag plan turns probes faults earliest latest told seen moment since failures hub journal
+    (NoMemory same unmoved) =
+    (same ≡ hub) × (unmoved ≡ journal)
+KeepFails tag plan turns probes faults earliest latest told seen moment since failures hub journal
+    (Failed home closed disk) =
     IsWorked tag plan turns probes faults earliest latest hub home closed
     × (failures journal.disk < failures disk)
     × (told ≡ true → LeavesFirst seen moment since journal disk (closed.last.devices.items ∷ []))

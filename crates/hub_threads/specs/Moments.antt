@@ -15,7 +15,8 @@ revoked_at (Lost d) = None
 revoked_at (Revoked lender d deadline moment) = Some moment
 revoked_at (DownAtEnd d) = None
 
--- the moment that the entry tells, where it tells one. The end of a revoked run repeats what its doom told
+-- the moment that the entry tells, where it tells one. The end of a revoked run repeats what its
+-- doom told
 abbrev pub moment_told : Entry → Option Moment
 moment_told (Arrived r moment) = Some moment
 moment_told (Placed r at moment) = Some moment
@@ -28,7 +29,8 @@ moment_told (Ended r end) = None
 
 -- a moment that the entry tells is from this one to that one
 abbrev pub TellsWithin : Moment → Moment → Kept → Type 0
-TellsWithin earliest latest kept = IfSome (moment_told kept.entry) (λ m. (earliest ≤ m) × (m ≤ latest))
+TellsWithin earliest latest kept =
+    IfSome (moment_told kept.entry) (λ m. (earliest ≤ m) × (m ≤ latest))
 
 -- .. and so is each moment that the history tells
 abbrev pub AreWithin : Moment → Moment → List Kept → Type 0

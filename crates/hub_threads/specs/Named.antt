@@ -1,4 +1,5 @@
--- A hub that is of the window of a name, and what the calls of one answer: the plan of a device that goes out, and the entries.
+-- A hub that is of the window of a name, and what the calls of one answer: the plan of a device
+-- that goes out, and the entries.
 use Rattle.device_gate.specs.Grips.{Gripped}
 use Rattle.device_gate.specs.declared.gates.Place.TheVariants.{Home, Out}
 use Rattle.device_gate.specs.declared.gates.Place.{Place}
@@ -14,7 +15,8 @@ use Rattle.std.specs.Prelude.{Bool, List, None, Option, Some, [], false, length,
 
 -- each device that is home has this plan
 abbrev pub PlacesHavePlans : {D : Type 0} → (D → Plan) → (DeviceId → Plan) → List (Place D) → Type 0
-PlacesHavePlans {D} plan plans places = (d : DeviceId) (device : D) → slice_get places d ≡ Some (Home device) → plan device ≡ plans d
+PlacesHavePlans {D} plan plans places =
+    (d : DeviceId) (device : D) → slice_get places d ≡ Some (Home device) → plan device ≡ plans d
 
 -- the plan of the device that is home in this place
 abbrev pub plan_in : {D : Type 0} → (D → Plan) → Option (Place D) → Plan
@@ -23,7 +25,8 @@ plan_in plan (Some (Home device)) = plan device
 plan_in plan (Some (Out slip task)) = None
 
 -- the hub is of the window of which this is the name
-pub record IsNamed {D : Type 0} (plan : D → Plan) (window : NamedWindow) (s : OpenHub D) : Type 0 where
+pub record IsNamed {D : Type 0} (plan : D → Plan) (window : NamedWindow)
+    (s : OpenHub D) : Type 0 where
   pub setting : s.setting ≡ window.setting
   pub rounds_are : s.rounds ≡ window.rounds
   pub opened_are : s.opened ≡ window.opened

@@ -27,7 +27,12 @@ pub record NamedWindow : Type 0 where
 -- a window with no run and no device
 abbrev pub no_window : NamedWindow
 no_window = record {
-  setting = record { runs = []; mode = record { model = Weak; scheduler = Fcfs }; kinds = []; first = [] };
+  setting = record {
+    runs = [];
+    mode = record { model = Weak; scheduler = Fcfs };
+    kinds = [];
+    first = [];
+  };
   rounds = 0;
   opened = 0;
   opening = λ d. no_counts;

@@ -36,8 +36,10 @@ IsRunsPass name carried pass = IsPassOf name carried pass × (0 < carried.slip.m
 abbrev pub IsDetectorsPass : DeskName → Carried → PassState Lent → Type 0
 IsDetectorsPass name carried pass = IsPassOf name carried pass × (carried.slip.maker ≡ 0)
 
--- with the device that the step hands out, where it does, goes a pass that fits what its grip carries
-abbrev pub GoesWith : {D : Type 0} → (Carried → PassState Lent → Type 0) → Turn D → Option (PassState Lent) → Type 0
+-- with the device that the step hands out, where it does, goes a pass that fits what its grip
+-- carries
+abbrev pub GoesWith : {D : Type 0} → (Carried → PassState Lent → Type 0) → Turn D
+    → Option (PassState Lent) → Type 0
 GoesWith fits (Go grip) None = ⊥
 GoesWith fits (Go grip) (Some pass) = fits (carried_by grip) pass
 GoesWith fits (Moved made) pass = ⊤

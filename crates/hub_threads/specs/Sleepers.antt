@@ -10,7 +10,8 @@ use Rattle.hub_core.specs.declared.waits.Why.{Why}
 use Rattle.lock_leasing.specs.Configurations.{Configuration}
 use Rattle.std.specs.Prelude.{Bool, None, Option, Some, false, nat_lt, true, ℕ, ◌&&◌, ◌-◌, ◌||◌, ◌≡◌}
 
--- the words: those that are blocked, those that wait for their place, the others, and those that sleep no more and are to be called
+-- the words: those that are blocked, those that wait for their place, the others, and those that
+-- sleep no more and are to be called
 pub record SleepersState : Type 0 where
   pub blocked : ℕ
   pub restless : ℕ

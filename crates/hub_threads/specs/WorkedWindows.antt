@@ -15,8 +15,12 @@ use Rattle.std.specs.Prelude.{List, Option, Some, length, slice_get, slice_index
 pub record NoneIsLeft {D : Type 0} (s : OpenHub D) : Type 0 where
   pub none : (d : DeviceId) → d < length s.setting.first → (progress_at s.devices d).probes_left ≡ 0
 
--- the hub's window was worked by threads: its record is legal, each moment that it tells is from the clock's earliest to its latest, and the home has each device in the place of its number, with the plan that it had and with counts that rose as the record says, the probes by all its rounds
-pub record IsWorked {D : Type 0} (tag : D → ℕ) (plan : D → Option (List (ℕ × ℕ))) (turns probes faults : D → ℕ) (earliest latest : Moment) (s : OpenHub D) (home : HomeState D) (closed : WindowRecord) : Type 0 where
+-- the hub's window was worked by threads: its record is legal, each moment that it tells is from
+-- the clock's earliest to its latest, and the home has each device in the place of its number, with
+-- the plan that it had and with counts that rose as the record says, the probes by all its rounds
+pub record IsWorked {D : Type 0} (tag : D → ℕ) (plan : D → Option (List (ℕ × ℕ)))
+    (turns probes faults : D → ℕ) (earliest latest : Moment) (s : OpenHub D) (home : HomeState D)
+    (closed : WindowRecord) : Type 0 where
   pub legal : IsLegalWindow s.setting closed
   pub ends : RunsHaveEnded s.setting closed
   pub moments : AreWithin earliest latest closed.history.items
@@ -24,10 +28,17 @@ pub record IsWorked {D : Type 0} (tag : D → ℕ) (plan : D → Option (List (�
   pub last : home.world ≡ closed.last.devices.items
   pub opened : home.opened ≡ s.opened + 1
   -- where no device fails, each is up
-  pub up : NoneFails s.setting closed.faults.items → (d : DeviceId) → d < length home.world → (stand_at home.world d).up ≡ true
+  pub up : NoneFails s.setting closed.faults.items → (d : DeviceId) → d < length home.world
+      → (stand_at home.world d).up ≡ true
   pub size : length home.devices ≡ length s.places
   pub numbered : AreNumbered tag home.devices
-  pub plans : (d : DeviceId) (before after : D) → slice_get s.places d ≡ Some (Home before) → slice_get home.devices d ≡ Some after → plan after ≡ plan before
-  pub turns_rose : (d : DeviceId) (device : D) → slice_get home.devices d ≡ Some device → turns device ≡ (progress_at s.devices d).at_opening.turns + slice_index_or closed.turns.items d 0
-  pub probes_rose : (d : DeviceId) (device : D) → slice_get home.devices d ≡ Some device → probes device ≡ (progress_at s.devices d).at_opening.probes + s.rounds
-  pub faults_rose : (d : DeviceId) (device : D) → slice_get home.devices d ≡ Some device → faults device ≡ (progress_at s.devices d).at_opening.faults + slice_index_or closed.faults.items d 0
+  pub plans : (d : DeviceId) (before after : D) → slice_get s.places d ≡ Some (Home before)
+      → slice_get home.devices d ≡ Some after → plan after ≡ plan before
+  pub turns_rose : (d : DeviceId) (device : D) → slice_get home.devices d ≡ Some device
+      → turns device
+      ≡ (progress_at s.devices d).at_opening.turns + slice_index_or closed.turns.items d 0
+  pub probes_rose : (d : DeviceId) (device : D) → slice_get home.devices d ≡ Some device
+      → probes device ≡ (progress_at s.devices d).at_opening.probes + s.rounds
+  pub faults_rose : (d : DeviceId) (device : D) → slice_get home.devices d ≡ Some device
+      → faults device
+      ≡ (progress_at s.devices d).at_opening.faults + slice_index_or closed.faults.items d 0

@@ -40,9 +40,10 @@ impl Bells {
         Ok(Bells { bells, naps })
     }
 
-    /// Sleeps until the bell of the run is rung, or its nap is over. The guard is the one under which the run was told
-    /// to wait, and noted as asleep: a ring after that ends the sleep at once. A blocked run only lets others run for a
-    /// while, since most waits are shorter than it takes to fall asleep and to wake; that of another may end by time.
+    /// Sleeps until the bell of the run is rung, or its nap is over. The guard is the one under
+    /// which the run was told to wait, and noted as asleep: a ring after that ends the sleep at
+    /// once. A blocked run only lets others run for a while, since most waits are shorter than it
+    /// takes to fall asleep and to wake; that of another may end by time.
     pub(crate) fn sleep<R: Wait, S>(
         &self,
         rt: &R,

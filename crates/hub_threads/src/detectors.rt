@@ -12,8 +12,8 @@ use hub_core::{Done, Grip};
 use std::sync::Wait;
 use std::sync::ledger::Share;
 
-/// Probes each device once in each round, passing by those that are out, and steps the runs that have no thread to
-/// their end. Answers how often a device was passed by.
+/// Probes each device once in each round, passing by those that are out, and steps the runs that
+/// have no thread to their end. Answers how often a device was passed by.
 pub(crate) fn detect<D: Device, N: Name, S: Steps<D, N, Grip<D, Done>>, R: Wait, C: Clock>(
     rt: &R,
     door: &Door<S>,
@@ -104,8 +104,8 @@ fn finish<D: Device, N: Name, S: Steps<D, N, Grip<D, Done>>, R: Wait, C: Clock>(
     unreachable!()
 }
 
-/// Steps each run that has no thread once. Answers `Over` where all of them have ended, else whether one moved or all
-/// the others wait.
+/// Steps each run that has no thread once. Answers `Over` where all of them have ended, else
+/// whether one moved or all the others wait.
 fn sweep<D: Device, N: Name, S: Steps<D, N, Grip<D, Done>>, R: Wait, C: Clock>(
     rt: &R,
     door: &Door<S>,

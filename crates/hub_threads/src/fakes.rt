@@ -19,7 +19,8 @@ use std::sync::{Mutex, Wait};
 /// How many moves of its run a fake answers at most.
 const MOST: u64 = 1000;
 
-/// A window of one run that moves so often and is then over. It has no device, so nothing can come home to it.
+/// A window of one run that moves so often and is then over. It has no device, so nothing can come
+/// home to it.
 #[derive(Drop)]
 pub(crate) struct Fake<N: Name> {
     left: u32,
@@ -132,8 +133,8 @@ impl<N: Name> Fake<N> {
     }
 }
 
-/// Works the run of a fake that moves so often, and answers how many entries the fake has answered. The worker's share
-/// counts as many.
+/// Works the run of a fake that moves so often, and answers how many entries the fake has answered.
+/// The worker's share counts as many.
 pub(crate) fn work_fake<D: Device, R: Wait, C: Clock>(
     rt: &R,
     bells: Bells,

@@ -50,9 +50,10 @@ const NOTHING: Made = Made {
 
 /// How workers step what lies under the lock.
 ///
-/// Each of the first four calls raises the share by the number of entries in its answer. What goes out goes with a pass,
-/// and with its pass alone does it come back, so that it is taken in. The done grip is a parameter, since no proof is made
-/// of an impl whose method takes a `Grip<D, Done>` by value.
+/// Each of the first four calls raises the share by the number of entries in its answer. What goes
+/// out goes with a pass, and with its pass alone does it come back, so that it is taken in. The
+/// done grip is a parameter, since no proof is made of an impl whose method takes a `Grip<D, Done>`
+/// by value.
 pub trait Steps<D: Device, N: Name, G: DoneGrip<D>>: Drop {
     /// The step of a run, and the pass of the device that it hands out, where it does.
     fn take(&mut self, share: &mut Share<N>, r: RunNo, moment: u64) -> (Turn<D>, Option<Pass<Lent>>)
@@ -96,19 +97,21 @@ pub trait Steps<D: Device, N: Name, G: DoneGrip<D>>: Drop {
     /// Why the window cannot be closed.
     fn quiet(&self) -> Option<NotQuiet>;
 
-    /// The run, which was told to wait, falls asleep. Answers whether it is known that only a step of another actor can
-    /// end its wait. No promise rests on it.
+    /// The run, which was told to wait, falls asleep. Answers whether it is known that only a step
+    /// of another actor can end its wait. No promise rests on it.
     fn sleep(&mut self, r: RunNo, why: Why) -> bool;
 
-    /// The sleepers that the steps since the last call may have freed, the run r as the bit r - 1; they sleep no more.
+    /// The sleepers that the steps since the last call may have freed, the run r as the bit r - 1;
+    /// they sleep no more.
     fn wake(&mut self) -> u64;
 }
 
-/// What lies under the lock: the hub, how many entries were told in all, who sleeps, and the desk from which grips go out.
+/// What lies under the lock: the hub, how many entries were told in all, who sleeps, and the desk
+/// from which grips go out.
 ///
-/// Contracts see the hub. The type keeps that it is of the window of the name, that its history has as many entries as were
-/// told, that each run that sleeps as a blocked one is blocked, and that the desk knows what is out of each place of the
-/// hub.
+/// Contracts see the hub. The type keeps that it is of the window of the name, that its history has
+/// as many entries as were told, that each run that sleeps as a blocked one is blocked, and that
+/// the desk knows what is out of each place of the hub.
 #[derive(Drop)]
 pub struct Held<D: Device, N: Name> {
     hub: Hub<D>,

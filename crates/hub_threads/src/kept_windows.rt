@@ -22,14 +22,16 @@ use std::thread::Threads;
 pub enum KeepFault<D: Device, Q: Disk> {
     /// There was no memory for the window: the hub and the journal are as they were.
     NoMemory(Hub<D>, Journal<Q>),
-    /// The window was worked, and a call of the disk failed: opened again, the journal tells whether it is kept.
+    /// The window was worked, and a call of the disk failed: opened again, the journal tells
+    /// whether it is kept.
     Failed(Home<D>, WindowRecord, Q),
 }
 
-/// Works a window as `run_window` does, and keeps the state in which it left the home, before its record is handed out.
+/// Works a window as `run_window` does, and keeps the state in which it left the home, before its
+/// record is handed out.
 ///
-/// From `Ok` on every crash leaves the state kept. A crash at any moment of the call leaves what was kept, with the new
-/// state or without.
+/// From `Ok` on every crash leaves the state kept. A crash at any moment of the call leaves what
+/// was kept, with the new state or without.
 pub fn run_kept_window<R: Threads + Wait + Sync, D: Device + Send, C: Clock + Sync, Q: Disk>(
     rt: &R,
     alloc: Global,
@@ -39,18 +41,19 @@ pub fn run_kept_window<R: Threads + Wait + Sync, D: Device + Send, C: Clock + Sy
     journal: Journal<Q>,
 ) -> Result<(Home<D>, WindowRecord, Journal<Q>), KeepFault<D, Q>>
     requires fresh { configuration_of hub ≡ opened hub.setting hub.rounds }
-    requires rounds { (d : ℕ) → d < length hub.setting.first → (configuration_of hub).probes d ≡ rounds }
+    requires rounds { (d : ℕ) → d < length hub.setting.first
+        → (configuration_of hub).probes d ≡ rounds }
     requires kinds { journal.kinds ≡ hub.setting.kinds }
     requires next { journal.kept < journal.most }
     ensures worked { IfOk result (λ done.
         IsWorked D.tag D.plan D.turns D.probes D.faults (C.earliest clock.now) (C.latest clock.now)
         hub done.0 done.1) }
     ensures last { IfOk result (λ done. KeepsOneMore journal done.2 done.1.last.devices.items) }
-    ensures kept { Q.told ≡ true → IfOk result (λ done.
-        AddsStates (states_kept Q.seen journal) (states_kept Q.seen done.2) (done.1.last.devices.items ∷ [])) }
+    ensures kept { Q.told ≡ true → IfOk result (λ done. AddsStates (states_kept Q.seen journal)
+        (states_kept Q.seen done.2) (done.1.last.devices.items ∷ [])) }
     // A crash at any moment of the call leaves what was kept, with the new state or without.
-    ensures any_moment { Q.told ≡ true → IfOk result (λ done.
-        LeavesFirst Q.seen Q.moment Q.images_since journal done.2.disk (done.1.last.devices.items ∷ [])) }
+    ensures any_moment { Q.told ≡ true → IfOk result (λ done. LeavesFirst Q.seen Q.moment
+        Q.images_since journal done.2.disk (done.1.last.devices.items ∷ [])) }
     ensures fails { IfErr result (λ fault.
         KeepFails D.tag D.plan D.turns D.probes D.faults (C.earliest clock.now) (C.latest clock.now)
         Q.told Q.seen Q.moment Q.images_since Q.faults hub journal fault) }

@@ -5,8 +5,9 @@ ghost use Rattle.hub_threads.specs.Names.{NamedWindow};
 use std::marker::Brand;
 use std::sync::ledger::Ledger;
 
-/// What the hub of a window keeps from its opening on, and between which moments the window's clock answers. Whatever
-/// carries the name of a window is of that window, and each pass of its grips is of the window's desk.
+/// What the hub of a window keeps from its opening on, and between which moments the window's clock
+/// answers. Whatever carries the name of a window is of that window, and each pass of its grips is
+/// of the window's desk.
 pub trait Name: Ledger {
     ghost window: { NamedWindow };
 

@@ -65,9 +65,8 @@ fn run_room<R: Threads + Wait + Sync, D: Device + Send, C: Clock + Sync>(
     clock: &C,
 ) -> Result<RoomDone<D>, NoMemory>
     requires { IsReady rounds job }
-    ensures { IfOk result (λ done.
-        IsRoomWorked D.tag D.plan D.turns D.probes D.faults (C.earliest clock.now) (C.latest clock.now)
-        job done) }
+    ensures { IfOk result (λ done. IsRoomWorked D.tag D.plan D.turns D.probes D.faults
+        (C.earliest clock.now) (C.latest clock.now) job done) }
 {
     let RoomHub { roster, hub } = job;
     match run_window(rt, alloc, hub, rounds, clock) {
@@ -94,25 +93,27 @@ fn run_all<R: Threads + Wait + Sync, D: Device + Send, C: Clock + Sync>(
     requires { All (IsReady rounds) jobs.items }
     ensures len { IfOk result (λ answers. length answers.items ≡ length jobs.items) }
     ensures each { IfOk result (λ answers. (i : ℕ) (d : _) (e : _) → i < length jobs.items
-        → IfOk (slice_index_or answers.items i d) (λ done.
-        IsRoomWorked D.tag D.plan D.turns D.probes D.faults (C.earliest clock.now) (C.latest clock.now)
-        (slice_index_or jobs.items i e) done)) }
+        → IfOk (slice_index_or answers.items i d)
+        (λ done. IsRoomWorked D.tag D.plan D.turns D.probes D.faults (C.earliest clock.now)
+        (C.latest clock.now) (slice_index_or jobs.items i e) done)) }
 {
     thread::map_vec(
         rt,
         jobs,
         &|job: RoomHub<D>| -> Result<RoomDone<D>, NoMemory>
             requires { IsReady rounds job }
-            ensures { IfOk result (λ done. IsRoomWorked D.tag D.plan D.turns D.probes D.faults (C.earliest clock.entry.now) (C.latest clock.entry.now) job done) }
+            ensures { IfOk result (λ done. IsRoomWorked D.tag D.plan D.turns D.probes D.faults
+                (C.earliest clock.entry.now) (C.latest clock.entry.now) job done) }
         { run_room(rt, alloc, job, rounds, clock) },
     )
 }
 
-/// Works the windows of all rooms at once, each as `run_window` does, with so many rounds of probes. A hub has been opened
-/// with the roster of its room, and nothing was done in it yet.
+/// Works the windows of all rooms at once, each as `run_window` does, with so many rounds of
+/// probes. A hub has been opened with the roster of its room, and nothing was done in it yet.
 ///
-/// Answers `NoMemory` where one of them does, and the hubs and homes of all are dropped then. It may wait: what is said of
-/// its answer holds if it returns. Nothing says that two rooms overlap in time.
+/// Answers `NoMemory` where one of them does, and the hubs and homes of all are dropped then. It
+/// may wait: what is said of its answer holds if it returns. Nothing says that two rooms overlap in
+/// time.
 pub fn run_rooms<R: Threads + Wait + Sync, D: Device + Send, C: Clock + Sync>(
     rt: &R,
     alloc: Global,
@@ -121,9 +122,8 @@ pub fn run_rooms<R: Threads + Wait + Sync, D: Device + Send, C: Clock + Sync>(
     clock: &C,
 ) -> Result<List<RoomDone<D>>, NoMemory>
     requires { All (IsReady rounds) hubs.items }
-    ensures { IfOk result (λ done.
-        AreRoomsWorked D.tag D.plan D.turns D.probes D.faults (C.earliest clock.now) (C.latest clock.now)
-        hubs.items done.items) }
+    ensures { IfOk result (λ done. AreRoomsWorked D.tag D.plan D.turns D.probes D.faults
+        (C.earliest clock.now) (C.latest clock.now) hubs.items done.items) }
 {
     match into_vec(alloc, hubs) {
         Ok(jobs) => match run_all(rt, alloc, jobs, rounds, clock) {

@@ -20,9 +20,9 @@ pub(crate) struct Sleepers {
     blocked: u64,
     /// Anybody's step may end it, and so may time.
     restless: u64,
-    /// They wait for their place, which the end, a doom or an undo of another run may give them, or time. What else may do
-    /// so is left to time: the answer to another run's last command on a device or one that covers its write, and an undo
-    /// that goes out.
+    /// They wait for their place, which the end, a doom or an undo of another run may give them, or
+    /// time. What else may do so is left to time: the answer to another run's last command on a
+    /// device or one that covers its write, and an undo that goes out.
     unplaced: u64,
     /// They sleep no more, and their bells are still to be rung.
     called: u64,
@@ -33,7 +33,12 @@ impl Model for Sleepers {
 
     ghost Value = { SleepersState };
 
-    ghost view = { λ s. record { blocked = s.blocked; restless = s.restless; unplaced = s.unplaced; called = s.called } };
+    ghost view = { λ s. record {
+      blocked = s.blocked;
+      restless = s.restless;
+      unplaced = s.unplaced;
+      called = s.called;
+    } };
 }
 
 impl Sleepers {
@@ -50,7 +55,8 @@ impl Sleepers {
 
     /// The run sleeps, and is blocked. A run with no bit is not noted.
     pub(crate) fn note_blocked(&mut self, r: RunNo)
-        ensures blocked { (q : ℕ) → has_run self.new.blocked q ≡ (has_run self.old.blocked q || (has_run_bit r.0 && (q == r.0))) }
+        ensures blocked { (q : ℕ) → has_run self.new.blocked q
+            ≡ (has_run self.old.blocked q || (has_run_bit r.0 && (q == r.0))) }
         ensures restless { self.new.restless ≡ self.old.restless }
         ensures unplaced { self.new.unplaced ≡ self.old.unplaced }
         ensures called { self.new.called ≡ self.old.called }
@@ -60,7 +66,8 @@ impl Sleepers {
 
     /// The run sleeps, and is not known to be blocked. A run with no bit is not noted.
     pub(crate) fn note_restless(&mut self, r: RunNo)
-        ensures restless { (q : ℕ) → has_run self.new.restless q ≡ (has_run self.old.restless q || (has_run_bit r.0 && (q == r.0))) }
+        ensures restless { (q : ℕ) → has_run self.new.restless q
+            ≡ (has_run self.old.restless q || (has_run_bit r.0 && (q == r.0))) }
         ensures blocked { self.new.blocked ≡ self.old.blocked }
         ensures unplaced { self.new.unplaced ≡ self.old.unplaced }
         ensures called { self.new.called ≡ self.old.called }
@@ -70,7 +77,8 @@ impl Sleepers {
 
     /// The run sleeps, and waits for its place. A run with no bit is not noted.
     pub(crate) fn note_unplaced(&mut self, r: RunNo)
-        ensures unplaced { (q : ℕ) → has_run self.new.unplaced q ≡ (has_run self.old.unplaced q || (has_run_bit r.0 && (q == r.0))) }
+        ensures unplaced { (q : ℕ) → has_run self.new.unplaced q
+            ≡ (has_run self.old.unplaced q || (has_run_bit r.0 && (q == r.0))) }
         ensures blocked { self.new.blocked ≡ self.old.blocked }
         ensures restless { self.new.restless ≡ self.old.restless }
         ensures called { self.new.called ≡ self.old.called }
@@ -78,15 +86,19 @@ impl Sleepers {
         self.unplaced |= bit_of(r);
     }
 
-    /// Calls those that the last step may have freed, which made these entries and after which this is the hub: the restless
-    /// ones, those that wait for their place where an entry may give it, and the blocked ones that are known to be blocked
-    /// no more.
+    /// Calls those that the last step may have freed, which made these entries and after which this
+    /// is the hub: the restless ones, those that wait for their place where an entry may give it,
+    /// and the blocked ones that are known to be blocked no more.
     pub(crate) fn call<D: Device>(&mut self, hub: &Hub<D>, made: &Made)
         ensures blocked { SleepersAreBlocked (configuration_of hub.now) self.new.blocked }
         ensures restless { self.new.restless ≡ 0 }
-        ensures unplaced { (r : ℕ) → has_run self.new.unplaced r ≡ (not (frees_places made.now) && has_run self.old.unplaced r) }
-        ensures called { (r : ℕ) → has_run self.new.called r ≡ (has_run self.old.called r || ((has_run self.old.restless r || (frees_places made.now && has_run self.old.unplaced r)) || (has_run self.old.blocked r && not (has_run self.new.blocked r)))) }
-        ensures fewer { (r : ℕ) → has_run self.new.blocked r ≡ true → has_run self.old.blocked r ≡ true }
+        ensures unplaced { (r : ℕ) → has_run self.new.unplaced r
+            ≡ (not (frees_places made.now) && has_run self.old.unplaced r) }
+        ensures called { (r : ℕ) → has_run self.new.called r ≡ (has_run self.old.called r
+            || ((has_run self.old.restless r || (frees_places made.now && has_run self.old.unplaced
+            r)) || (has_run self.old.blocked r && not (has_run self.new.blocked r)))) }
+        ensures fewer { (r : ℕ) → has_run self.new.blocked r ≡ true
+            → has_run self.old.blocked r ≡ true }
     {
         let freed = self.unplaced_after(made);
         let left = still_blocked(self.blocked, hub);

@@ -1,4 +1,5 @@
-//! Windows with a known end, whoever steps their runs, and a worker over a fake of what lies under the lock.
+//! Windows with a known end, whoever steps their runs, and a worker over a fake of what lies under
+//! the lock.
 ghost use Rattle.std.specs.Prelude.{◌≡◌, ◌<◌, IfOk, IfSome};
 ghost use Rattle.hub_core.specs.OpenHubs.{configuration_of};
 ghost use Rattle.hub_core.specs.Steps.{opened};
@@ -28,13 +29,20 @@ const SCRIPT: &str = r#"{"safehome": 1, "devices": [
   {"name": "heat", "low": 10, "high": 30, "start": 18},
   {"name": "fan", "states": ["off", "on"], "start": "off"}],
  "routines": [
-  {"name": "a", "commands": [{"on": "lamp", "do": "set", "to": 7}, {"on": "heat", "do": "set", "to": 20}, {"on": "lamp", "do": "set", "to": 1}]},
-  {"name": "b", "commands": [{"on": "fan", "do": "set", "to": "on"}, {"on": "lamp", "do": "set", "to": 2}]},
+  {"name": "a",
+    "commands": [{"on": "lamp", "do": "set", "to": 7}, {"on": "heat", "do": "set", "to": 20},
+      {"on": "lamp", "do": "set", "to": 1}]},
+  {"name": "b",
+    "commands": [{"on": "fan", "do": "set", "to": "on"}, {"on": "lamp", "do": "set", "to": 2}]},
   {"name": "c", "commands": [{"on": "heat", "do": "load"}, {"on": "lamp", "do": "set", "to": 3}]},
-  {"name": "d", "commands": [{"on": "lamp", "do": "set", "to": 4}, {"on": "fan", "do": "set", "to": "off"}]},
-  {"name": "e", "commands": [{"on": "heat", "do": "set", "to": 22}, {"on": "fan", "do": "set", "to": "on"}, {"on": "lamp", "do": "set", "to": 5}]}],
+  {"name": "d",
+    "commands": [{"on": "lamp", "do": "set", "to": 4}, {"on": "fan", "do": "set", "to": "off"}]},
+  {"name": "e",
+    "commands": [{"on": "heat", "do": "set", "to": 22}, {"on": "fan", "do": "set", "to": "on"},
+      {"on": "lamp", "do": "set", "to": 5}]}],
  "windows": [{"at": "2021-04-26T18:30", "probes": 2,
-    "runs": [{"routine": "a"}, {"routine": "b"}, {"routine": "c"}, {"routine": "d"}, {"routine": "e"}]}]}"#;
+    "runs": [{"routine": "a"}, {"routine": "b"}, {"routine": "c"}, {"routine": "d"},
+      {"routine": "e"}]}]}"#;
 
 /// A lamp, and two windows: in the first it is switched on, in the second off.
 const EVENING: &str =
@@ -53,7 +61,8 @@ const RUNS: u64 = 5;
 
 const ROUNDS: u32 = 2;
 
-/// Under the first of them runs wait for each other once they are placed, under the second for their place too.
+/// Under the first of them runs wait for each other once they are placed, under the second for
+/// their place too.
 const SCHEDULERS: [Scheduler; 2] = [Scheduler::Fcfs, Scheduler::JustInTime];
 
 /// Naps of an hour: only a bell ends them in a test's time.
@@ -87,8 +96,8 @@ fn a_worker_tells_what_was_answered(rt: HostRuntime) {
     );
 }
 
-/// A hub that begins again behind each window, on a disk that fails from this call on until the first kill. It makes four
-/// calls of an empty disk to open the journal, and four to keep a state.
+/// A hub that begins again behind each window, on a disk that fails from this call on until the
+/// first kill. It makes four calls of an empty disk to open the journal, and four to keep a state.
 #[test]
 fn a_hub_goes_on_behind_what_is_kept(rt: HostRuntime) {
     for k in 1..10 {
@@ -99,7 +108,8 @@ fn a_hub_goes_on_behind_what_is_kept(rt: HostRuntime) {
     }
 }
 
-/// Whether the window ends as it should where at most so many threads are started, and nobody wakes without a bell.
+/// Whether the window ends as it should where at most so many threads are started, and nobody wakes
+/// without a bell.
 fn ends_right<R: Threads + Wait + Sync>(rt: &R, alloc: Global, threads: u32) -> bool {
     let mut right = true;
     for scheduler in SCHEDULERS {
@@ -159,8 +169,8 @@ fn open_first(alloc: Global, script: &Script, scheduler: Scheduler) -> Option<Hu
     Some(hub)
 }
 
-/// Opens the script's window of this number, from 0, under this scheduler, on a home that has opened none. Answers the
-/// hub, and how often each device may be probed.
+/// Opens the script's window of this number, from 0, under this scheduler, on a home that has
+/// opened none. Answers the hub, and how often each device may be probed.
 fn open_window<D: Device>(
     alloc: Global,
     script: &Script,
@@ -197,8 +207,8 @@ fn open_window<D: Device>(
     }
 }
 
-/// Whether every run committed, the order has all of them, the lamp stands as the last of them leaves it, and each
-/// device was probed in each round.
+/// Whether every run committed, the order has all of them, the lamp stands as the last of them
+/// leaves it, and each device was probed in each round.
 fn is_right(home: Home<CalmDevice>, closed: &WindowRecord) -> bool {
     let lamp = home.world().devices.get(0).map(|stand| stand.value);
     let devices = home.into_devices();
@@ -227,8 +237,8 @@ fn last_of(order: &List<Item>) -> Option<u32> {
     }
 }
 
-/// How often a hub begins until it finds both windows kept, and the lamp off again. At each kill the disk has the writes
-/// since its last sync, or has lost them.
+/// How often a hub begins until it finds both windows kept, and the lamp off again. At each kill
+/// the disk has the writes since its last sync, or has lost them.
 fn lives<R: Threads + Wait + Sync>(
     rt: &R,
     alloc: Global,
@@ -263,7 +273,8 @@ fn lives_on<R: Threads + Wait + Sync>(
     None
 }
 
-/// Begins behind what the disk keeps, and works the next window. Answers whether there is none, and the lamp is off.
+/// Begins behind what the disk keeps, and works the next window. Answers whether there is none, and
+/// the lamp is off.
 fn live<R: Threads + Wait + Sync>(
     rt: &R,
     alloc: Global,
@@ -297,7 +308,8 @@ fn is_off<Q: Disk>(journal: &Journal<Q>) -> bool {
     }
 }
 
-/// Works the window behind those that are kept, and keeps its state. Answers the disk, also where that fails.
+/// Works the window behind those that are kept, and keeps its state. Answers the disk, also where
+/// that fails.
 fn work_next<R: Threads + Wait + Sync, B: Bench, Q: Disk>(
     rt: &R,
     alloc: Global,

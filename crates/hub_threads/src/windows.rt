@@ -35,7 +35,8 @@ pub(crate) struct Means {
     pub(crate) naps: Naps,
 }
 
-/// A window that is to be worked: so many runs, rounds of probes and devices, at the moments of this clock.
+/// A window that is to be worked: so many runs, rounds of probes and devices, at the moments of
+/// this clock.
 #[derive(Drop)]
 struct Window<'a, C> {
     runs: u32,
@@ -45,9 +46,10 @@ struct Window<'a, C> {
     means: Means,
 }
 
-/// How many threads are started at once. Each further one starts after a nap, where a run is left then that no thread has
-/// taken: where devices answer at once the first ones work the window alone, and where they are slow each run has a thread of
-/// its own, the last one after as many naps as there are further runs.
+/// How many threads are started at once. Each further one starts after a nap, where a run is left
+/// then that no thread has taken: where devices answer at once the first ones work the window
+/// alone, and where they are slow each run has a thread of its own, the last one after as many naps
+/// as there are further runs.
 const AT_ONCE: u32 = 4;
 
 /// As many threads as runs.
@@ -59,13 +61,14 @@ const USUAL: Means = Means {
     },
 };
 
-/// Works a window of a hub in which nothing was done yet: threads for the runs, which the system may refuse, and the calling
-/// thread as the detector, which comes so often to each device. A thread whose run is over takes the next one that none has
-/// taken, and but for the first four a thread starts after a nap of a ms: so there is one for each run where all take long,
-/// and fewer where some are over soon. Each moment is an answer of the clock.
+/// Works a window of a hub in which nothing was done yet: threads for the runs, which the system
+/// may refuse, and the calling thread as the detector, which comes so often to each device. A
+/// thread whose run is over takes the next one that none has taken, and but for the first four a
+/// thread starts after a nap of a ms: so there is one for each run where all take long, and fewer
+/// where some are over soon. Each moment is an answer of the clock.
 ///
-/// Answers `NoMemory` where there is none to be had, before any thread starts, and gives the hub back. It may wait: what
-/// is said of its answer holds if it returns.
+/// Answers `NoMemory` where there is none to be had, before any thread starts, and gives the hub
+/// back. It may wait: what is said of its answer holds if it returns.
 pub fn run_window<R: Threads + Wait + Sync, D: Device + Send, C: Clock + Sync>(
     rt: &R,
     alloc: Global,
@@ -74,7 +77,8 @@ pub fn run_window<R: Threads + Wait + Sync, D: Device + Send, C: Clock + Sync>(
     clock: &C,
 ) -> Result<(Home<D>, WindowRecord), (Hub<D>, NoMemory)>
     requires fresh { configuration_of hub ≡ opened hub.setting hub.rounds }
-    requires rounds { (d : ℕ) → d < length hub.setting.first → (configuration_of hub).probes d ≡ rounds }
+    requires rounds { (d : ℕ) → d < length hub.setting.first
+        → (configuration_of hub).probes d ≡ rounds }
     ensures worked { IfOk result (λ closed.
         IsWorked D.tag D.plan D.turns D.probes D.faults (C.earliest clock.now) (C.latest clock.now)
         hub closed.0 closed.1) }
@@ -257,7 +261,8 @@ fn in_threads<
                 match scope.spawn(job) {
                     Ok(handle) => handles.push_reserved(handle),
                     Err(refused) => {
-                        // The job, called here, makes no step, since its run has no thread: it hands its share back.
+                        // The job, called here, makes no step, since its run has no thread: it
+                        // hands its share back.
                         door.unstarted.add(r);
                         let Spent { share } = (refused.value)();
                         all.merge(share);
@@ -269,8 +274,8 @@ fn in_threads<
     )
 }
 
-/// The run for the worker with this number, counted from 0, which but for the first ones starts after a nap. `None` where
-/// each run is taken.
+/// The run for the worker with this number, counted from 0, which but for the first ones starts
+/// after a nap. `None` where each run is taken.
 fn next_untaken<R: Wait, S>(rt: &R, door: &Door<S>, i: u32) -> Option<RunNo> {
     if AT_ONCE <= i {
         door.bells.nap(rt);
@@ -310,7 +315,8 @@ fn joined<'a, R: Threads + Wait + Sync, D: Device + Send, C: Clock + Sync, N: Na
     all
 }
 
-/// Closes the window once it is quiet and no probe is left. After the joins it is: this does not wait then.
+/// Closes the window once it is quiet and no probe is left. After the joins it is: this does not
+/// wait then.
 fn closed<R: Wait, D: Device>(rt: &R, hub: Hub<D>) -> (Home<D>, WindowRecord)
     ensures stands { HubStands D.tag D.stands D.turns D.probes D.faults hub }
     ensures closed { WindowIsClosed D.turns D.probes D.faults hub result.0 result.1 }

@@ -31,14 +31,16 @@ pub(crate) struct Door<S> {
     pub(crate) untaken: Untaken,
 }
 
-/// The runs of a window that no thread has taken yet. Each is taken once, in the order of the numbers.
+/// The runs of a window that no thread has taken yet. Each is taken once, in the order of the
+/// numbers.
 #[derive(Drop)]
 pub(crate) struct Untaken {
     taken: AtomicU64,
     runs: u32,
 }
 
-/// The runs that have no thread of their own. The calling thread steps them, and it alone writes them down here.
+/// The runs that have no thread of their own. The calling thread steps them, and it alone writes
+/// them down here.
 #[derive(Drop)]
 pub(crate) struct Unstarted {
     runs: AtomicU64,
@@ -106,7 +108,8 @@ impl Unstarted {
     }
 }
 
-/// Works the run to its end, unless the calling thread steps it, and then those that no thread has taken yet.
+/// Works the run to its end, unless the calling thread steps it, and then those that no thread has
+/// taken yet.
 pub(crate) fn work<D: Device, N: Name, S: Steps<D, N, Grip<D, Done>>, R: Wait, C: Clock>(
     rt: &R,
     door: &Door<S>,
@@ -134,8 +137,8 @@ pub(crate) fn work<D: Device, N: Name, S: Steps<D, N, Grip<D, Done>>, R: Wait, C
     Spent { share }
 }
 
-/// Makes a step of the run under the lock, and where a device goes out its call, outside the lock, and the step back.
-/// Where the run waits it may sleep.
+/// Makes a step of the run under the lock, and where a device goes out its call, outside the lock,
+/// and the step back. Where the run waits it may sleep.
 pub(crate) fn step<D: Device, N: Name, S: Steps<D, N, Grip<D, Done>>, R: Wait, C: Clock>(
     rt: &R,
     door: &Door<S>,
@@ -176,8 +179,8 @@ pub(crate) fn step<D: Device, N: Name, S: Steps<D, N, Grip<D, Done>>, R: Wait, C
     }
 }
 
-/// Enters the lock. A thread tries it for a while and lets others run in between, since one that sleeps before the lock is
-/// woken late.
+/// Enters the lock. A thread tries it for a while and lets others run in between, since one that
+/// sleeps before the lock is woken late.
 fn enter<'b, S, R: Wait>(rt: &R, held: &'b Mutex<S>) -> MutexGuard<'b, S> {
     for _ in 0..TRIES {
         if let Some(guard) = held.try_lock() {

@@ -107,7 +107,9 @@ module _ (s : Configuration) (table : List LineageState) (line : List Mark) (his
       same : option_map (λ q. q.0) (denier line history s.setting.runs r (first_place s.setting (read_of s) s.grips r) d (accesses_at table d)) ≡ denied_by s.setting (read_of s) s.grips r d
       same = denier_is s.setting (read_of s) s.grips (facts_of s table line history runs parts) d line history r (accesses_at table d) dooms dead parts.its_line.items lineage.runs lineage.each
 
-      at : (b : Bool) → option_map (λ x. plain_denial x) (if b then option_map (λ x. found_by d x) (denier line history s.setting.runs r (first_place s.setting (read_of s) s.grips r) d (accesses_at table d)) else None) ≡ (if b then option_map (λ x. denial_by d x) (denied_by s.setting (read_of s) s.grips r d) else None)
+      at : (b : Bool) → option_map (λ x. plain_denial x)
+          (if b then option_map (λ x. found_by d x) (denier line history s.setting.runs r (first_place s.setting (read_of s) s.grips r) d (accesses_at table d))
+          else None) ≡ (if b then option_map (λ x. denial_by d x) (denied_by s.setting (read_of s) s.grips r d) else None)
       at true = named d (denier line history s.setting.runs r (first_place s.setting (read_of s) s.grips r) d (accesses_at table d)) ∙ ap (option_map (λ x. denial_by d x)) same
       at false = refl
 
@@ -115,5 +117,7 @@ module _ (s : Configuration) (table : List LineageState) (line : List Mark) (his
   denial_is =
       ap (λ rs. option_map (λ x. plain_denial x) (first_denial table line history rs r (first_place s.setting (read_of s) s.grips r))) (sym parts.its_roster)
       ∙ ap (λ k. option_map (λ x. plain_denial x) (first_some (denial_on table line history s.setting.runs r (first_place s.setting (read_of s) s.grips r)) (range_with_len 0 k))) parts.its_table.devices
-      ∙ first_alike (λ x. plain_denial x) (denial_on table line history s.setting.runs r (first_place s.setting (read_of s) s.grips r)) (λ d. if touches s.setting.runs r d then option_map (λ x. denial_by d x) (denied_by s.setting (read_of s) s.grips r d) else None) 0 (length s.setting.first) (λ d within. denial_alike d (omega (arith, within)))
+      ∙ first_alike (λ x. plain_denial x) (denial_on table line history s.setting.runs r (first_place s.setting (read_of s) s.grips r))
+      (λ d. if touches s.setting.runs r d then option_map (λ x. denial_by d x) (denied_by s.setting (read_of s) s.grips r d) else None) 0
+      (length s.setting.first) (λ d within. denial_alike d (omega (arith, within)))
       ∙ first_filtered (λ d. option_map (λ x. denial_by d x) (denied_by s.setting (read_of s) s.grips r d)) (touches s.setting.runs r) (range_with_len 0 (length s.setting.first))

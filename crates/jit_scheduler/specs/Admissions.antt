@@ -22,8 +22,10 @@ pub record IsToBePlaced (n : Reading) (r : RunId) (came : Moment) : Type 0 where
   pub unplaced : is_none (n.run r).placed ≡ true
 
 -- the parts belong to one window, which is not of the weak model, and the run is to be placed in it
-pub data MayAdmit (table : List LineageState) (line : List Mark) (history : List Kept) (runs : List Run) (r : RunId) (came : Moment) : Type 0 where
-  Admitting : (s : Configuration) (parts : IsStandingOf s table line history runs) (turn : IsToBePlaced (read_of s) r came) → MayAdmit table line history runs r came
+pub data MayAdmit (table : List LineageState) (line : List Mark) (history : List Kept)
+    (runs : List Run) (r : RunId) (came : Moment) : Type 0 where
+  Admitting : (s : Configuration) (parts : IsStandingOf s table line history runs)
+      (turn : IsToBePlaced (read_of s) r came) → MayAdmit table line history runs r came
 
 -- what the scheduler says where this is the answer
 abbrev pub admitted_placing : List Item → Admit → Placing
@@ -31,28 +33,37 @@ admitted_placing line (At place) = PlacedAt (split_at line place)
 admitted_placing line (Denied d x) = DeniedBy d.0 x.0
 admitted_placing line Patience = PlacedAt (split_at line (length line))
 
--- the answer: the first place, where no device is denied; else that the run has waited long enough, where it has; else the first denial
+-- the answer: the first place, where no device is denied; else that the run has waited long enough,
+-- where it has; else the first denial
 abbrev pub admission : Setting → Reading → Grips → RunId → Moment → Admit
 admission w n g r m = by_denial (denial_of w n g r)
   where
     by_denial : Option Denial → Admit
     by_denial None = At (first_place w n g r)
-    by_denial (Some x) = if nat_le (unwrap_or (n.run r).arrived 0 + patience) m then Patience else Denied (device_no x.device) (run_no x.run)
+    by_denial (Some x) =
+        if nat_le (unwrap_or (n.run r).arrived 0 + patience) m then Patience
+        else Denied (device_no x.device) (run_no x.run)
 
 -- the answer where this is the first place and this the first denial
 abbrev pub answer_by : LinePlace → Option FoundDenial → Moment → Moment → Admit
 answer_by place None came m = At place
-answer_by place (Some x) came m = if nat_le (came + patience) m then Patience else Denied x.device x.run
+answer_by place (Some x) came m =
+    if nat_le (came + patience) m then Patience else Denied x.device x.run
 
--- the answer says what just-in-time admission says, in each configuration to which the parts belong and in which the run is to be placed
-abbrev pub IsPlacingOf : List LineageState → List Mark → List Kept → List Run → RunId → Moment → Moment → Admit → Type 0
+-- the answer says what just-in-time admission says, in each configuration to which the parts belong
+-- and in which the run is to be placed
+abbrev pub IsPlacingOf : List LineageState → List Mark → List Kept → List Run → RunId → Moment
+    → Moment → Admit → Type 0
 IsPlacingOf table line history runs r came m answer =
-    (s : Configuration) → IsStandingOf s table line history runs → IsToBePlaced (read_of s) r came → admitted_placing (read_of s).line answer ≡ just_in_time s.setting (read_of s) s.grips r m
+    (s : Configuration) → IsStandingOf s table line history runs → IsToBePlaced (read_of s) r came
+    → admitted_placing (read_of s).line answer ≡ just_in_time s.setting (read_of s) s.grips r m
 
 -- .. and tells a first place from the end after a wait
-abbrev pub IsAdmissionOf : List LineageState → List Mark → List Kept → List Run → RunId → Moment → Moment → Admit → Type 0
+abbrev pub IsAdmissionOf : List LineageState → List Mark → List Kept → List Run → RunId → Moment
+    → Moment → Admit → Type 0
 IsAdmissionOf table line history runs r came m answer =
-    (s : Configuration) → IsStandingOf s table line history runs → IsToBePlaced (read_of s) r came → answer ≡ admission s.setting (read_of s) s.grips r m
+    (s : Configuration) → IsStandingOf s table line history runs → IsToBePlaced (read_of s) r came
+    → answer ≡ admission s.setting (read_of s) s.grips r m
 
 -- a place is one of the line, or its end
 abbrev pub IsPlaceOfLine : List Mark → Admit → Type 0

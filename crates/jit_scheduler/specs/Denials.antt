@@ -21,17 +21,26 @@ stands_before place line x = list_any (is_ran x) (take place (items_of line))
 
 -- the run, where it stands before the place
 abbrev pub only_before : LinePlace → List Mark → Option RunNo → Option RunNo
-only_before place line run = option_and_then (λ (x : RunNo). if stands_before place line x.0 then Some x else None) run
+only_before place line run =
+    option_and_then (λ (x : RunNo). if stands_before place line x.0 then Some x else None) run
 
--- the run by which the device is denied to r: the first holder, where it stands before the place, else, where r first reads the device, the effective writer
-abbrev pub denier : List Mark → List Kept → List Run → RunId → LinePlace → DeviceId → List Access → Option RunNo
-denier line history runs r place d accesses = option_or (only_before place line (holder_before history r accesses)) (if reads_first runs r d then effective_writer accesses else None)
+-- the run by which the device is denied to r: the first holder, where it stands before the place,
+-- else, where r first reads the device, the effective writer
+abbrev pub denier : List Mark → List Kept → List Run → RunId → LinePlace → DeviceId
+    → List Access → Option RunNo
+denier line history runs r place d accesses =
+    option_or (only_before place line (holder_before history r accesses))
+    (if reads_first runs r d then effective_writer accesses else None)
 
 -- the denial of the device, where it is one of r
-abbrev pub denial_on : List LineageState → List Mark → List Kept → List Run → RunId → LinePlace → DeviceId → Option Denial
+abbrev pub denial_on : List LineageState → List Mark → List Kept → List Run → RunId → LinePlace
+    → DeviceId → Option Denial
 denial_on table line history runs r place d =
-    if touches runs r d then option_map (λ x. record { device = device_no d; run = x }) (denier line history runs r place d (accesses_at table d)) else None
+    if touches runs r d then option_map (λ x. record { device = device_no d; run = x })
+    (denier line history runs r place d (accesses_at table d)) else None
 
 -- the denial of the smallest device
-abbrev pub first_denial : List LineageState → List Mark → List Kept → List Run → RunId → LinePlace → Option Denial
-first_denial table line history runs r place = first_some (denial_on table line history runs r place) (range_with_len 0 (length table))
+abbrev pub first_denial : List LineageState → List Mark → List Kept → List Run → RunId
+    → LinePlace → Option Denial
+first_denial table line history runs r place =
+    first_some (denial_on table line history runs r place) (range_with_len 0 (length table))

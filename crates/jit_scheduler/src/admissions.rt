@@ -11,19 +11,24 @@ use lock_leasing::{Standing, first_place};
 /// How long a run that is denied waits for a better place than the end of the line, in ms.
 const PATIENCE: u64 = 10_000;
 
-/// Whether `r`, which arrived at the moment `arrived`, is placed at the moment `moment`, and where; both in ms.
+/// Whether `r`, which arrived at the moment `arrived`, is placed at the moment `moment`, and where;
+/// both in ms.
 ///
-/// A device of `r` is denied by the first live run that stands before the first place and holds it; else, where `r`
-/// begins on it with a read, by the live run that has the effective write there. Where none is denied the answer is the
-/// first place. Else it is the end of the line, when `r` has waited for 10 s, and before that the smallest device that is
-/// denied, with its run.
+/// A device of `r` is denied by the first live run that stands before the first place and holds it;
+/// else, where `r` begins on it with a read, by the live run that has the effective write there.
+/// Where none is denied the answer is the first place. Else it is the end of the line, when `r` has
+/// waited for 10 s, and before that the smallest device that is denied, with its run.
 ///
-/// The four parts belong to one window, whose model is not the weak one, and `r` has arrived and is not placed. Takes no
-/// memory, and reads of the history no more than the ends and the dooms of runs.
+/// The four parts belong to one window, whose model is not the weak one, and `r` has arrived and is
+/// not placed. Takes no memory, and reads of the history no more than the ends and the dooms of
+/// runs.
 pub fn admit(s: &Standing, r: RunNo, arrived: u64, moment: u64) -> Admit
-    requires { MayAdmit s.now.table.now s.now.line.now.marks s.now.book.now.items (runs_of s.now.roster.now) r.0 arrived }
-    ensures placing { IsPlacingOf s.now.table.now s.now.line.now.marks s.now.book.now.items (runs_of s.now.roster.now) r.0 arrived moment result }
-    ensures exact { IsAdmissionOf s.now.table.now s.now.line.now.marks s.now.book.now.items (runs_of s.now.roster.now) r.0 arrived moment result }
+    requires { MayAdmit s.now.table.now s.now.line.now.marks s.now.book.now.items
+        (runs_of s.now.roster.now) r.0 arrived }
+    ensures placing { IsPlacingOf s.now.table.now s.now.line.now.marks s.now.book.now.items
+        (runs_of s.now.roster.now) r.0 arrived moment result }
+    ensures exact { IsAdmissionOf s.now.table.now s.now.line.now.marks s.now.book.now.items
+        (runs_of s.now.roster.now) r.0 arrived moment result }
     ensures within { IsPlaceOfLine s.now.line.now.marks result }
 {
     let place = first_place(s, r);

@@ -9,7 +9,8 @@ use Rattle.routine_reader.specs.declared.faults.ReadFault.{ReadFault}
 use Rattle.std.specs.Prelude.{Err, List, None, Option, Some, ℕ, ◌≡◌}
 
 -- the handle was open, and stays open with its home changed so
-pub record Changes (change : LiveState → LiveState → Type 0) (before after : Option LiveState) : Type 0 where
+pub record Changes (change : LiveState → LiveState → Type 0)
+    (before after : Option LiveState) : Type 0 where
   pub was : LiveState
   pub is : LiveState
   pub open_before : before ≡ Some was
@@ -22,8 +23,10 @@ pub record Shows (so : LiveState → Type 0) (handle : Option LiveState) : Type 
   pub is_open : handle ≡ Some home
   pub is_so : so home
 
--- the handle was closed, and is open on the home of the script in the mode of this model and this scheduler
-pub record HasOpenedHome (bytes : List ℕ) (model scheduler : ℕ) (before after : Option LiveState) : Type 0 where
+-- the handle was closed, and is open on the home of the script in the mode of this model and this
+-- scheduler
+pub record HasOpenedHome (bytes : List ℕ) (model scheduler : ℕ)
+    (before after : Option LiveState) : Type 0 where
   pub mode : Mode
   pub home : LiveState
   pub was : before ≡ None

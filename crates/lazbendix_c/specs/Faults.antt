@@ -33,11 +33,18 @@ count_of Turns = 10
 count_of Probes = 11
 
 abbrev pub no_fault : ToldFault
-no_fault = record { count = 0; limit = 0; kind = 0; counted = 0; part = 0; outer = 0; inner = 0; zero = 0 }
+no_fault =
+    record { count = 0; limit = 0; kind = 0; counted = 0; part = 0; outer = 0; inner = 0; zero = 0 }
 
 -- a fault of this kind at this place
 abbrev pub at_spot : ℕ → Spot → ToldFault
-at_spot kind spot = record no_fault { kind = kind; part = part_of spot.part; outer = spot.outer; inner = spot.inner }
+at_spot kind spot =
+    record no_fault {
+      kind = kind;
+      part = part_of spot.part;
+      outer = spot.outer;
+      inner = spot.inner;
+    }
 
 abbrev pub fault_of : ReadFault → ToldFault
 fault_of NoMemory = record no_fault { kind = 1 }
@@ -48,7 +55,8 @@ fault_of (DoubleName spot) = at_spot 5 spot
 fault_of (BadName spot) = at_spot 6 spot
 fault_of (BadState spot) = at_spot 7 spot
 fault_of (BadTime spot) = at_spot 8 spot
-fault_of (TooMany kind count limit) = record no_fault { kind = 9; counted = count_of kind; count = count; limit = limit }
+fault_of (TooMany kind count limit) =
+    record no_fault { kind = 9; counted = count_of kind; count = count; limit = limit }
 fault_of (BadFollow spot) = at_spot 10 spot
 fault_of (BadVersion version) = record no_fault { kind = 11; count = version }
 fault_of (BadTurn spot) = at_spot 12 spot

@@ -18,7 +18,8 @@ abbrev pub followed : ℕ → Option RunNo
 followed run = (if run == 0 then None else Some (run_no run))
 
 abbrev pub in_turn : Visibility → ℕ → Option Mode
-in_turn model scheduler = (if scheduler == 0 then Some (record { model = model; scheduler = Fcfs }) else None)
+in_turn model scheduler =
+    (if scheduler == 0 then Some (record { model = model; scheduler = Fcfs }) else None)
 
 abbrev pub eventual : ℕ → Option Mode
 eventual scheduler =
@@ -27,7 +28,8 @@ eventual scheduler =
     else (if scheduler == 2 then Some (record { model = Eventual; scheduler = Timeline })
     else None)))
 
--- models: 0 eventual, 1 partitioned strict, 2 global strict, 3 weak; schedulers: 0 first come first served, 1 just in time, 2 timeline, and those but the first with the eventual model alone
+-- models: 0 eventual, 1 partitioned strict, 2 global strict, 3 weak; schedulers: 0 first come first
+-- served, 1 just in time, 2 timeline, and those but the first with the eventual model alone
 abbrev pub mode_of : ℕ → ℕ → Option Mode
 mode_of model scheduler =
     (if model == 0 then eventual scheduler

@@ -1,4 +1,5 @@
--- What a handle owns beside its own bytes: the block of its state where its mark says so, and nothing for any other mark.
+-- What a handle owns beside its own bytes: the block of its state where its mark says so, and
+-- nothing for any other mark.
 use Rattle.std.specs.Prelude.{◌≡◌, ℕ, Option, None, Some}
 use base.Fml.{Fml, fsep, fex, ftrue}
 use denote.RawPtr.{Ptr}
@@ -16,4 +17,5 @@ is P = fex P (λ _. ftrue)
 
 abbrev pub handle_owns : ℕ → Ptr → Option LiveState → Fml
 handle_owns mark p None = is (¬ (mark ≡ open_mark))
-handle_owns mark p (Some s) = fsep (is (mark ≡ open_mark)) (fex Global (λ a. box_owns (ghosts.dealloc_token a) the_row p s))
+handle_owns mark p (Some s) =
+    fsep (is (mark ≡ open_mark)) (fex Global (λ a. box_owns (ghosts.dealloc_token a) the_row p s))

@@ -24,7 +24,8 @@ use Rattle.hub_table.specs.declared.told.NotTaken.{NotTaken}
 use Rattle.std.specs.Prelude.{List, None, Option, pos, ℕ, ℤ, ◌≡◌, ◌⊎◌}
 
 -- for this reason, which the status tells
-pub record TellsReason {W : Type 0} (status_of : W → ℤ) (is_so : W → Type 0) (status : ℤ) : Type 0 where
+pub record TellsReason {W : Type 0} (status_of : W → ℤ) (is_so : W → Type 0)
+    (status : ℤ) : Type 0 where
   pub why : W
   pub so : is_so why
   pub told : status ≡ status_of why
@@ -80,7 +81,8 @@ IsNotInWindow s status = (status ≡ pos 7) × IsBetweenWindows s
 
 -- the answer is not taken
 abbrev pub IsNotAnswered : LiveState → ℕ → ℕ → Told → ℤ → Type 0
-IsNotAnswered s d ticket told status = TellsReason answer_status (λ why. IsNoAnswer s d ticket told why) status
+IsNotAnswered s d ticket told status =
+    TellsReason answer_status (λ why. IsNoAnswer s d ticket told why) status
 
 -- no probe goes out
 abbrev pub IsNotSent : LiveState → ℕ → ℤ → Type 0
@@ -88,15 +90,18 @@ IsNotSent s d status = IsNotInWindow s status ⊎ ((status ≡ pos 13) × HasPro
 
 -- no window is begun
 abbrev pub IsNotBegun : LiveState → List ℕ → ℕ → ℤ → Type 0
-IsNotBegun s text probes status = TellsReason draft_status (λ why. MayNotBegin s text probes why) status
+IsNotBegun s text probes status =
+    TellsReason draft_status (λ why. MayNotBegin s text probes why) status
 
 -- no run is added
 abbrev pub IsNotAdded : LiveState → ℕ → Option RunNo → ℤ → Type 0
-IsNotAdded s routine follows status = TellsReason draft_status (λ why. MayNotAdd s routine follows why) status
+IsNotAdded s routine follows status =
+    TellsReason draft_status (λ why. MayNotAdd s routine follows why) status
 
 -- the home is not told where the device was found
 abbrev pub IsNotRestood : LiveState → ℕ → ℕ → ℤ → Type 0
-IsNotRestood s d value status = TellsReason restanding_status (λ why. MayNotRestand s d value why) status
+IsNotRestood s d value status =
+    TellsReason restanding_status (λ why. MayNotRestand s d value why) status
 
 -- it is not told how the device stands
 abbrev pub IsNotStanding : LiveState → ℕ → ℤ → Type 0

@@ -20,7 +20,8 @@ pub record HasStepped (s : LiveState) (run now : ℕ) (told : ToldTurn) (t : Liv
   pub told_is : told ≡ turn_of run taken
 
 -- the answer was taken, and these are the entries that it made
-pub record HasGiven (s : LiveState) (device ticket answer value now : ℕ) (told : ToldMade) (t : LiveState) : Type 0 where
+pub record HasGiven (s : LiveState) (device ticket answer value now : ℕ) (told : ToldMade)
+    (t : LiveState) : Type 0 where
   pub heard : Told
   pub made : Made
   pub means : told_as answer value ≡ Some heard

@@ -26,7 +26,20 @@ use Rattle.lazbendix_c.specs.declared.told_turns.ToldTurn.{ToldTurn}
 use Rattle.std.specs.Prelude.{None, Option, Some, if◌then◌else◌, ℕ, ◌+◌}
 
 abbrev pub no_entry : ToldEntry
-no_entry = record { moment = 0; deadline = 0; kind = 0; run = 0; command = 0; device = 0; place = 0; answer = 0; value = 0; drove = 0; cause = 0; lender = 0 }
+no_entry = record {
+  moment = 0;
+  deadline = 0;
+  kind = 0;
+  run = 0;
+  command = 0;
+  device = 0;
+  place = 0;
+  answer = 0;
+  value = 0;
+  drove = 0;
+  cause = 0;
+  lender = 0;
+}
 
 -- an entry of this kind about the run
 abbrev pub about : ℕ → ℕ → ToldEntry
@@ -37,12 +50,14 @@ abbrev pub caused : ToldEntry → Cause → ToldEntry
 caused told (MustDown c) = record told { cause = 1; command = c }
 caused told (Refuted c v) = record told { cause = 2; command = c; value = v }
 caused told (Lost d) = record told { cause = 3; device = d.0 }
-caused told (Revoked lender d deadline moment) = record told { cause = 4; lender = lender.0; device = d.0; deadline = deadline; moment = moment }
+caused told (Revoked lender d deadline moment) =
+    record told { cause = 4; lender = lender.0; device = d.0; deadline = deadline; moment = moment }
 caused told (DownAtEnd d) = record told { cause = 5; device = d.0 }
 
 abbrev pub did_entry : ℕ → ℕ → Answer → ToldEntry
 did_entry run c Fine = record no_entry { kind = 3; run = run; command = c; answer = 1 }
-did_entry run c (Found v) = record no_entry { kind = 3; run = run; command = c; answer = 2; value = v }
+did_entry run c (Found v) =
+    record no_entry { kind = 3; run = run; command = c; answer = 2; value = v }
 did_entry run c Down = record no_entry { kind = 3; run = run; command = c; answer = 3 }
 did_entry run c Skipped = record no_entry { kind = 3; run = run; command = c; answer = 4 }
 
@@ -53,9 +68,11 @@ entry_of_end run (Aborted cause) = caused (about 9 run) cause
 
 abbrev pub entry_as_told : Entry → ToldEntry
 entry_as_told (Arrived r moment) = record no_entry { kind = 1; run = r.0; moment = moment }
-entry_as_told (Placed r at moment) = record no_entry { kind = 2; run = r.0; place = at; moment = moment }
+entry_as_told (Placed r at moment) =
+    record no_entry { kind = 2; run = r.0; place = at; moment = moment }
 entry_as_told (Did r c answer) = did_entry r.0 c answer
-entry_as_told (Undid r d drove) = record no_entry { kind = 4; run = r.0; device = d.0; drove = (if drove then 1 else 0) }
+entry_as_told (Undid r d drove) =
+    record no_entry { kind = 4; run = r.0; device = d.0; drove = (if drove then 1 else 0) }
 entry_as_told (Fell d) = record no_entry { kind = 5; device = d.0 }
 entry_as_told (Rose d) = record no_entry { kind = 6; device = d.0 }
 entry_as_told (Doomed r cause) = caused (about 7 r.0) cause
@@ -71,21 +88,68 @@ one_if (Some entry) = 1
 
 -- the entries of a step
 abbrev pub made_of : Made → ToldMade
-made_of made = record { a = entry_or_none made.a; b = entry_or_none made.b; c = entry_or_none made.c; count = one_if made.a + one_if made.b + one_if made.c }
+made_of made = record {
+  a = entry_or_none made.a;
+  b = entry_or_none made.b;
+  c = entry_or_none made.c;
+  count = one_if made.a + one_if made.b + one_if made.c;
+}
 
 abbrev pub none_made : ToldMade
 none_made = record { a = no_entry; b = no_entry; c = no_entry; count = 0 }
 
 -- a turn of this kind, of which nothing else is told
 abbrev pub of_kind : ℕ → ToldTurn
-of_kind kind = record { ticket = 0; made = none_made; end = no_entry; kind = kind; why = 0; device = 0; run = 0; task = 0; value = 0; stood = 0; zero = 0 }
+of_kind kind = record {
+  ticket = 0;
+  made = none_made;
+  end = no_entry;
+  kind = kind;
+  why = 0;
+  device = 0;
+  run = 0;
+  task = 0;
+  value = 0;
+  stood = 0;
+  zero = 0;
+}
 
 -- a device is out with this slip, for this task
 abbrev pub out_turn : Slip → Task → ToldTurn
-out_turn slip (Drive v) = record (of_kind 3) { ticket = slip.ticket; device = slip.device.0; run = slip.maker; stood = slip.stood; task = 1; value = v }
-out_turn slip Sense = record (of_kind 3) { ticket = slip.ticket; device = slip.device.0; run = slip.maker; stood = slip.stood; task = 2 }
-out_turn slip (Probe None) = record (of_kind 3) { ticket = slip.ticket; device = slip.device.0; run = slip.maker; stood = slip.stood; task = 3 }
-out_turn slip (Probe (Some v)) = record (of_kind 3) { ticket = slip.ticket; device = slip.device.0; run = slip.maker; stood = slip.stood; task = 4; value = v }
+out_turn slip (Drive v) =
+    record (of_kind 3) {
+      ticket = slip.ticket;
+      device = slip.device.0;
+      run = slip.maker;
+      stood = slip.stood;
+      task = 1;
+      value = v;
+    }
+out_turn slip Sense =
+    record (of_kind 3) {
+      ticket = slip.ticket;
+      device = slip.device.0;
+      run = slip.maker;
+      stood = slip.stood;
+      task = 2;
+    }
+out_turn slip (Probe None) =
+    record (of_kind 3) {
+      ticket = slip.ticket;
+      device = slip.device.0;
+      run = slip.maker;
+      stood = slip.stood;
+      task = 3;
+    }
+out_turn slip (Probe (Some v)) =
+    record (of_kind 3) {
+      ticket = slip.ticket;
+      device = slip.device.0;
+      run = slip.maker;
+      stood = slip.stood;
+      task = 4;
+      value = v;
+    }
 
 -- the run waits for this
 abbrev pub waiting_turn : Why → ToldTurn

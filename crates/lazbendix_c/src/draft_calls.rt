@@ -10,8 +10,8 @@ use crate::numbers::{device_number, followed};
 use crate::statuses::{CLOSED, DONE, draft_status, restanding_status};
 use std::alloc::Global;
 
-/// Appends a window without runs to the script, at the time that the text tells and with so many rounds of probes, and
-/// tells its number, counted from 0.
+/// Appends a window without runs to the script, at the time that the text tells and with so many
+/// rounds of probes, and tells its number, counted from 0.
 ///
 /// Where the answer is not `DONE` nothing has changed.
 #[unsafe(no_mangle)]
@@ -22,8 +22,10 @@ pub extern "C" fn lazbendix_begin_window(
     probes: u32,
     number: &mut u32,
 ) -> i32
-    ensures done { result ≡ pos 0 → Changes (λ s t. HasBegunWindow s at.now probes number.new t) h.old.state h.new.state }
-    ensures refused { result ≢ pos 0 → result ≢ pos 1 → Shows (λ s. IsNotBegun s at.now probes result) h.old.state }
+    ensures done { result ≡ pos 0
+        → Changes (λ s t. HasBegunWindow s at.now probes number.new t) h.old.state h.new.state }
+    ensures refused { result ≢ pos 0 → result ≢ pos 1
+        → Shows (λ s. IsNotBegun s at.now probes result) h.old.state }
     ensures same { result ≢ pos 0 → h.new.state ≡ h.old.state }
     ensures untold { result ≢ pos 0 → number.new ≡ number.old }
     ensures closed { h.old.state ≡ None ↔ result ≡ pos 1 }
@@ -44,8 +46,8 @@ pub extern "C" fn lazbendix_begin_window(
     }
 }
 
-/// Appends a run of the routine, counted from 0, to the window that was begun, and tells its number there, from 1. It
-/// waits for the end of the run that it follows, 0 for none.
+/// Appends a run of the routine, counted from 0, to the window that was begun, and tells its number
+/// there, from 1. It waits for the end of the run that it follows, 0 for none.
 ///
 /// Where the answer is not `DONE` nothing has changed.
 #[unsafe(no_mangle)]
@@ -56,8 +58,10 @@ pub extern "C" fn lazbendix_add_run(
     follows: u32,
     run: &mut u32,
 ) -> i32
-    ensures done { result ≡ pos 0 → Changes (λ s t. HasAddedRun s routine (followed follows) run.new t) h.old.state h.new.state }
-    ensures refused { result ≢ pos 0 → result ≢ pos 1 → Shows (λ s. IsNotAdded s routine (followed follows) result) h.old.state }
+    ensures done { result ≡ pos 0 → Changes
+        (λ s t. HasAddedRun s routine (followed follows) run.new t) h.old.state h.new.state }
+    ensures refused { result ≢ pos 0 → result ≢ pos 1
+        → Shows (λ s. IsNotAdded s routine (followed follows) result) h.old.state }
     ensures same { result ≢ pos 0 → h.new.state ≡ h.old.state }
     ensures untold { result ≢ pos 0 → run.new ≡ run.old }
     ensures closed { h.old.state ≡ None ↔ result ≡ pos 1 }
@@ -83,8 +87,10 @@ pub extern "C" fn lazbendix_add_run(
 /// Where the answer is not `DONE` nothing has changed.
 #[unsafe(no_mangle)]
 pub extern "C" fn lazbendix_restand(alloc: Global, h: &mut Handle, device: u32, value: u32) -> i32
-    ensures done { result ≡ pos 0 → Changes (λ s t. HasRestood s (device_number device) value t) h.old.state h.new.state }
-    ensures refused { result ≢ pos 0 → result ≢ pos 1 → Shows (λ s. IsNotRestood s (device_number device) value result) h.old.state }
+    ensures done { result ≡ pos 0
+        → Changes (λ s t. HasRestood s (device_number device) value t) h.old.state h.new.state }
+    ensures refused { result ≢ pos 0 → result ≢ pos 1
+        → Shows (λ s. IsNotRestood s (device_number device) value result) h.old.state }
     ensures same { result ≢ pos 0 → h.new.state ≡ h.old.state }
     ensures closed { h.old.state ≡ None ↔ result ≡ pos 1 }
 {

@@ -1,4 +1,5 @@
-// The proved hub for C: a home behind a handle, stepped from outside, its device calls made by the caller.
+// The proved hub for C: a home behind a handle, stepped from outside, its device calls made by the
+// caller.
 #![tactic(auto)]
 
 mod draft_calls;

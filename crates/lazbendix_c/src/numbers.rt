@@ -69,7 +69,8 @@ pub(crate) fn told_as(answer: u32, value: u32) -> Option<Told>
     }
 }
 
-/// Copies the text from `from` on into the room, as much as there is and fits, and answers how much.
+/// Copies the text from `from` on into the room, as much as there is and fits, and answers how
+/// much.
 pub(crate) fn copy_from(text: &[u8], from: usize, room: &mut [u8]) -> usize
     ensures count { result ≡ min (length text.now - from) (length room.old) }
     ensures copied { room.new ≡ take result (drop from text.now) ++ drop result room.old }

@@ -14,11 +14,11 @@ use home_types::Mode;
 use routine_reader::ReadFault;
 use std::alloc::Global;
 
-/// Reads the script, and opens its home on a closed handle: every device up at its start, and no window open. Its
-/// windows are opened in the mode of this model and this scheduler.
+/// Reads the script, and opens its home on a closed handle: every device up at its start, and no
+/// window open. Its windows are opened in the mode of this model and this scheduler.
 ///
-/// Where the answer is not `DONE` the handle is as it was; where it is `REFUSED` the fault tells why, and else the fault
-/// is as it was.
+/// Where the answer is not `DONE` the handle is as it was; where it is `REFUSED` the fault tells
+/// why, and else the fault is as it was.
 #[unsafe(no_mangle)]
 pub extern "C" fn lazbendix_open(
     alloc: Global,
@@ -28,7 +28,8 @@ pub extern "C" fn lazbendix_open(
     scheduler: u32,
     fault: &mut ToldFault,
 ) -> i32
-    ensures done { result ≡ pos 0 → HasOpenedHome script.now model scheduler h.old.state h.new.state }
+    ensures done { result ≡ pos 0
+        → HasOpenedHome script.now model scheduler h.old.state h.new.state }
     ensures refused { result ≡ pos 3 → IsRefusal script.now fault.new }
     ensures mode { result ≡ pos 4 → mode_of model scheduler ≡ None }
     ensures open { h.old.state ≢ None ↔ result ≡ pos 2 }
@@ -51,7 +52,8 @@ pub extern "C" fn lazbendix_open(
 fn open_in(alloc: Global, h: &mut Handle, script: &[u8], mode: Mode, fault: &mut ToldFault) -> i32
     requires closed { h.old.state ≡ None }
     requires goes { IsTrue (is_mode mode) }
-    ensures done { result ≡ pos 0 → (s : LiveState) × (h.new.state ≡ Some s) × BeginsAs script.now mode s }
+    ensures done { result ≡ pos 0
+        → (s : LiveState) × (h.new.state ≡ Some s) × BeginsAs script.now mode s }
     ensures refused { result ≡ pos 3 → IsRefusal script.now fault.new }
     ensures same { result ≢ pos 0 → h.new.state ≡ None }
     ensures untold { result ≢ pos 3 → fault.new ≡ fault.old }
@@ -73,7 +75,8 @@ fn open_in(alloc: Global, h: &mut Handle, script: &[u8], mode: Mode, fault: &mut
     }
 }
 
-/// Closes the handle, and frees all that was behind it, whatever is open or out. A closed one stays closed.
+/// Closes the handle, and frees all that was behind it, whatever is open or out. A closed one stays
+/// closed.
 #[unsafe(no_mangle)]
 pub extern "C" fn lazbendix_end(alloc: Global, h: &mut Handle) -> i32
     ensures ended { h.new.state ≡ None }

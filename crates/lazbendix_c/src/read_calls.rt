@@ -21,7 +21,8 @@ pub extern "C" fn lazbendix_stand(
     stand: &mut ToldStand,
 ) -> i32
     ensures done { result ≡ pos 0 → Shows (λ s. IsToldStand s device stand.new) h.old.state }
-    ensures refused { result ≢ pos 0 → result ≢ pos 1 → Shows (λ s. IsNotStanding s (device_number device) result) h.old.state }
+    ensures refused { result ≢ pos 0 → result ≢ pos 1
+        → Shows (λ s. IsNotStanding s (device_number device) result) h.old.state }
     ensures same { h.new.state ≡ h.old.state }
     ensures untold { result ≢ pos 0 → stand.new ≡ stand.old }
     ensures closed { h.old.state ≡ None ↔ result ≡ pos 1 }
@@ -63,7 +64,8 @@ pub extern "C" fn lazbendix_counts(alloc: Global, h: &mut Handle, counts: &mut T
     }
 }
 
-/// Tells how many runs the script's window of this number has, counted from 0; 0 where there is none.
+/// Tells how many runs the script's window of this number has, counted from 0; 0 where there is
+/// none.
 #[unsafe(no_mangle)]
 pub extern "C" fn lazbendix_run_count(
     alloc: Global,
@@ -85,7 +87,8 @@ pub extern "C" fn lazbendix_run_count(
     }
 }
 
-/// Copies the name of the device into the room, as much as fits, and tells how long it is; 0 where there is no device.
+/// Copies the name of the device into the room, as much as fits, and tells how long it is; 0 where
+/// there is no device.
 #[unsafe(no_mangle)]
 pub extern "C" fn lazbendix_device_name(
     alloc: Global,
@@ -94,10 +97,12 @@ pub extern "C" fn lazbendix_device_name(
     room: &mut [u8],
     len: &mut usize,
 ) -> i32
-    ensures done { result ≡ pos 0 → Shows (λ s. HasNamed (script_device_name s.script device) room.old room.new len.new) h.old.state }
+    ensures done { result ≡ pos 0 → Shows
+        (λ s. HasNamed (script_device_name s.script device) room.old room.new len.new) h.old.state }
     ensures same { h.new.state ≡ h.old.state }
     ensures open { h.old.state ≢ None → result ≡ pos 0 }
-    ensures closed { h.old.state ≡ None → (result ≡ pos 1) × (room.new ≡ room.old) × (len.new ≡ len.old) }
+    ensures closed { h.old.state ≡ None
+        → (result ≡ pos 1) × (room.new ≡ room.old) × (len.new ≡ len.old) }
 {
     match h.take(alloc) {
         Some(state) => {
@@ -109,8 +114,8 @@ pub extern "C" fn lazbendix_device_name(
     }
 }
 
-/// Copies the name of the routine, counted from 0, into the room, as much as fits, and tells how long it is; 0 where
-/// there is no routine.
+/// Copies the name of the routine, counted from 0, into the room, as much as fits, and tells how
+/// long it is; 0 where there is no routine.
 #[unsafe(no_mangle)]
 pub extern "C" fn lazbendix_routine_name(
     alloc: Global,
@@ -119,10 +124,13 @@ pub extern "C" fn lazbendix_routine_name(
     room: &mut [u8],
     len: &mut usize,
 ) -> i32
-    ensures done { result ≡ pos 0 → Shows (λ s. HasNamed (script_routine_name s.script routine) room.old room.new len.new) h.old.state }
+    ensures done { result ≡ pos 0
+        → Shows (λ s. HasNamed (script_routine_name s.script routine) room.old room.new len.new)
+        h.old.state }
     ensures same { h.new.state ≡ h.old.state }
     ensures open { h.old.state ≢ None → result ≡ pos 0 }
-    ensures closed { h.old.state ≡ None → (result ≡ pos 1) × (room.new ≡ room.old) × (len.new ≡ len.old) }
+    ensures closed { h.old.state ≡ None
+        → (result ≡ pos 1) × (room.new ≡ room.old) × (len.new ≡ len.old) }
 {
     match h.take(alloc) {
         Some(state) => {
@@ -134,7 +142,8 @@ pub extern "C" fn lazbendix_routine_name(
     }
 }
 
-/// Copies the name of the device's value into the room, as much as fits, and tells how long it is; 0 where it has none.
+/// Copies the name of the device's value into the room, as much as fits, and tells how long it is;
+/// 0 where it has none.
 #[unsafe(no_mangle)]
 pub extern "C" fn lazbendix_value_name(
     alloc: Global,
@@ -144,10 +153,12 @@ pub extern "C" fn lazbendix_value_name(
     room: &mut [u8],
     len: &mut usize,
 ) -> i32
-    ensures done { result ≡ pos 0 → Shows (λ s. HasNamed (value_name s.script device value) room.old room.new len.new) h.old.state }
+    ensures done { result ≡ pos 0 → Shows
+        (λ s. HasNamed (value_name s.script device value) room.old room.new len.new) h.old.state }
     ensures same { h.new.state ≡ h.old.state }
     ensures open { h.old.state ≢ None → result ≡ pos 0 }
-    ensures closed { h.old.state ≡ None → (result ≡ pos 1) × (room.new ≡ room.old) × (len.new ≡ len.old) }
+    ensures closed { h.old.state ≡ None
+        → (result ≡ pos 1) × (room.new ≡ room.old) × (len.new ≡ len.old) }
 {
     match h.take(alloc) {
         Some(state) => {

@@ -18,7 +18,8 @@ use home_states::LiveHome;
 use home_types::{DeviceNo, RunNo};
 use std::alloc::Global;
 
-/// Makes the step of the run at this moment, in ms from the window's beginning, or at the last one where that is later.
+/// Makes the step of the run at this moment, in ms from the window's beginning, or at the last one
+/// where that is later.
 ///
 /// Where the answer is not `DONE` nothing has changed.
 #[unsafe(no_mangle)]
@@ -29,8 +30,10 @@ pub extern "C" fn lazbendix_take(
     now: u64,
     turn: &mut ToldTurn,
 ) -> i32
-    ensures done { result ≡ pos 0 → Changes (λ s t. HasStepped s run now turn.new t) h.old.state h.new.state }
-    ensures refused { result ≢ pos 0 → result ≢ pos 1 → Shows (λ s. IsNotInWindow s result) h.old.state }
+    ensures done { result ≡ pos 0
+        → Changes (λ s t. HasStepped s run now turn.new t) h.old.state h.new.state }
+    ensures refused { result ≢ pos 0 → result ≢ pos 1
+        → Shows (λ s. IsNotInWindow s result) h.old.state }
     ensures same { result ≢ pos 0 → h.new.state ≡ h.old.state }
     ensures untold { result ≢ pos 0 → turn.new ≡ turn.old }
     ensures closed { h.old.state ≡ None ↔ result ≡ pos 1 }
@@ -60,8 +63,8 @@ fn take(state: &mut LiveHome, run: u32, now: u64, turn: &mut ToldTurn) -> i32
     }
 }
 
-/// Hands in what the device told to the call with this ticket, at this moment, in ms, or at the last one where that is
-/// later: a run's call or a probe.
+/// Hands in what the device told to the call with this ticket, at this moment, in ms, or at the
+/// last one where that is later: a run's call or a probe.
 ///
 /// Where the answer is not `DONE` nothing has changed, and a device that is out stays out.
 #[unsafe(no_mangle)]
@@ -75,8 +78,10 @@ pub extern "C" fn lazbendix_give(
     now: u64,
     made: &mut ToldMade,
 ) -> i32
-    ensures done { result ≡ pos 0 → Changes (λ s t. HasGiven s device ticket answer value now made.new t) h.old.state h.new.state }
-    ensures refused { result ≢ pos 0 → result ≢ pos 1 → IfSome (told_as answer value) (λ told. Shows (λ s. IsNotAnswered s (device_number device) ticket told result) h.old.state) }
+    ensures done { result ≡ pos 0 → Changes
+        (λ s t. HasGiven s device ticket answer value now made.new t) h.old.state h.new.state }
+    ensures refused { result ≢ pos 0 → result ≢ pos 1 → IfSome (told_as answer value) (λ told.
+        Shows (λ s. IsNotAnswered s (device_number device) ticket told result) h.old.state) }
     ensures wrong { told_as answer value ≡ None → h.old.state ≢ None → result ≡ pos 11 }
     ensures same { result ≢ pos 0 → h.new.state ≡ h.old.state }
     ensures untold { result ≢ pos 0 → made.new ≡ made.old }
@@ -101,8 +106,10 @@ fn give(
     now: u64,
     made: &mut ToldMade,
 ) -> i32
-    ensures done { result ≡ pos 0 → HasGiven state.old device ticket answer value now made.new state.new }
-    ensures refused { result ≢ pos 0 → IfSome (told_as answer value) (λ told. IsNotAnswered state.old (device_number device) ticket told result) }
+    ensures done { result ≡ pos 0
+        → HasGiven state.old device ticket answer value now made.new state.new }
+    ensures refused { result ≢ pos 0 → IfSome (told_as answer value)
+        (λ told. IsNotAnswered state.old (device_number device) ticket told result) }
     ensures wrong { told_as answer value ≡ None → result ≡ pos 11 }
     ensures same { result ≢ pos 0 → state.new ≡ state.old }
     ensures untold { result ≢ pos 0 → made.new ≡ made.old }
@@ -130,8 +137,10 @@ pub extern "C" fn lazbendix_probe(
     device: u32,
     turn: &mut ToldTurn,
 ) -> i32
-    ensures done { result ≡ pos 0 → Changes (λ s t. HasSent s device turn.new t) h.old.state h.new.state }
-    ensures refused { result ≢ pos 0 → result ≢ pos 1 → Shows (λ s. IsNotSent s (device_number device) result) h.old.state }
+    ensures done { result ≡ pos 0
+        → Changes (λ s t. HasSent s device turn.new t) h.old.state h.new.state }
+    ensures refused { result ≢ pos 0 → result ≢ pos 1
+        → Shows (λ s. IsNotSent s (device_number device) result) h.old.state }
     ensures same { result ≢ pos 0 → h.new.state ≡ h.old.state }
     ensures untold { result ≢ pos 0 → turn.new ≡ turn.old }
     ensures closed { h.old.state ≡ None ↔ result ≡ pos 1 }
@@ -147,7 +156,8 @@ pub extern "C" fn lazbendix_probe(
 }
 
 fn probe(state: &mut LiveHome, device: DeviceNo, turn: &mut ToldTurn) -> i32
-    ensures done { result ≡ pos 0 → (out : SlipAndTask) × HasProbed state.old device.0 (Some out) state.new × (turn.new ≡ out_turn out.0 out.1) }
+    ensures done { result ≡ pos 0 → (out : SlipAndTask)
+        × HasProbed state.old device.0 (Some out) state.new × (turn.new ≡ out_turn out.0 out.1) }
     ensures refused { result ≢ pos 0 → IsNotSent state.old device.0 result }
     ensures open { result ≢ pos 1 }
     ensures same { result ≢ pos 0 → state.new ≡ state.old }
@@ -163,11 +173,13 @@ fn probe(state: &mut LiveHome, device: DeviceNo, turn: &mut ToldTurn) -> i32
     }
 }
 
-/// Tells whether the run need not be taken, 1 or 0: it is known to wait, at every moment, until another step.
+/// Tells whether the run need not be taken, 1 or 0: it is known to wait, at every moment, until
+/// another step.
 #[unsafe(no_mangle)]
 pub extern "C" fn lazbendix_blocked(alloc: Global, h: &mut Handle, run: u32, yes: &mut u32) -> i32
     ensures done { result ≡ pos 0 → Shows (λ s. IsKnownBlocked s run yes.new) h.old.state }
-    ensures refused { result ≢ pos 0 → result ≢ pos 1 → Shows (λ s. IsNotInWindow s result) h.old.state }
+    ensures refused { result ≢ pos 0 → result ≢ pos 1
+        → Shows (λ s. IsNotInWindow s result) h.old.state }
     ensures same { h.new.state ≡ h.old.state }
     ensures untold { result ≢ pos 0 → yes.new ≡ yes.old }
     ensures closed { h.old.state ≡ None ↔ result ≡ pos 1 }
@@ -192,7 +204,8 @@ pub extern "C" fn lazbendix_blocked(alloc: Global, h: &mut Handle, run: u32, yes
 #[unsafe(no_mangle)]
 pub extern "C" fn lazbendix_quiet(alloc: Global, h: &mut Handle, left: &mut ToldLeft) -> i32
     ensures done { result ≡ pos 0 → Shows (λ s. HasLeft s left.new) h.old.state }
-    ensures refused { result ≢ pos 0 → result ≢ pos 1 → Shows (λ s. (result ≡ pos 7) × (hub_in s ≡ None)) h.old.state }
+    ensures refused { result ≢ pos 0 → result ≢ pos 1
+        → Shows (λ s. (result ≡ pos 7) × (hub_in s ≡ None)) h.old.state }
     ensures same { h.new.state ≡ h.old.state }
     ensures untold { result ≢ pos 0 → left.new ≡ left.old }
     ensures closed { h.old.state ≡ None ↔ result ≡ pos 1 }

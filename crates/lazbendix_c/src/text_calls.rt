@@ -11,7 +11,8 @@ use crate::told_entries::{ToldEntry, tell_entry};
 use home_states::{LiveHome, NotTold};
 use std::alloc::Global;
 
-/// Makes the text of the window that was closed last, with its trace where `trace` is not 0, and tells how long it is.
+/// Makes the text of the window that was closed last, with its trace where `trace` is not 0, and
+/// tells how long it is.
 ///
 /// Where the answer is not `DONE` nothing has changed; after `NO_MEMORY` it may be asked again.
 #[unsafe(no_mangle)]
@@ -21,7 +22,8 @@ pub extern "C" fn lazbendix_record(
     trace: u32,
     len: &mut usize,
 ) -> i32
-    ensures done { result ≡ pos 0 → Changes (λ s t. HasToldRecord s trace len.new t) h.old.state h.new.state }
+    ensures done { result ≡ pos 0
+        → Changes (λ s t. HasToldRecord s trace len.new t) h.old.state h.new.state }
     ensures absent { result ≡ pos 15 → Shows (λ s. s.closed ≡ None) h.old.state }
     ensures same { result ≢ pos 0 → h.new.state ≡ h.old.state }
     ensures untold { result ≢ pos 0 → len.new ≡ len.old }
@@ -43,7 +45,8 @@ pub extern "C" fn lazbendix_record(
 /// Where the answer is not `DONE` nothing has changed.
 #[unsafe(no_mangle)]
 pub extern "C" fn lazbendix_head(alloc: Global, h: &mut Handle, len: &mut usize) -> i32
-    ensures done { result ≡ pos 0 → Changes (λ s t. HasToldHead s len.new t) h.old.state h.new.state }
+    ensures done { result ≡ pos 0
+        → Changes (λ s t. HasToldHead s len.new t) h.old.state h.new.state }
     ensures same { result ≢ pos 0 → h.new.state ≡ h.old.state }
     ensures untold { result ≢ pos 0 → len.new ≡ len.old }
     ensures closed { h.old.state ≡ None ↔ result ≡ pos 1 }
@@ -59,8 +62,8 @@ pub extern "C" fn lazbendix_head(alloc: Global, h: &mut Handle, len: &mut usize)
     }
 }
 
-/// Makes the line of the entry at this place, counted from 0, of the window that is open, or of the one closed last, and
-/// tells how long it is.
+/// Makes the line of the entry at this place, counted from 0, of the window that is open, or of the
+/// one closed last, and tells how long it is.
 ///
 /// Where the answer is not `DONE` nothing has changed.
 #[unsafe(no_mangle)]
@@ -70,7 +73,8 @@ pub extern "C" fn lazbendix_entry_text(
     at: u64,
     len: &mut usize,
 ) -> i32
-    ensures done { result ≡ pos 0 → Changes (λ s t. HasToldEntry s at t × (len.new ≡ length t.text)) h.old.state h.new.state }
+    ensures done { result ≡ pos 0
+        → Changes (λ s t. HasToldEntry s at t × (len.new ≡ length t.text)) h.old.state h.new.state }
     ensures same { result ≢ pos 0 → h.new.state ≡ h.old.state }
     ensures untold { result ≢ pos 0 → len.new ≡ len.old }
     ensures closed { h.old.state ≡ None ↔ result ≡ pos 1 }
@@ -104,8 +108,8 @@ fn status_of(state: &LiveHome, told: Result<(), NotTold>, absent: i32, len: &mut
     }
 }
 
-/// Copies the text that was made last into the room, from the byte at `from` on, as much as there is and fits, and tells
-/// how much. Before the first text it is empty.
+/// Copies the text that was made last into the room, from the byte at `from` on, as much as there
+/// is and fits, and tells how much. Before the first text it is empty.
 #[unsafe(no_mangle)]
 pub extern "C" fn lazbendix_read(
     alloc: Global,
@@ -114,10 +118,12 @@ pub extern "C" fn lazbendix_read(
     room: &mut [u8],
     got: &mut usize,
 ) -> i32
-    ensures done { result ≡ pos 0 → Shows (λ s. HasRead s.text from room.old room.new got.new) h.old.state }
+    ensures done { result ≡ pos 0
+        → Shows (λ s. HasRead s.text from room.old room.new got.new) h.old.state }
     ensures same { h.new.state ≡ h.old.state }
     ensures open { h.old.state ≢ None → result ≡ pos 0 }
-    ensures closed { h.old.state ≡ None → (result ≡ pos 1) × (room.new ≡ room.old) × (got.new ≡ got.old) }
+    ensures closed { h.old.state ≡ None
+        → (result ≡ pos 1) × (room.new ≡ room.old) × (got.new ≡ got.old) }
 {
     match h.take(alloc) {
         Some(state) => {
@@ -129,10 +135,12 @@ pub extern "C" fn lazbendix_read(
     }
 }
 
-/// Tells how many entries the window that is open has so far, or the one closed last where none is open.
+/// Tells how many entries the window that is open has so far, or the one closed last where none is
+/// open.
 #[unsafe(no_mangle)]
 pub extern "C" fn lazbendix_entry_count(alloc: Global, h: &mut Handle, count: &mut u64) -> i32
-    ensures done { result ≡ pos 0 → Shows (λ s. count.new ≡ length (window_entries_told s)) h.old.state }
+    ensures done { result ≡ pos 0
+        → Shows (λ s. count.new ≡ length (window_entries_told s)) h.old.state }
     ensures same { h.new.state ≡ h.old.state }
     ensures closed { h.old.state ≡ None → (result ≡ pos 1) × (count.new ≡ count.old) }
 {
@@ -146,8 +154,8 @@ pub extern "C" fn lazbendix_entry_count(alloc: Global, h: &mut Handle, count: &m
     }
 }
 
-/// Tells the entry at this place, counted from 0, of the window that is open, or of the one closed last, and its maker:
-/// the run that made the step, or 0 for the detector.
+/// Tells the entry at this place, counted from 0, of the window that is open, or of the one closed
+/// last, and its maker: the run that made the step, or 0 for the detector.
 #[unsafe(no_mangle)]
 pub extern "C" fn lazbendix_entry_at(
     alloc: Global,
@@ -157,7 +165,8 @@ pub extern "C" fn lazbendix_entry_at(
     maker: &mut u32,
 ) -> i32
     ensures done { result ≡ pos 0 → Shows (λ s. IsEntryAt s at entry.new maker.new) h.old.state }
-    ensures absent { result ≢ pos 0 → result ≢ pos 1 → Shows (λ s. (result ≡ pos 8) × (slice_get (window_entries_told s) at ≡ None)) h.old.state }
+    ensures absent { result ≢ pos 0 → result ≢ pos 1 → Shows
+        (λ s. (result ≡ pos 8) × (slice_get (window_entries_told s) at ≡ None)) h.old.state }
     ensures same { h.new.state ≡ h.old.state }
     ensures untold { result ≢ pos 0 → (entry.new ≡ entry.old) × (maker.new ≡ maker.old) }
     ensures closed { h.old.state ≡ None ↔ result ≡ pos 1 }

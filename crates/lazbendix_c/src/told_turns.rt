@@ -23,7 +23,8 @@ pub struct ToldTurn {
     pub why: u32,
     /// The device that is out, or for which the run waits.
     pub device: u32,
-    /// The run for which it waits; of a device that is out the run for which it is out, 0 for a probe.
+    /// The run for which it waits; of a device that is out the run for which it is out, 0 for a
+    /// probe.
     pub run: u32,
     /// What the device is to do.
     pub task: u32,

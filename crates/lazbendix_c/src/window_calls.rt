@@ -15,7 +15,8 @@ use std::alloc::Global;
 #[unsafe(no_mangle)]
 pub extern "C" fn lazbendix_window(alloc: Global, h: &mut Handle, number: u32) -> i32
     ensures done { result ≡ pos 0 → Changes (λ s t. HasOpened s number t) h.old.state h.new.state }
-    ensures refused { result ≢ pos 0 → result ≢ pos 1 → Shows (λ s. IsNotOpened s number result) h.old.state }
+    ensures refused { result ≢ pos 0 → result ≢ pos 1
+        → Shows (λ s. IsNotOpened s number result) h.old.state }
     ensures same { result ≢ pos 0 → h.new.state ≡ h.old.state }
     ensures closed { h.old.state ≡ None ↔ result ≡ pos 1 }
 {
@@ -47,7 +48,8 @@ fn window(alloc: Global, state: &mut LiveHome, number: u32) -> i32
 #[unsafe(no_mangle)]
 pub extern "C" fn lazbendix_close_window(alloc: Global, h: &mut Handle) -> i32
     ensures done { result ≡ pos 0 → Changes (λ s t. HasClosed s t) h.old.state h.new.state }
-    ensures refused { result ≢ pos 0 → result ≢ pos 1 → Shows (λ s. IsNotClosed s result) h.old.state }
+    ensures refused { result ≢ pos 0 → result ≢ pos 1
+        → Shows (λ s. IsNotClosed s result) h.old.state }
     ensures same { result ≢ pos 0 → h.new.state ≡ h.old.state }
     ensures closed { h.old.state ≡ None ↔ result ≡ pos 1 }
 {

@@ -27,9 +27,13 @@ told_calls runs history d = count_by (tells_call runs d) history
 abbrev pub told_falls : List Entry → DeviceId → ℕ
 told_falls history d = count_by (is_fall_of d) history
 
--- in the window the device's calls that worked rose by exactly those that the history tells of, and its faults by at least its failures
-pub record CallsAreAccounted (w : Setting) (history : List Entry) (turns faults : List ℕ) : Type 0 where
+-- in the window the device's calls that worked rose by exactly those that the history tells of, and
+-- its faults by at least its failures
+pub record CallsAreAccounted (w : Setting) (history : List Entry)
+    (turns faults : List ℕ) : Type 0 where
   pub turns_size : length turns ≡ length w.first
   pub faults_size : length faults ≡ length w.first
-  pub turns_of : (d : DeviceId) → d < length w.first → slice_index_or turns d 0 ≡ told_calls w.runs history d
-  pub faults_of : (d : DeviceId) → d < length w.first → told_falls history d ≤ slice_index_or faults d 0
+  pub turns_of : (d : DeviceId) → d < length w.first
+      → slice_index_or turns d 0 ≡ told_calls w.runs history d
+  pub faults_of : (d : DeviceId) → d < length w.first
+      → told_falls history d ≤ slice_index_or faults d 0

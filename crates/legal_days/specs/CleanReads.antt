@@ -16,9 +16,12 @@ use Rattle.std.specs.List.{list_any}
 use Rattle.std.specs.Option.{option_or}
 use Rattle.std.specs.Prelude.{Bool, IsTrue, List, not, true, unwrap_or, ℕ, ◌&&◌, ◌==◌, ◌||◌}
 
--- what the run has to find on the device: its own last write, else the last write of the committed runs before it in the line, else the first value
+-- what the run has to find on the device: its own last write, else the last write of the committed
+-- runs before it in the line, else the first value
 abbrev pub clean_value : Setting → Reading → RunId → DeviceId → ℕ
-clean_value w n r d = unwrap_or (option_or ((n.run r).on d).wrote (last_some (committed_write n d) (before r n.line))) (stand_at w.first d).value
+clean_value w n r d =
+    unwrap_or (option_or ((n.run r).on d).wrote (last_some (committed_write n d) (before r n.line)))
+    (stand_at w.first d).value
 
 -- no live run before r has the effective write on the device
 abbrev pub no_dirty_write : Reading → RunId → DeviceId → Bool

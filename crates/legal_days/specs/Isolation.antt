@@ -17,7 +17,9 @@ is_placed_before n a b = is_some (n.run a).placed && nat_lt (stamp_of n a) (stam
 
 -- each run that was placed before r, and for which the model does not let r go on, has ended
 abbrev pub is_alone : Setting → Reading → RunId → Bool
-is_alone w n r = list_all (λ a. not (is_placed_before n a r && model_bars w.mode.model w.runs r a) || is_some (n.run a).ended) (run_numbers w)
+is_alone w n r =
+    list_all (λ a. not (is_placed_before n a r && model_bars w.mode.model w.runs r a)
+    || is_some (n.run a).ended) (run_numbers w)
 
 -- a run acts alone, and the devices that a committed run has touched are counted up at its end
 abbrev pub is_isolated : Setting → Reading → Entry → Bool

@@ -33,8 +33,11 @@ abbrev pub shows : Setting → Reading → RunId → Cause → Bool
 shows w n r (MustDown c) = (command_at w.runs r c).must && has_answer n r c Down
 shows w n r (Refuted c x) = fails (command_at w.runs r c) (Found x) && has_answer n r c (Found x)
 shows w n r (Lost d) = sees_up n r d.0 && list_any is_fall (span_of r (n.log d.0))
-shows w n r (Revoked lender d deadline m) = is_live n lender.0 && asks_on w n lender.0 d.0 && equals_some (overdue_for w n no_grips lender.0 d.0 m) r && (deadline == lease_deadline w n r d.0)
-shows w n r (DownAtEnd d) = is_none (next_command w n r) && equals_some (down_at_end w n no_grips r) d.0
+shows w n r (Revoked lender d deadline m) =
+    is_live n lender.0 && asks_on w n lender.0 d.0 && equals_some
+    (overdue_for w n no_grips lender.0 d.0 m) r && (deadline == lease_deadline w n r d.0)
+shows w n r (DownAtEnd d) =
+    is_none (next_command w n r) && equals_some (down_at_end w n no_grips r) d.0
 
 abbrev pub abort_is_justified : Setting → Reading → Entry → Bool
 abort_is_justified w n (Doomed r cause) = shows w n r.0 cause

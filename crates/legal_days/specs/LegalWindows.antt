@@ -1,4 +1,5 @@
--- Legal windows: what a window's record has to be for its runs, its mode, and the kinds and the first state of the home.
+-- Legal windows: what a window's record has to be for its runs, its mode, and the kinds and the
+-- first state of the home.
 use Rattle.command_rules.specs.Rosters.{command_at, commands_of}
 use Rattle.history_book.specs.Histories.{entries_of, line_of, reading}
 use Rattle.history_book.specs.Readings.{Reading}
@@ -76,8 +77,10 @@ pub record IsWeaklyLegal (w : Setting) (closed : WindowRecord) : Type 0 where
   pub accounted : CallsAreAccounted w (history_of closed) closed.turns.items closed.faults.items
   pub allowed : IsTrue (each_entry w (weakly_allowed w) (history_of closed))
   pub size : length closed.last.devices.items ≡ length w.first
-  pub counted : (d : DeviceId) → d < length w.first → (stand_at closed.last.devices.items d).up ≡ (reading w (history_of closed)).up d
-  pub values : (d : DeviceId) → d < length w.first → (stand_at closed.last.devices.items d).value ≡ (reading w (history_of closed)).last d
+  pub counted : (d : DeviceId) → d < length w.first
+      → (stand_at closed.last.devices.items d).up ≡ (reading w (history_of closed)).up d
+  pub values : (d : DeviceId) → d < length w.first
+      → (stand_at closed.last.devices.items d).value ≡ (reading w (history_of closed)).last d
   -- no order is claimed
   pub unclaimed : closed.order.items ≡ []
 

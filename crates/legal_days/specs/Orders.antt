@@ -14,8 +14,10 @@ use Rattle.std.specs.Prelude.{IsTrue, List, count_by, filter, if◌then◌else�
 -- the order holds each committed run and each event of the history once, and nothing else
 pub record IsOrderFor (w : Setting) (history : List Entry) (order : List Item) : Type 0 where
   -- a run stands in it once where it is committed, else not
-  pub runs : (r : RunId) → count_by (is_ran r) order ≡ (if is_committed (reading w history) r then 1 else 0)
+  pub runs : (r : RunId) → count_by (is_ran r) order
+      ≡ (if is_committed (reading w history) r then 1 else 0)
   -- the events of a device in it are those of the history, in history order
   pub events : (d : DeviceId) → filter (is_event_on d) order ≡ events_of ((reading w history).log d)
   -- a committed run stands behind the committed run that it follows
-  pub following : (r f : RunId) → IsTrue (follows w.runs r f && is_committed (reading w history) r && is_committed (reading w history) f) → IsTrue (list_any (is_ran r) (behind f order))
+  pub following : (r f : RunId) → IsTrue (follows w.runs r f && is_committed (reading w history) r
+      && is_committed (reading w history) f) → IsTrue (list_any (is_ran r) (behind f order))

@@ -465,7 +465,8 @@ unfolding with_all
 settled_state s now r i m v x items e h there wrote is more =
     let place : position (is_of r) s.accesses ≡ Some i = ap (λ (t : LineageState). position (is_of r) t.accesses) e ∙ h in
     let left : items ≡ accesses_behind r s.accesses = is ∙ behind_drop r i s.accesses x place in
-    let value : v ≡ unwrap_or (written_by r s.accesses) s.committed = sym (ap (λ o. unwrap_or (option_and_then (λ (a : Access). a.wrote) o) s.committed) (access_there r i s.accesses x place) ∙ ap (λ (z : Access). unwrap_or z.wrote s.committed) (sym there) ∙ ap (λ o. unwrap_or o s.committed) wrote) in
+    let value : v ≡ unwrap_or (written_by r s.accesses) s.committed = sym (ap (λ o. unwrap_or (option_and_then (λ (a : Access). a.wrote) o) s.committed)
+    (access_there r i s.accesses x place) ∙ ap (λ (z : Access). unwrap_or z.wrote s.committed) (sym there) ∙ ap (λ o. unwrap_or o s.committed) wrote) in
     ap (λ w. with_all s w items m) value
     ∙ ap₂ (with_all s (unwrap_or (written_by r s.accesses) s.committed)) left (more ∙ ap (λ (l : List Access). s.room + (length s.accesses - length l)) left)
     ∙ ap (settled r) e

@@ -116,7 +116,9 @@ pub lineage_here : (table now : List LineageState) (d : ℕ) (x : LineageState) 
 lineage_here table now d x same below is = ap (λ (l : List LineageState). lineage_at l d) (sym same) ∙ sym (read_there table d x no_lineage (subst (λ (l : List LineageState). d < length l) (sym same) below) is)
 
 -- the lineage `old` of the device becomes `s`, which is read again as `x`
-module _ (sets now : List Devices) (table now_table : List LineageState) (d : ℕ) (old s x : LineageState) (is : TableIsSound sets table) (same : table ≡ now_table) (below : d < length now_table) (was : old ≡ get_or table d old) (there : x ≡ get_or (set_at table d s) d x) (turns : IsDisciplined x.accesses) where
+module _ (sets now : List Devices) (table now_table : List LineageState) (d : ℕ) (old s x : LineageState) (is : TableIsSound sets table)
+    (same : table ≡ now_table) (below : d < length now_table) (was : old ≡ get_or table d old) (there : x ≡ get_or (set_at table d s) d x)
+    (turns : IsDisciplined x.accesses) where
   inside : d < length table
   inside = subst (λ (l : List LineageState). d < length l) (sym same) below
 

@@ -82,7 +82,8 @@ with_change r change (x ∷ xs) = if is_of r x then (change x ∷ xs) else (x �
 -- the access stands immediately before that of the run, last where the run has none
 abbrev pub put_before_run : RunId → Access → List Access → List Access
 put_before_run r access [] = access ∷ []
-put_before_run r access (x ∷ xs) = if is_of r x then (access ∷ x ∷ xs) else (x ∷ put_before_run r access xs)
+put_before_run r access (x ∷ xs) =
+    if is_of r x then (access ∷ x ∷ xs) else (x ∷ put_before_run r access xs)
 
 -- the access stands immediately before that of this run, last where no run is named
 abbrev pub put_access_before : Option RunNo → Access → List Access → List Access
@@ -100,7 +101,9 @@ first_before test r accesses = option_map (λ x. x.run) (find test (accesses_bef
 
 -- it is found by a test that gives these answers
 abbrev pub IsFirstBefore : (Access → Bool → Type 0) → RunId → List Access → Option RunNo → Type 0
-IsFirstBefore answers r accesses found = (test : Access → Bool) → ((x : Access) (b : Bool) → answers x b → b ≡ test x) → found ≡ first_before test r accesses
+IsFirstBefore answers r accesses found =
+    (test : Access → Bool) → ((x : Access) (b : Bool) → answers x b → b ≡ test x)
+    → found ≡ first_before test r accesses
 
 -- What was written
 
@@ -110,7 +113,8 @@ value_standing committed accesses = fold (λ value x. unwrap_or x.wrote value) c
 
 -- the run of the last access that has a written value
 abbrev pub effective_writer : List Access → Option RunNo
-effective_writer accesses = fold (λ writer x. if is_some x.wrote then Some x.run else writer) None accesses
+effective_writer accesses =
+    fold (λ writer x. if is_some x.wrote then Some x.run else writer) None accesses
 
 -- Discipline
 
@@ -121,7 +125,8 @@ AreInTurn x y = IsTrue (is_released x.status || is_scheduled y.status)
 abbrev pub AreOfTwoRuns : Access → Access → Type 0
 AreOfTwoRuns x y = IsTrue (not (is_of x.run.0 y))
 
--- the released accesses stand before the acquired one, and that before the scheduled ones; at most one is acquired; no run has two
+-- the released accesses stand before the acquired one, and that before the scheduled ones; at most
+-- one is acquired; no run has two
 pub record IsDisciplined (accesses : List Access) : Type 0 where
   pub in_turn : AllPairs AreInTurn accesses
   pub one_each : AllPairs AreOfTwoRuns accesses

@@ -10,14 +10,22 @@ use Rattle.std.specs.Prelude.{Bool, List, Option, Some, false, if◌then◌else�
 
 -- the run may note an answer: its access is acquired, or scheduled where none is
 abbrev pub MayAnswer : RunId → List Access → Type 0
-MayAnswer r accesses = (status_of r accesses ≡ Some Acquired) ⊎ ((status_of r accesses ≡ Some Scheduled) × (some_acquired accesses ≡ false))
+MayAnswer r accesses =
+    (status_of r accesses ≡ Some Acquired)
+    ⊎ ((status_of r accesses ≡ Some Scheduled) × (some_acquired accesses ≡ false))
 
--- with its first answer the run sees the device so, it wrote the value, where there is one, and is done there with its last answer
+-- with its first answer the run sees the device so, it wrote the value, where there is one, and is
+-- done there with its last answer
 abbrev pub answered_access : View → Option ℕ → Bool → Access → Access
-answered_access view wrote last x = record x { status = if last then Released else Acquired; view = if is_scheduled x.status then Some view else x.view; wrote = option_or wrote x.wrote }
+answered_access view wrote last x = record x {
+  status = if last then Released else Acquired;
+  view = if is_scheduled x.status then Some view else x.view;
+  wrote = option_or wrote x.wrote;
+}
 
 abbrev pub lineage_answered : RunId → View → Option ℕ → Bool → LineageState → LineageState
-lineage_answered r view wrote last s = record s { accesses = with_change r (answered_access view wrote last) s.accesses }
+lineage_answered r view wrote last s =
+    record s { accesses = with_change r (answered_access view wrote last) s.accesses }
 
 abbrev pub answered_if : Bool → RunId → View → Option ℕ → Bool → LineageState → LineageState
 answered_if noted r view wrote last s = if noted then lineage_answered r view wrote last s else s

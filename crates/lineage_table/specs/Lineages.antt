@@ -12,7 +12,8 @@ use Rattle.lineage_table.specs.declared.accesses.Status.TheVariants.{Acquired, R
 use Rattle.std.specs.List.{list_any}
 use Rattle.std.specs.Prelude.{Bool, List, None, Option, Some, [], count_by, false, length, slice_index_or, slice_set, unwrap_or, ℕ, ◌+◌, ◌-◌, ◌<◌, ◌≡◌, ◌≤◌}
 
--- a device's committed value, its accesses in line order, how many more it takes, and whether it is counted up
+-- a device's committed value, its accesses in line order, how many more it takes, and whether it is
+-- counted up
 pub record LineageState : Type 0 where
   pub committed : ℕ
   pub accesses : List Access
@@ -23,19 +24,24 @@ pub record LineageState : Type 0 where
 
 -- an access is put into its place, and takes room
 abbrev pub scheduled : Option RunNo → Access → LineageState → LineageState
-scheduled before access s = record s { accesses = put_access_before before access s.accesses; room = s.room - 1 }
+scheduled before access s =
+    record s { accesses = put_access_before before access s.accesses; room = s.room - 1 }
 
 -- the run has its first answer on the device, and sees it so from then on
 abbrev pub acquired : RunId → View → LineageState → LineageState
-acquired r view s = record s { accesses = with_change r (λ x. record x { status = Acquired; view = Some view }) s.accesses }
+acquired r view s = record s {
+  accesses = with_change r (λ x. record x { status = Acquired; view = Some view }) s.accesses;
+}
 
 -- the run wrote the value
 abbrev pub with_value_written : RunId → ℕ → LineageState → LineageState
-with_value_written r v s = record s { accesses = with_change r (λ x. record x { wrote = Some v }) s.accesses }
+with_value_written r v s =
+    record s { accesses = with_change r (λ x. record x { wrote = Some v }) s.accesses }
 
 -- the run is done with the device
 abbrev pub released : RunId → LineageState → LineageState
-released r s = record s { accesses = with_change r (λ x. record x { status = Released }) s.accesses }
+released r s =
+    record s { accesses = with_change r (λ x. record x { status = Released }) s.accesses }
 
 -- what the run wrote is undone
 abbrev pub undone : RunId → LineageState → LineageState
@@ -43,7 +49,8 @@ undone r s = record s { accesses = with_change r (λ x. record x { wrote = None 
 
 -- only these of its accesses are left; each of the others leaves its room
 abbrev pub with_left : List Access → LineageState → LineageState
-with_left accesses s = record s { accesses = accesses; room = s.room + (length s.accesses - length accesses) }
+with_left accesses s =
+    record s { accesses = accesses; room = s.room + (length s.accesses - length accesses) }
 
 -- the access of the run is gone
 abbrev pub removed : RunId → LineageState → LineageState
@@ -51,9 +58,13 @@ removed r s = with_left (accesses_without r s.accesses) s
 
 -- the run's value is committed: its access and those before it are gone
 abbrev pub settled : RunId → LineageState → LineageState
-settled r s = record (with_left (accesses_behind r s.accesses) s) { committed = unwrap_or (written_by r s.accesses) s.committed }
+settled r s =
+    record (with_left (accesses_behind r s.accesses) s) {
+      committed = unwrap_or (written_by r s.accesses) s.committed;
+    }
 
--- where the run wrote the device, its value is committed, and its access and those before it leave; else its access alone leaves
+-- where the run wrote the device, its value is committed, and its access and those before it leave;
+-- else its access alone leaves
 abbrev pub without_access : RunId → Access → LineageState → LineageState
 without_access r x s = by_value x.wrote
   where
@@ -88,13 +99,15 @@ lineage_at table d = slice_index_or table d no_lineage
 abbrev pub accesses_at : List LineageState → DeviceId → List Access
 accesses_at table d = (lineage_at table d).accesses
 
--- what is true of the lineages of every table: a device has a number, and the accesses to each are in turn
+-- what is true of the lineages of every table: a device has a number, and the accesses to each are
+-- in turn
 pub record IsTable (table : List LineageState) : Type 0 where
   pub few : length table ≤ most_devices
   pub turns : (d : DeviceId) → IsDisciplined (accesses_at table d)
 
 -- the table with this change to the lineage of the device
-abbrev pub with_lineage : List LineageState → DeviceId → (LineageState → LineageState) → List LineageState
+abbrev pub with_lineage : List LineageState → DeviceId → (LineageState → LineageState)
+    → List LineageState
 with_lineage table d change = slice_set table d (change (lineage_at table d))
 
 -- how many runs have the device in their footprint
@@ -109,9 +122,11 @@ pub record IsNewLineage (stand : Stand) (runs : ℕ) (s : LineageState) : Type 0
   pub room : runs ≤ s.room
 
 -- each device of the home has a new lineage, with room for the runs that have it in their footprint
-pub record TableIsOpened (runs : List Run) (home : List Stand) (table : List LineageState) : Type 0 where
+pub record TableIsOpened (runs : List Run) (home : List Stand)
+    (table : List LineageState) : Type 0 where
   pub devices : length table ≡ length home
-  pub each : (d : DeviceId) → d < length home → IsNewLineage (stand_at home d) (runs_on runs d) (lineage_at table d)
+  pub each : (d : DeviceId) → d < length home
+      → IsNewLineage (stand_at home d) (runs_on runs d) (lineage_at table d)
 
 -- the value that stands on the device
 abbrev pub stand_of_lineage : LineageState → ℕ

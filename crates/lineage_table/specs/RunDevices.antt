@@ -12,7 +12,9 @@ is_in sets r d = set.contains (slice_index_or sets r set.empty) d
 
 -- the set of each run that has one is that of the devices to which it has an access
 abbrev pub AreOfAccesses : List Devices → List LineageState → Type 0
-AreOfAccesses sets table = (r : RunId) (d : DeviceId) → r < length sets → is_in sets r d ≡ has_access r (accesses_at table d)
+AreOfAccesses sets table =
+    (r : RunId) (d : DeviceId) → r < length sets
+    → is_in sets r d ≡ has_access r (accesses_at table d)
 
 -- a table, with the devices of its runs
 pub record TableIsSound (sets : List Devices) (lineages : List LineageState) : Type 0 where
@@ -22,9 +24,11 @@ pub record TableIsSound (sets : List Devices) (lineages : List LineageState) : T
 -- the same sets, with this device more in that of this run
 pub record HasMore (r : RunId) (d : DeviceId) (old new : List Devices) : Type 0 where
   pub runs : length new ≡ length old
-  pub each : (q : RunId) (e : DeviceId) → q < length old → is_in new q e ≡ (((q == r) && (e == d)) || is_in old q e)
+  pub each : (q : RunId) (e : DeviceId) → q < length old
+      → is_in new q e ≡ (((q == r) && (e == d)) || is_in old q e)
 
 -- the same sets, without this device in those of the runs that leave it
 pub record HasLess (leaves : RunId → Bool) (d : DeviceId) (old new : List Devices) : Type 0 where
   pub runs : length new ≡ length old
-  pub each : (q : RunId) (e : DeviceId) → q < length old → is_in new q e ≡ (not ((e == d) && leaves q) && is_in old q e)
+  pub each : (q : RunId) (e : DeviceId) → q < length old
+      → is_in new q e ≡ (not ((e == d) && leaves q) && is_in old q e)

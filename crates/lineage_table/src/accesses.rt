@@ -8,8 +8,8 @@ pub enum Status {
     Released,
     /// The run has an answer on the device, and has more to do there.
     Acquired,
-    /// The run has no answer on the device yet. It has touched the device all the same where the grip of its first
-    /// command there is out.
+    /// The run has no answer on the device yet. It has touched the device all the same where the
+    /// grip of its first command there is out.
     Scheduled,
 }
 

@@ -15,7 +15,8 @@ use home_types::{NoMemory, RunNo, Stand, Value, View};
 use std::alloc::Global;
 use std::marker::Model;
 
-/// The lineage of one device: its committed value, its accesses in line order, and whether it is counted up.
+/// The lineage of one device: its committed value, its accesses in line order, and whether it is
+/// counted up.
 ///
 /// Contracts see beside them how many more accesses it takes. Only `open` takes memory.
 #[derive(Drop)]
@@ -34,7 +35,12 @@ impl Model for Lineage {
 
     ghost Value = { LineageState };
 
-    ghost view = { λ l. record { committed = l.committed; accesses = values_of l.accesses.pairs; room = l.accesses.spare; up = l.up } };
+    ghost view = { λ l. record {
+      committed = l.committed;
+      accesses = values_of l.accesses.pairs;
+      room = l.accesses.spare;
+      up = l.up;
+    } };
 
     ghost invariant = { λ l. IsSoundLineage (values_of l.accesses.pairs) l.writer };
 }
@@ -62,7 +68,8 @@ impl Lineage {
         requires scheduled { access.status ≡ Status.Scheduled }
         requires new { has_access access.run.0 self.old.accesses ≡ false }
         requires room { 0 < self.old.room }
-        requires before { ForSome before (λ r. status_of r.0 self.old.accesses ≡ Some Status.Scheduled) }
+        requires before { ForSome before
+            (λ r. status_of r.0 self.old.accesses ≡ Some Status.Scheduled) }
         ensures { self.new ≡ scheduled before access self.old }
     {
         put_in(&mut self.accesses, before, access);
@@ -95,8 +102,8 @@ impl Lineage {
         self.writer = writer_with(self.writer, r, &self.accesses);
     }
 
-    /// The run notes an answer on the device: with its first one it acquires it, and sees it so; then the value that it
-    /// wrote, where there is one; and with its last one it is done there.
+    /// The run notes an answer on the device: with its first one it acquires it, and sees it so;
+    /// then the value that it wrote, where there is one; and with its last one it is done there.
     ///
     /// Answers false, and changes nothing, where a scheduled access stands before its own.
     pub fn note(&mut self, r: RunNo, view: View, wrote: Option<Value>, is_last: bool) -> bool
@@ -235,8 +242,8 @@ impl Lineage {
         Some(self.accesses.get(behind).run)
     }
 
-    /// Does nothing. Its contract is what the accesses of every lineage keep: the released ones stand before the acquired
-    /// one, and that before the scheduled ones, and no run has two.
+    /// Does nothing. Its contract is what the accesses of every lineage keep: the released ones
+    /// stand before the acquired one, and that before the scheduled ones, and no run has two.
     pub fn kept(&self)
         ensures { IsDisciplined self.now.accesses }
     {
@@ -266,9 +273,11 @@ impl Lineage {
         }
     }
 
-    /// The value that stands without the run's access: the last one that another run wrote, else the committed one.
+    /// The value that stands without the run's access: the last one that another run wrote, else
+    /// the committed one.
     pub fn stand_without(&self, r: RunNo) -> Value
-        ensures { result ≡ value_standing self.now.committed (accesses_without r.0 self.now.accesses) }
+        ensures { result
+            ≡ value_standing self.now.committed (accesses_without r.0 self.now.accesses) }
     {
         self.accesses
             .iter()
@@ -293,7 +302,8 @@ impl Lineage {
 fn put_in(accesses: &mut Chain<Access>, before: Option<RunNo>, access: Access)
     requires room { 0 < accesses.old.spare }
     requires before { ForSome before (λ r. IsTrue (has_access r.0 (values_of accesses.old.pairs))) }
-    ensures items { values_of accesses.new.pairs ≡ put_access_before before access (values_of accesses.old.pairs) }
+    ensures items { values_of accesses.new.pairs
+        ≡ put_access_before before access (values_of accesses.old.pairs) }
     ensures spare { accesses.new.spare + 1 ≡ accesses.old.spare }
 {
     accesses.kept();
@@ -364,17 +374,19 @@ fn answered(access: Access, view: View, wrote: Option<Value>, is_last: bool) -> 
     }
 }
 
-/// The run of the last of these accesses that has a written value, when this run has just written, and it was `writer`
-/// before.
+/// The run of the last of these accesses that has a written value, when this run has just written,
+/// and it was `writer` before.
 fn writer_with(writer: Option<RunNo>, r: RunNo, accesses: &Chain<Access>) -> Option<RunNo>
-    requires { ((q : RunNo) → writer ≡ Some q → q ≡ r) → Some r ≡ effective_writer (values_of accesses.now.pairs) }
+    requires { ((q : RunNo) → writer ≡ Some q → q ≡ r)
+        → Some r ≡ effective_writer (values_of accesses.now.pairs) }
     ensures { result ≡ effective_writer (values_of accesses.now.pairs) }
 {
     let is_last = writer.is_none() || writer == Some(r);
     writer_of(is_last, Some(r), accesses)
 }
 
-/// The run of the last of these accesses that has a written value: `writer`, where it is known to be that.
+/// The run of the last of these accesses that has a written value: `writer`, where it is known to
+/// be that.
 fn writer_of(known: bool, writer: Option<RunNo>, accesses: &Chain<Access>) -> Option<RunNo>
     requires { IsTrue known → writer ≡ effective_writer (values_of accesses.now.pairs) }
     ensures { result ≡ effective_writer (values_of accesses.now.pairs) }

@@ -74,7 +74,8 @@ impl RunDevices {
     /// The devices of the run's set that are in this one too.
     pub(crate) fn among(&self, r: RunNo, devices: &DeviceSet) -> DeviceSet
         requires { r.0 < length self.now }
-        ensures { (d : ℕ) → set.contains result d ≡ (is_in self.now r.0 d && set.contains devices.now d) }
+        ensures { (d : ℕ) → set.contains result d
+            ≡ (is_in self.now r.0 d && set.contains devices.now d) }
     {
         self.sets[r.0 as usize].both(devices)
     }

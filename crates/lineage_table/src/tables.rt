@@ -22,10 +22,11 @@ use home_types::{Command, DeviceNo, DeviceSet, NoMemory, RunNo, Value, View, Wor
 use std::alloc::Global;
 use std::marker::Model;
 
-/// The lineages of a home's devices while a window is open, each in the place of its device's number.
+/// The lineages of a home's devices while a window is open, each in the place of its device's
+/// number.
 ///
-/// A device's lineage has its committed value, its accesses in line order and whether it is counted up. Contracts see
-/// beside these how many more accesses it takes. Only `open` takes memory.
+/// A device's lineage has its committed value, its accesses in line order and whether it is counted
+/// up. Contracts see beside these how many more accesses it takes. Only `open` takes memory.
 #[derive(Drop)]
 pub struct Table {
     lineages: Vec<Lineage>,
@@ -65,15 +66,18 @@ impl Table {
         Ok(Table { lineages, devices })
     }
 
-    /// Puts the scheduled access of a run before that of the run `before`, or last. Takes no memory.
+    /// Puts the scheduled access of a run before that of the run `before`, or last. Takes no
+    /// memory.
     ///
-    /// The run has no access on the device yet, the run `before` has a scheduled one, and there is room.
+    /// The run has no access on the device yet, the run `before` has a scheduled one, and there is
+    /// room.
     pub fn schedule(&mut self, d: DeviceNo, before: Option<RunNo>, access: Access)
         requires device { d.0 < length self.old }
         requires scheduled { access.status ≡ Status.Scheduled }
         requires new { has_access access.run.0 (accesses_at self.old d.0) ≡ false }
         requires room { 0 < (lineage_at self.old d.0).room }
-        requires before { ForSome before (λ r. status_of r.0 (accesses_at self.old d.0) ≡ Some Status.Scheduled) }
+        requires before { ForSome before
+            (λ r. status_of r.0 (accesses_at self.old d.0) ≡ Some Status.Scheduled) }
         ensures { self.new ≡ with_lineage self.old d.0 (scheduled before access) }
     {
         self.lineages[d.0 as usize].schedule(before, access);
@@ -106,8 +110,8 @@ impl Table {
         self.lineages[d.0 as usize].kept();
     }
 
-    /// The run notes an answer on the device: with its first one it acquires it, and sees it so; then the value that it
-    /// wrote, where there is one; and with its last one it is done there.
+    /// The run notes an answer on the device: with its first one it acquires it, and sees it so;
+    /// then the value that it wrote, where there is one; and with its last one it is done there.
     ///
     /// Answers false, and changes nothing, where a scheduled access stands before its own.
     #[inline(always)]
@@ -121,8 +125,10 @@ impl Table {
     ) -> bool
         requires device { d.0 < length self.old }
         requires may { MayAnswer r.0 (accesses_at self.old d.0) }
-        ensures turn { result ≡ not (some_scheduled (accesses_before r.0 (accesses_at self.old d.0))) }
-        ensures noted { self.new ≡ with_lineage self.old d.0 (answered_if result r.0 view wrote is_last) }
+        ensures turn { result
+            ≡ not (some_scheduled (accesses_before r.0 (accesses_at self.old d.0))) }
+        ensures noted { self.new
+            ≡ with_lineage self.old d.0 (answered_if result r.0 view wrote is_last) }
     {
         let noted = self.lineages[d.0 as usize].note(r, view, wrote, is_last);
         self.lineages[d.0 as usize].kept();
@@ -139,7 +145,8 @@ impl Table {
         self.lineages[d.0 as usize].kept();
     }
 
-    /// Marks that what the run wrote is undone. Nothing changes where it has no access, or wrote nothing.
+    /// Marks that what the run wrote is undone. Nothing changes where it has no access, or wrote
+    /// nothing.
     pub fn undone(&mut self, d: DeviceNo, r: RunNo)
         requires { d.0 < length self.old }
         ensures { self.new ≡ with_lineage self.old d.0 (undone r.0) }
@@ -177,7 +184,8 @@ impl Table {
         self.lineages[d.0 as usize].chain()
     }
 
-    /// The run of the first access before that of the run of which the test holds, or of all where the run has none.
+    /// The run of the first access before that of the run of which the test holds, or of all where
+    /// the run has none.
     pub fn first_before<F: Fn(Access) -> bool>(
         &self,
         d: DeviceNo,
@@ -199,8 +207,8 @@ impl Table {
         self.lineages[d.0 as usize].run_behind(r)
     }
 
-    /// Does nothing. Its contract is what the accesses to each device keep: the released ones stand before the acquired
-    /// one, and that before the scheduled ones, and no run has two.
+    /// Does nothing. Its contract is what the accesses to each device keep: the released ones stand
+    /// before the acquired one, and that before the scheduled ones, and no run has two.
     pub fn kept(&self)
         ensures { (d : ℕ) → IsDisciplined (accesses_at self.now d) }
     {
@@ -209,9 +217,11 @@ impl Table {
 
     /// The smallest device from `from` on to which the run has an access.
     ///
-    /// Of the runs of the roster it looks at four words at most; for others it goes over the devices.
+    /// Of the runs of the roster it looks at four words at most; for others it goes over the
+    /// devices.
     pub fn next_device(&self, r: RunNo, from: DeviceNo) -> Option<DeviceNo>
-        ensures next { IsFirstFrom (λ d. has_access r.0 (accesses_at self.now d)) from.0 (option_map (λ d. d.0) result) }
+        ensures next { IsFirstFrom (λ d. has_access r.0 (accesses_at self.now d)) from.0
+            (option_map (λ d. d.0) result) }
         ensures homed { IfSome result (λ d. d.0 < length self.now) }
         ensures few { IfSome result (λ d. d.0 < most_devices) }
     {
@@ -222,9 +232,11 @@ impl Table {
         }
     }
 
-    /// The smallest device from `from` on to which the run has an access, by going over the devices.
+    /// The smallest device from `from` on to which the run has an access, by going over the
+    /// devices.
     fn search_device(&self, r: RunNo, from: DeviceNo) -> Option<DeviceNo>
-        ensures { IsFirstFrom (λ d. has_access r.0 (accesses_at self.now d)) from.0 (option_map (λ d. d.0) result) }
+        ensures { IsFirstFrom (λ d. has_access r.0 (accesses_at self.now d)) from.0
+            (option_map (λ d. d.0) result) }
     {
         'devices: for d in from.0 as usize..self.lineages.len() {
             if self.lineages[d].access(r).is_some() {
@@ -238,8 +250,10 @@ impl Table {
     ///
     /// Of the runs of the roster it looks at four words; for others it goes over the devices.
     pub fn devices_among(&self, r: RunNo, devices: &DeviceSet) -> DeviceSet
-        ensures devices { (d : ℕ) → set.contains result d ≡ (has_access r.0 (accesses_at self.now d) && set.contains devices.now d) }
-        ensures homed { (d : ℕ) → set.contains result d ≡ true → (d < length self.now) × (d < most_devices) }
+        ensures devices { (d : ℕ) → set.contains result d
+            ≡ (has_access r.0 (accesses_at self.now d) && set.contains devices.now d) }
+        ensures homed { (d : ℕ) → set.contains result d ≡ true
+            → (d < length self.now) × (d < most_devices) }
     {
         if self.devices.has_set(r) {
             self.devices.among(r, devices)
@@ -250,7 +264,8 @@ impl Table {
 
     /// The devices of this set to which the run has an access, by going over the devices.
     fn search_among(&self, r: RunNo, devices: &DeviceSet) -> DeviceSet
-        ensures { (d : ℕ) → set.contains result d ≡ (has_access r.0 (accesses_at self.now d) && set.contains devices.now d) }
+        ensures { (d : ℕ) → set.contains result d
+            ≡ (has_access r.0 (accesses_at self.now d) && set.contains devices.now d) }
     {
         let mut found = DeviceSet::none();
         'devices: for d in 0..self.lineages.len() {
@@ -273,15 +288,18 @@ impl Table {
     /// The value that stands on the device: the last one written, else the committed one.
     pub fn stand(&self, d: DeviceNo) -> Value
         requires { d.0 < length self.now }
-        ensures { result ≡ value_standing (lineage_at self.now d.0).committed (accesses_at self.now d.0) }
+        ensures { result
+            ≡ value_standing (lineage_at self.now d.0).committed (accesses_at self.now d.0) }
     {
         self.lineages[d.0 as usize].stand()
     }
 
-    /// The value that would stand on the device without the run's access: what an undo of the run drives.
+    /// The value that would stand on the device without the run's access: what an undo of the run
+    /// drives.
     pub fn stand_without(&self, d: DeviceNo, r: RunNo) -> Value
         requires { d.0 < length self.now }
-        ensures { result ≡ value_standing (lineage_at self.now d.0).committed (accesses_without r.0 (accesses_at self.now d.0)) }
+        ensures { result ≡ value_standing (lineage_at self.now d.0).committed
+            (accesses_without r.0 (accesses_at self.now d.0)) }
     {
         self.lineages[d.0 as usize].stand_without(r)
     }
@@ -345,7 +363,9 @@ impl Table {
 fn take_out_through(devices: &mut RunDevices, accesses: &Chain<Access>, d: DeviceNo, r: RunNo)
     requires device { d.0 < most_devices }
     requires access { IsTrue (has_access r.0 (values_of accesses.now.pairs)) }
-    ensures { HasLess (λ q. has_access q (accesses_before r.0 (values_of accesses.now.pairs)) || (q == r.0)) d.0 devices.old devices.new }
+    ensures { HasLess
+        (λ q. has_access q (accesses_before r.0 (values_of accesses.now.pairs)) || (q == r.0)) d.0
+        devices.old devices.new }
 {
     'leaving: for (_, access) in accesses.iter() {
         devices.remove(access.run, d);
@@ -356,10 +376,11 @@ fn take_out_through(devices: &mut RunDevices, accesses: &Chain<Access>, d: Devic
     unreachable!()
 }
 
-/// For each device that a home may have, how many runs of the roster have it in their footprint. Goes over the commands
-/// once.
+/// For each device that a home may have, how many runs of the roster have it in their footprint.
+/// Goes over the commands once.
 fn count_runs(roster: &Roster) -> [usize; 256]
-    ensures { (d : ℕ) → d < most_devices → slice_index_or result d 0 ≡ runs_on (runs_of roster.now) d }
+    ensures { (d : ℕ) → d < most_devices
+        → slice_index_or result d 0 ≡ runs_on (runs_of roster.now) d }
 {
     let mut counts = [0; 256];
     'runs: for run in roster.runs.as_slice() {
@@ -371,7 +392,8 @@ fn count_runs(roster: &Roster) -> [usize; 256]
 /// Counts one run more for each device of its commands.
 fn count_run(counts: &mut [usize; 256], commands: &[Command])
     requires room { (d : ℕ) → d < most_devices → slice_index_or counts.old d 0 + 1 < 2 ^ 64 }
-    ensures { (d : ℕ) → d < most_devices → slice_index_or counts.new d 0 ≡ slice_index_or counts.old d 0 + (if list_any (is_on d) commands.now then 1 else 0) }
+    ensures { (d : ℕ) → d < most_devices → slice_index_or counts.new d 0
+        ≡ slice_index_or counts.old d 0 + (if list_any (is_on d) commands.now then 1 else 0) }
 {
     let mut seen = DeviceSet::none();
     'commands: for command in commands {

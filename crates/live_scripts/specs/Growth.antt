@@ -11,7 +11,8 @@ use Rattle.routine_reader.specs.declared.scripts.Script.{Script}
 use Rattle.routine_reader.specs.declared.scripts.WindowText.{WindowText}
 use Rattle.std.specs.Prelude.{Bool, List, None, Option, Some, [], false, if◌then◌else◌, length, nat_le, nat_lt, slice_get, true, ℕ, ⊤, ◌&&◌, ◌++◌, ◌+◌, ◌-◌, ◌<◌, ◌∷◌, ◌≡◌, ◌≤◌}
 
--- what a script has of a window that is begun: its time, its rounds of probes, and neither turns nor runs
+-- what a script has of a window that is begun: its time, its rounds of probes, and neither turns
+-- nor runs
 pub record IsNewWindow (at : When) (probes : ℕ) (window : WindowText) : Type 0 where
   pub time : window.at ≡ at
   pub seed : window.seed ≡ 1
@@ -29,9 +30,11 @@ is_later_after None at = true
 is_later_after (Some window) at = is_before window.at at
 
 abbrev pub is_later_than_last : Script → When → Bool
-is_later_than_last script at = is_later_after (slice_get script.windows.items (length script.windows.items - 1)) at
+is_later_than_last script at =
+    is_later_after (slice_get script.windows.items (length script.windows.items - 1)) at
 
--- the script has one window more, the one with this number, and nothing else is changed but that a full day was dropped
+-- the script has one window more, the one with this number, and nothing else is changed but that a
+-- full day was dropped
 pub record HasBegun (before : Script) (at : When) (probes k : ℕ) (after : Script) : Type 0 where
   pub window : WindowText
   pub new : IsNewWindow at probes window
@@ -53,7 +56,8 @@ is_earlier None earlier = true
 is_earlier (Some run) earlier = nat_le 1 run.0 && nat_le run.0 earlier
 
 -- the last window has one run more, the one with this number
-pub record HasRun (before : Script) (routine : ℕ) (follows : Option RunNo) (r : ℕ) (after : Script) : Type 0 where
+pub record HasRun (before : Script) (routine : ℕ) (follows : Option RunNo) (r : ℕ)
+    (after : Script) : Type 0 where
   pub earlier : List WindowText
   pub was : WindowText
   pub is : WindowText

@@ -15,7 +15,8 @@ use routine_reader::{RunText, Script, WindowText, roster};
 use std::alloc::Global;
 use std::marker::Model;
 
-/// The seed of a window that is begun; nothing is drawn from it where the window is stepped by hand.
+/// The seed of a window that is begun; nothing is drawn from it where the window is stepped by
+/// hand.
 const SEED: u64 = 1;
 
 /// A sound script to which windows can be appended. The type keeps that it is sound.
@@ -53,7 +54,8 @@ impl LiveScript {
         &self.script
     }
 
-    /// The runs of the window with this number, counted from 0, with the commands of their routines, or `NoMemory`.
+    /// The runs of the window with this number, counted from 0, with the commands of their
+    /// routines, or `NoMemory`.
     pub fn roster(&self, alloc: Global, window: u32) -> Result<Roster, NoMemory>
         requires window { window < length self.now.windows.items }
         ensures { IfOk result (λ roster. runs_of roster ≡ script_runs self.now window) }
@@ -61,10 +63,12 @@ impl LiveScript {
         roster(alloc, &self.script, window)
     }
 
-    /// Appends a window without runs, at this time and with so many rounds of probes, and answers its number, from 0.
+    /// Appends a window without runs, at this time and with so many rounds of probes, and answers
+    /// its number, from 0.
     ///
-    /// A script has the windows of a day: where it has all 288 of one, they are dropped, and the window is the first of
-    /// the next. Its time has to be later than that of the window before, also of one that is dropped.
+    /// A script has the windows of a day: where it has all 288 of one, they are dropped, and the
+    /// window is the first of the next. Its time has to be later than that of the window before,
+    /// also of one that is dropped.
     pub fn begin(&mut self, alloc: Global, at: When, probes: u32) -> Result<u32, NotBegun>
         requires time { IsCivilTime at }
         ensures begun { IfOk result (λ k. HasBegun self.old at probes k self.new) }
@@ -111,8 +115,8 @@ impl LiveScript {
         }
     }
 
-    /// Appends a run of this routine, counted from 0, to the last window, and answers its number there, from 1. It waits
-    /// for the end of the run that it follows.
+    /// Appends a run of this routine, counted from 0, to the last window, and answers its number
+    /// there, from 1. It waits for the end of the run that it follows.
     pub fn add_run(&mut self, routine: u32, follows: Option<RunNo>) -> Result<RunNo, NotAdded>
         ensures added { IfOk result (λ r. HasRun self.old routine follows r.0 self.new) }
         ensures refused { IfErr result (λ why. CannotAdd self.old routine follows why) }
@@ -156,7 +160,10 @@ fn append_run(
     follows: Option<RunNo>,
 ) -> Result<RunNo, NotAdded>
     ensures number { IfOk result (λ r. r.0 ≡ length window.old.runs.items + 1) }
-    ensures appended { IfOk result (λ _. window.new.runs.items ≡ window.old.runs.items ++ record { routine = routine; follows = follows } ∷ []) }
+    ensures appended { IfOk result (λ _. window.new.runs.items ≡ window.old.runs.items ++ record {
+      routine = routine;
+      follows = follows;
+    } ∷ []) }
     ensures few { IfOk result (λ _. length window.old.runs.items < 64) }
     ensures follows { IfOk result (λ _. is_earlier follows (length window.old.runs.items) ≡ true) }
     ensures rest { IfOk result (λ _. window.new ≡ record window.old { runs = window.new.runs }) }

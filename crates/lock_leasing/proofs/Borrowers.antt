@@ -46,7 +46,9 @@ never_overdue w n g r d m none = walk (live_before n r) none
     walk [] none = refl
     walk (x ∷ xs) none = at (is_borrower w n g r d x) refl (walk xs) none
       where
-        at : (b : Bool) → is_borrower w n g r d x ≡ b → (is_some (find (is_borrower w n g r d) xs) ≡ false → find (is_overdue w n g r d m) xs ≡ None) → is_some (cond b (Some x) (find (is_borrower w n g r d) xs)) ≡ false → cond (is_overdue w n g r d m x) (Some x) (find (is_overdue w n g r d m) xs) ≡ None
+        at : (b : Bool) → is_borrower w n g r d x ≡ b → (is_some (find (is_borrower w n g r d) xs) ≡ false → find (is_overdue w n g r d m) xs ≡ None)
+            → is_some (cond b (Some x) (find (is_borrower w n g r d) xs)) ≡ false
+            → cond (is_overdue w n g r d m x) (Some x) (find (is_overdue w n g r d m) xs) ≡ None
         at true e rest none = absurd (cc)
         at false e rest none = let current : is_overdue w n g r d m x ≡ false = overdue_borrows w n g r d m x ∙ ap (λ b. b && nat_lt (lease_deadline w n x d) m) e in ap (λ b. cond b (Some x) (find (is_overdue w n g r d m) xs)) current ∙ rest none
 

@@ -40,7 +40,9 @@ item_same {A} xs ys k d e same within = ap (λ l. slice_index_or l k d) same ∙
 
 pub asks_at : (s : Configuration) (r c : ℕ) → IsAtCommand s r c → IsAsking s r (command_at s.setting.runs r c).device.0
 asks_at s r c turn =
-    let on : unwrap_or (option_map (is_on (command_at s.setting.runs r c).device.0) (slice_get (commands_of s.setting.runs r) c)) false ≡ true = ap (λ o. unwrap_or (option_map (is_on (command_at s.setting.runs r c).device.0) o) false) (item_there (commands_of s.setting.runs r) c no_command turn.command) ∙ eq-eqb (command_at s.setting.runs r c).device.0 (command_at s.setting.runs r c).device.0 refl in
+    let on : unwrap_or (option_map (is_on (command_at s.setting.runs r c).device.0) (slice_get (commands_of s.setting.runs r) c)) false ≡ true = ap
+    (λ o. unwrap_or (option_map (is_on (command_at s.setting.runs r c).device.0) o) false) (item_there (commands_of s.setting.runs r) c no_command turn.command)
+    ∙ eq-eqb (command_at s.setting.runs r c).device.0 (command_at s.setting.runs r c).device.0 refl in
     record { live = turn.live; sound = turn.sound; next = ap (λ k. unwrap_or (option_map (is_on (command_at s.setting.runs r c).device.0) (slice_get (commands_of s.setting.runs r) k)) false) turn.next ∙ on }
 
 pub asking_opens : (s : Configuration) (r d : ℕ) → IsAsking s r d → is_open s.setting (read_of s) r d ≡ true
@@ -62,7 +64,9 @@ module _ (s : Configuration) (table : List LineageState) (line : List Mark) (r c
   among : list_any (is_ran r) (read_of s).line ≡ true
   among = let f = facts_of s table line s.history s.setting.runs parts in f.line.line r ∙ live_stands (read_of s) r turn.live
 
-  met : touch_by (command_at s.setting.runs r c).device (option_map (λ q. q.0) (holder_before s.history r (accesses_at table (command_at s.setting.runs r c).device.0))) (option_map (λ q. q.0) (dirty_writer (command_at s.setting.runs r c) r (accesses_at table (command_at s.setting.runs r c).device.0)))
+  met : touch_by (command_at s.setting.runs r c).device
+      (option_map (λ q. q.0) (holder_before s.history r (accesses_at table (command_at s.setting.runs r c).device.0)))
+      (option_map (λ q. q.0) (dirty_writer (command_at s.setting.runs r c) r (accesses_at table (command_at s.setting.runs r c).device.0)))
       ≡ touch_of s.setting (read_of s) s.grips r (command_at s.setting.runs r c)
   met =
       let f = facts_of s table line s.history s.setting.runs parts in
@@ -76,15 +80,25 @@ pub touch_is : (table : List LineageState) (line : List Mark) (history : List Ke
 touch_is table line history runs r c s parts turn = by_history history parts.its_history parts
   where
     by_runs : (rs : List Run) → s.setting.runs ≡ rs → IsStandingOf s table line s.history rs
-        → touch_by (command_at rs r c).device (option_map (λ q. q.0) (holder_before s.history r (accesses_at table (command_at rs r c).device.0))) (option_map (λ q. q.0) (dirty_writer (command_at rs r c) r (accesses_at table (command_at rs r c).device.0))) ≡ touch_of s.setting (read_of s) s.grips r (command_at rs r c)
+        → touch_by (command_at rs r c).device (option_map (λ q. q.0) (holder_before s.history r (accesses_at table (command_at rs r c).device.0)))
+        (option_map (λ q. q.0) (dirty_writer (command_at rs r c) r (accesses_at table (command_at rs r c).device.0)))
+        ≡ touch_of s.setting (read_of s) s.grips r (command_at rs r c)
     by_runs rs same its =
-        subst (λ xs. IsStandingOf s table line s.history xs → touch_by (command_at xs r c).device (option_map (λ q. q.0) (holder_before s.history r (accesses_at table (command_at xs r c).device.0))) (option_map (λ q. q.0) (dirty_writer (command_at xs r c) r (accesses_at table (command_at xs r c).device.0))) ≡ touch_of s.setting (read_of s) s.grips r (command_at xs r c))
+        subst (λ xs. IsStandingOf s table line s.history xs
+        → touch_by (command_at xs r c).device (option_map (λ q. q.0) (holder_before s.history r (accesses_at table (command_at xs r c).device.0)))
+        (option_map (λ q. q.0) (dirty_writer (command_at xs r c) r (accesses_at table (command_at xs r c).device.0)))
+        ≡ touch_of s.setting (read_of s) s.grips r (command_at xs r c))
         same (λ p. met s table line r c p turn) its
 
     by_history : (hs : List Kept) → s.history ≡ hs → IsStandingOf s table line hs runs
-        → touch_by (command_at runs r c).device (option_map (λ q. q.0) (holder_before hs r (accesses_at table (command_at runs r c).device.0))) (option_map (λ q. q.0) (dirty_writer (command_at runs r c) r (accesses_at table (command_at runs r c).device.0))) ≡ touch_of s.setting (read_of s) s.grips r (command_at runs r c)
+        → touch_by (command_at runs r c).device (option_map (λ q. q.0) (holder_before hs r (accesses_at table (command_at runs r c).device.0)))
+        (option_map (λ q. q.0) (dirty_writer (command_at runs r c) r (accesses_at table (command_at runs r c).device.0)))
+        ≡ touch_of s.setting (read_of s) s.grips r (command_at runs r c)
     by_history hs same its =
-        subst (λ xs. IsStandingOf s table line xs runs → touch_by (command_at runs r c).device (option_map (λ q. q.0) (holder_before xs r (accesses_at table (command_at runs r c).device.0))) (option_map (λ q. q.0) (dirty_writer (command_at runs r c) r (accesses_at table (command_at runs r c).device.0))) ≡ touch_of s.setting (read_of s) s.grips r (command_at runs r c))
+        subst (λ xs. IsStandingOf s table line xs runs
+        → touch_by (command_at runs r c).device (option_map (λ q. q.0) (holder_before xs r (accesses_at table (command_at runs r c).device.0)))
+        (option_map (λ q. q.0) (dirty_writer (command_at runs r c) r (accesses_at table (command_at runs r c).device.0)))
+        ≡ touch_of s.setting (read_of s) s.grips r (command_at runs r c))
         same (λ p. by_runs runs p.its_roster p) its
 
 -- the three answers

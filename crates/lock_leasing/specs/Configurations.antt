@@ -59,7 +59,8 @@ has_grip g r d = unwrap_or (option_map (λ p. p.maker == r) (g d)) false
 
 -- .. for a command
 abbrev pub grips_command : Grips → RunId → DeviceId → Bool
-grips_command g r d = unwrap_or (option_map (λ p. (p.maker == r) && is_command p.purpose) (g d)) false
+grips_command g r d =
+    unwrap_or (option_map (λ p. (p.maker == r) && is_command p.purpose) (g d)) false
 
 -- .. for an undo
 abbrev pub grips_undo : Grips → RunId → DeviceId → Bool

@@ -19,7 +19,8 @@ up_to place = unwrap_or (option_map (λ k. k + 1) place) 0
 
 -- up to the last item that has touched a device of these commands
 abbrev pub up_to_touched : List Command → List Mark → LinePlace
-up_to_touched commands line = up_to (last_place (λ m. list_any (λ c. set.contains m.touched c.device.0) commands) line)
+up_to_touched commands line =
+    up_to (last_place (λ m. list_any (λ c. set.contains m.touched c.device.0) commands) line)
 
 -- the run has committed
 abbrev pub has_committed : List Kept → RunId → Bool

@@ -10,5 +10,8 @@ use Rattle.serial_line.specs.Marks.{Mark}
 use Rattle.std.specs.Prelude.{List, ◌≡◌}
 
 -- the place is that of each configuration to which the parts belong
-abbrev pub IsFirstPlaceOf : List LineageState → List Mark → List Kept → List Run → RunId → LinePlace → Type 0
-IsFirstPlaceOf table line history runs r place = (s : Configuration) → IsStandingOf s table line history runs → place ≡ first_place s.setting (read_of s) s.grips r
+abbrev pub IsFirstPlaceOf : List LineageState → List Mark → List Kept → List Run → RunId
+    → LinePlace → Type 0
+IsFirstPlaceOf table line history runs r place =
+    (s : Configuration) → IsStandingOf s table line history runs
+    → place ≡ first_place s.setting (read_of s) s.grips r

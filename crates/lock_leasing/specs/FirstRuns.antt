@@ -14,13 +14,15 @@ use Rattle.lock_leasing.specs.declared.touches.Touch.TheVariants.{Free}
 use Rattle.std.specs.List.{list_any}
 use Rattle.std.specs.Prelude.{List, None, [], true, ◌≡◌}
 
--- the first live run of these items: it is one of them, it is live, and it stands behind no live run
+-- the first live run of these items: it is one of them, it is live, and it stands behind no live
+-- run
 pub record IsFirstLive (n : Reading) (items : List Item) (r : RunId) : Type 0 where
   pub there : list_any (is_ran r) items ≡ true
   pub live : is_live n r ≡ true
   pub first : live_runs n (before r items) ≡ []
 
--- the run waits for no other: at no device is it behind one, no command would read the write of one, and under no model must one end first
+-- the run waits for no other: at no device is it behind one, no command would read the write of
+-- one, and under no model must one end first
 pub record WaitsForNone (w : Setting) (n : Reading) (g : Grips) (r : RunId) : Type 0 where
   pub behind : (d : DeviceId) → behind_wait w n g r d ≡ None
   pub dirty : (c : Command) → dirty_wait w n g r c ≡ None

@@ -22,44 +22,60 @@ use Rattle.std.specs.Prelude.{Bool, List, None, Option, is_none, is_some, min, n
 abbrev pub placed_at : List Kept → RunId → ℕ
 placed_at history r = unwrap_or (placing_of history r) 0
 
--- the run of the access has the device on a lease from one that was placed then: it is not done with the device, was placed later, and is not doomed
+-- the run of the access has the device on a lease from one that was placed then: it is not done
+-- with the device, was placed later, and is not doomed
 abbrev pub access_borrows : List Kept → ℕ → Access → Bool
-access_borrows history placed x = not (is_released x.status) && nat_lt placed (placed_at history x.run.0) && is_none (doom_of history x.run.0)
+access_borrows history placed x =
+    not (is_released x.status) && nat_lt placed (placed_at history x.run.0)
+    && is_none (doom_of history x.run.0)
 
 -- the deadline of this lease
 abbrev pub access_deadline : List Run → DeviceId → Access → Moment
-access_deadline runs d x = min (x.to + tenth_up (estimate_to_last d (commands_of runs x.run.0))) greatest
+access_deadline runs d x =
+    min (x.to + tenth_up (estimate_to_last d (commands_of runs x.run.0))) greatest
 
 -- .. which the moment is past
 abbrev pub access_is_overdue : List Run → List Kept → ℕ → DeviceId → Moment → Access → Bool
-access_is_overdue runs history placed d m x = access_borrows history placed x && nat_lt (access_deadline runs d x) m
+access_is_overdue runs history placed d m x =
+    access_borrows history placed x && nat_lt (access_deadline runs d x) m
 
 -- By the configuration
 
 -- the run whose lease is overdue, with the deadline
-abbrev pub overdue_lease : Setting → Reading → Grips → RunId → DeviceId → Moment → Option (RunNo × Moment)
-overdue_lease w n g r d m = option_map (λ x. (run_no x, lease_deadline w n x d)) (overdue_for w n g r d m)
+abbrev pub overdue_lease : Setting → Reading → Grips → RunId → DeviceId → Moment
+    → Option (RunNo × Moment)
+overdue_lease w n g r d m =
+    option_map (λ x. (run_no x, lease_deadline w n x d)) (overdue_for w n g r d m)
 
--- this is the run, with the deadline, in each configuration to which the parts belong and in which r asks for the device
-abbrev pub IsOverdueOf : List LineageState → List Mark → List Kept → List Run → RunId → DeviceId → Moment → Option (RunNo × Moment) → Type 0
+-- this is the run, with the deadline, in each configuration to which the parts belong and in which
+-- r asks for the device
+abbrev pub IsOverdueOf : List LineageState → List Mark → List Kept → List Run → RunId → DeviceId
+    → Moment → Option (RunNo × Moment) → Type 0
 IsOverdueOf table line history runs r d m found =
-    (s : Configuration) → IsStandingOf s table line history runs → IsAsking s r d → found ≡ overdue_lease s.setting (read_of s) s.grips r d m
+    (s : Configuration) → IsStandingOf s table line history runs → IsAsking s r d
+    → found ≡ overdue_lease s.setting (read_of s) s.grips r d m
 
 -- the answer is whether some run has the device on a lease from r, in each such configuration
-abbrev pub IsBorrowedFrom : List LineageState → List Mark → List Kept → List Run → RunId → DeviceId → Bool → Type 0
+abbrev pub IsBorrowedFrom : List LineageState → List Mark → List Kept → List Run → RunId
+    → DeviceId → Bool → Type 0
 IsBorrowedFrom table line history runs r d some =
-    (s : Configuration) → IsStandingOf s table line history runs → IsAsking s r d → some ≡ is_some (borrower_from s.setting (read_of s) s.grips r d)
+    (s : Configuration) → IsStandingOf s table line history runs → IsAsking s r d
+    → some ≡ is_some (borrower_from s.setting (read_of s) s.grips r d)
 
 -- no lease on the device is overdue for r, at any moment
 abbrev pub NeverOverdue : Setting → Reading → Grips → RunId → DeviceId → Type 0
 NeverOverdue w n g r d = (m : Moment) → overdue_for w n g r d m ≡ None
 
 -- .. in each such configuration
-abbrev pub IsNeverOverdue : List LineageState → List Mark → List Kept → List Run → RunId → DeviceId → Type 0
+abbrev pub IsNeverOverdue : List LineageState → List Mark → List Kept → List Run → RunId
+    → DeviceId → Type 0
 IsNeverOverdue table line history runs r d =
-    (s : Configuration) → IsStandingOf s table line history runs → IsAsking s r d → NeverOverdue s.setting (read_of s) s.grips r d
+    (s : Configuration) → IsStandingOf s table line history runs → IsAsking s r d
+    → NeverOverdue s.setting (read_of s) s.grips r d
 
 -- this is the deadline of the run's lease in each configuration to which the parts belong
-abbrev pub IsDeadlineOf : List LineageState → List Mark → List Kept → List Run → RunId → DeviceId → Moment → Type 0
+abbrev pub IsDeadlineOf : List LineageState → List Mark → List Kept → List Run → RunId → DeviceId
+    → Moment → Type 0
 IsDeadlineOf table line history runs r d deadline =
-    (s : Configuration) → IsStandingOf s table line history runs → deadline ≡ lease_deadline s.setting (read_of s) r d
+    (s : Configuration) → IsStandingOf s table line history runs
+    → deadline ≡ lease_deadline s.setting (read_of s) r d

@@ -27,12 +27,15 @@ settled_items n = filter (is_settled n) n.line
 
 -- the value of the last committed write on the device, else the first one
 abbrev pub committed_value : Setting → Reading → DeviceId → ℕ
-committed_value w n d = unwrap_or (last_some (committed_write n d) n.line) (stand_at w.first d).value
+committed_value w n d =
+    unwrap_or (last_some (committed_write n d) n.line) (stand_at w.first d).value
 
 abbrev pub committed_home : Setting → Reading → List Stand
-committed_home w n = map (λ d. record { value = committed_value w n d; up = n.up d }) (device_numbers w)
+committed_home w n =
+    map (λ d. record { value = committed_value w n d; up = n.up d }) (device_numbers w)
 
--- executed from the first state they are not refused, give the answers of the history, and end with the committed values and the counted states
+-- executed from the first state they are not refused, give the answers of the history, and end with
+-- the committed values and the counted states
 pub record SettledAgree (w : Setting) (n : Reading) : Type 0 where
   pub applies : (executed w (settled_items n)).refused ≡ false
   pub answers : (executed w (settled_items n)).answers ≡ answers_in n (settled_items n)
@@ -65,9 +68,11 @@ firsts_of_log n d = filter_map first (n.log d)
     first (Event i) = None
     first (Last r) = None
 
--- the events of the device and the runs with an access there, in line order, but for runs whose first access came when they were doomed
+-- the events of the device and the runs with an access there, in line order, but for runs whose
+-- first access came when they were doomed
 abbrev pub marks_of_line : Reading → DeviceId → List Item
-marks_of_line n d = filter (λ i. is_event_on d i || of_run (λ r. did n r d && not (is_late n r d)) i) n.line
+marks_of_line n d =
+    filter (λ i. is_event_on d i || of_run (λ r. did n r d && not (is_late n r d)) i) n.line
 
 -- the same items in history order
 abbrev pub marks_of_log : Reading → DeviceId → List Item
@@ -78,11 +83,13 @@ marks_of_log n d = filter_map mark (n.log d)
     mark (Event i) = Some i
     mark (Last r) = None
 
--- line order is history order, and no event stands in the span of a run that is not doomed and sees the device up
+-- line order is history order, and no event stands in the span of a run that is not doomed and sees
+-- the device up
 pub record InHistoryOrder (n : Reading) (d : DeviceId) : Type 0 where
   pub runs : firsts_of_line n d ≡ firsts_of_log n d
   pub events : marks_of_line n d ≡ marks_of_log n d
-  pub spans : (r : RunId) → IsTrue (is_in_line n r && not (is_doomed n r) && sees_up n r d) → list_any is_event (span_of r (n.log d)) ≡ false
+  pub spans : (r : RunId) → IsTrue (is_in_line n r && not (is_doomed n r) && sees_up n r d)
+      → list_any is_event (span_of r (n.log d)) ≡ false
 
 -- 3. Between a live write and a later read a committed run wrote
 
@@ -105,7 +112,8 @@ has_live_write n g d i = of_run (λ r. is_live n r && has_written n r d && not (
 
 abbrev pub live_writes_are_covered : Reading → Grips → DeviceId → List Item → Bool
 live_writes_are_covered n g d [] = true
-live_writes_are_covered n g d (i ∷ is) = (not (has_live_write n g d i) || is_covered n d is) && live_writes_are_covered n g d is
+live_writes_are_covered n g d (i ∷ is) =
+    (not (has_live_write n g d i) || is_covered n d is) && live_writes_are_covered n g d is
 
 -- 4. No run behind an open one has touched its device
 
@@ -117,7 +125,8 @@ is_touched n g d i = of_run (λ r. has_touched n g r d) i
 
 abbrev pub open_runs_are_last : Setting → Reading → Grips → DeviceId → List Item → Bool
 open_runs_are_last w n g d [] = true
-open_runs_are_last w n g d (i ∷ is) = (not (opens w n d i) || not (list_any (is_touched n g d) is)) && open_runs_are_last w n g d is
+open_runs_are_last w n g d (i ∷ is) =
+    (not (opens w n d i) || not (list_any (is_touched n g d) is)) && open_runs_are_last w n g d is
 
 -- the four clauses
 pub record OrderStands (w : Setting) (n : Reading) (g : Grips) : Type 0 where

@@ -28,15 +28,19 @@ abbrev pub up_to_last : (Item → Bool) → List Item → LinePlace
 up_to_last test [] = 0
 up_to_last test (i ∷ is) = if list_any test (i ∷ is) then up_to_last test is + 1 else 0
 
--- the item must stand before the new run: it has touched one of its devices, or is the committed run that it follows
+-- the item must stand before the new run: it has touched one of its devices, or is the committed
+-- run that it follows
 abbrev pub binds : Setting → Reading → Grips → RunId → Item → Bool
-binds w n g r (Ran x) = list_any (has_touched n g x.0) (devices_of w r) || (follows w.runs r x.0 && is_committed n x.0)
+binds w n g r (Ran x) =
+    list_any (has_touched n g x.0) (devices_of w r) || (follows w.runs r x.0 && is_committed n x.0)
 binds w n g r (Failed d k) = touches w.runs r d.0
 binds w n g r (Back d k) = touches w.runs r d.0
 
--- the first place: right behind the floor, which is the last item that binds, or the last one before the first live run
+-- the first place: right behind the floor, which is the last item that binds, or the last one
+-- before the first live run
 abbrev pub first_place : Setting → Reading → Grips → RunId → LinePlace
-first_place w n g r = max (up_to_last (binds w n g r) n.line) (up_to_first (of_run (is_live n)) n.line)
+first_place w n g r =
+    max (up_to_last (binds w n g r) n.line) (up_to_first (of_run (is_live n)) n.line)
 
 -- the reading with its line in this order
 abbrev pub in_order : Reading → List Item → Reading
@@ -56,7 +60,8 @@ at_end n = At (split_at n.line (length n.line))
 
 -- Just-in-time
 
--- the run by which the device is denied: the first live one up to the floor that holds it, else, where r first reads it, the live one with the effective write
+-- the run by which the device is denied: the first live one up to the floor that holds it, else,
+-- where r first reads it, the live one with the effective write
 abbrev pub denied_by : Setting → Reading → Grips → RunId → DeviceId → Option RunId
 denied_by w n g r d =
     option_or (find (λ x. holds_device w n g x d) (live_runs n (take (first_place w n g r) n.line)))
@@ -76,7 +81,9 @@ first_some f (x ∷ xs) = option_or (f x) (first_some f xs)
 
 -- the first denial, by ascending device
 abbrev pub denial_of : Setting → Reading → Grips → RunId → Option Denial
-denial_of w n g r = first_some (λ d. option_map (λ x. record { device = d; run = x }) (denied_by w n g r d)) (devices_of w r)
+denial_of w n g r =
+    first_some (λ d. option_map (λ x. record { device = d; run = x }) (denied_by w n g r d))
+    (devices_of w r)
 
 -- how long a run that is denied waits for a better place than the end, in ms
 abbrev pub patience : ℕ
@@ -88,26 +95,34 @@ just_in_time w n g r m = admit (denial_of w n g r)
   where
     admit : Option Denial → Placing
     admit None = At (split_at n.line (first_place w n g r))
-    admit (Some x) = if nat_le (unwrap_or (n.run r).arrived 0 + patience) m then at_end n else DeniedBy x.device x.run
+    admit (Some x) =
+        if nat_le (unwrap_or (n.run r).arrived 0 + patience) m then at_end n
+        else DeniedBy x.device x.run
 
 -- Timeline
 
--- where the set of the timeline ends: its items stand before the run, in their order, the others behind it
+-- where the set of the timeline ends: its items stand before the run, in their order, the others
+-- behind it
 abbrev pub timeline : Setting → Reading → RunId → Moment → Placing
-timeline w n r m = At (record { front = chosen (gap_set w n r m) n.line; back = others (gap_set w n r m) n.line })
+timeline w n r m =
+    At (record { front = chosen (gap_set w n r m) n.line; back = others (gap_set w n r m) n.line })
 
--- when a run that is planned so is done: the largest planned end of its commands, 0 where it has none
+-- when a run that is planned so is done: the largest planned end of its commands, 0 where it has
+-- none
 abbrev pub plan_end : List Planned → Moment
 plan_end planned = fold (λ t p. max t p.to) 0 planned
 
--- a closed set that holds the base, and outside of which each live run is planned to start on each device when the run, planned with this set, is off it
+-- a closed set that holds the base, and outside of which each live run is planned to start on each
+-- device when the run, planned with this set, is off it
 abbrev pub IsFittingSet : Setting → Reading → RunId → Moment → List Bool → Type 0
 IsFittingSet w n r m set = IsFitting (meet w.runs) (base_of w n r) (bars w n r m) n.line set
 
 -- no such set plans an earlier end of the run than this one
 abbrev pub IsEarliestSet : Setting → Reading → RunId → Moment → List Bool → Type 0
 IsEarliestSet w n r m set =
-    (other : List Bool) → IsFittingSet w n r m other → plan_end (planned_times w n r (chosen set n.line) m) ≤ plan_end (planned_times w n r (chosen other n.line) m)
+    (other : List Bool) → IsFittingSet w n r m other
+    → plan_end (planned_times w n r (chosen set n.line) m)
+    ≤ plan_end (planned_times w n r (chosen other n.line) m)
 
 -- where the scheduler places the run at this moment
 abbrev pub scheduled_place : Setting → Reading → Grips → RunId → Moment → Placing
@@ -120,21 +135,32 @@ scheduled_place w n g r m = by_scheduler (scheduler_of w.mode)
 
 -- Scheduled places of a history
 
--- a live run may have out nothing, its next command where the guard holds, or, where it is doomed, the undo of a write
+-- a live run may have out nothing, its next command where the guard holds, or, where it is doomed,
+-- the undo of a write
 pub record MayBeOut (w : Setting) (n : Reading) (g : Grips) : Type 0 where
-  pub commands : (d : DeviceId) (r : RunId) (k : CommandIndex) → g d ≡ Some (record { maker = r; purpose = Commands k }) → IsTrue (is_live n r && asks_on w n r d && (k == next_of n r))
-  pub undos : (d : DeviceId) (r : RunId) (v : ℕ) → g d ≡ Some (record { maker = r; purpose = Undoes v }) → IsTrue (is_live n r && is_doomed n r && has_written n r d && not ((n.run r).on d).undid)
-  pub one : (d e : DeviceId) (r : ℕ) (p q : Purpose) → g d ≡ Some (record { maker = suc r; purpose = p }) → g e ≡ Some (record { maker = suc r; purpose = q }) → d ≡ e
+  pub commands : (d : DeviceId) (r : RunId) (k : CommandIndex) → g d
+      ≡ Some (record { maker = r; purpose = Commands k })
+      → IsTrue (is_live n r && asks_on w n r d && (k == next_of n r))
+  pub undos : (d : DeviceId) (r : RunId) (v : ℕ) → g d
+      ≡ Some (record { maker = r; purpose = Undoes v })
+      → IsTrue (is_live n r && is_doomed n r && has_written n r d && not ((n.run r).on d).undid)
+  pub one : (d e : DeviceId) (r : ℕ) (p q : Purpose) → g d
+      ≡ Some (record { maker = suc r; purpose = p })
+      → g e ≡ Some (record { maker = suc r; purpose = q }) → d ≡ e
 
--- each grip that is out is of a device of the home; that of a run is one which the run may have, and a probe is the detector's
+-- each grip that is out is of a device of the home; that of a run is one which the run may have,
+-- and a probe is the detector's
 pub record GripsFit (w : Setting) (n : Reading) (g : Grips) : Type 0 where
   pub homed : (d : DeviceId) → is_out g d ≡ true → is_device w d ≡ true
   pub runs : MayBeOut w n g
-  pub probes : (d : DeviceId) (r : ActorId) (v : Option ℕ) → g d ≡ Some (record { maker = r; purpose = Probes v }) → r ≡ 0
+  pub probes : (d : DeviceId) (r : ActorId) (v : Option ℕ) → g d
+      ≡ Some (record { maker = r; purpose = Probes v }) → r ≡ 0
 
 -- the scheduler gives the place of the entry, with some grips out
 abbrev pub IsScheduled : Setting → Reading → Entry → Type 0
-IsScheduled w n (Placed r at m) = (g : Grips) × MayBeOut w n g × (scheduled_place w n g r.0 m ≡ At (split_of w n r.0 at m)) × (length (split_of w n r.0 at m).front ≡ at)
+IsScheduled w n (Placed r at m) =
+    (g : Grips) × MayBeOut w n g × (scheduled_place w n g r.0 m ≡ At (split_of w n r.0 at m))
+    × (length (split_of w n r.0 at m).front ≡ at)
 IsScheduled w n e = ⊤
 
 -- each place of the history is the scheduler's

@@ -23,7 +23,8 @@ use Rattle.serial_line.specs.Marks.{Mark}
 use Rattle.serial_line.specs.Ties.{IsLineOf}
 use Rattle.std.specs.Prelude.{Bool, List, Some, [], false, is_some, length, slice_get, true, ℕ, ◌<◌, ◌==◌, ◌≡◌, ◌≤◌}
 
--- the item has touched the device: an event its own, a run those on which it has an access or the grip of a command
+-- the item has touched the device: an event its own, a run those on which it has an access or the
+-- grip of a command
 abbrev pub item_has_touched : Reading → Grips → Item → DeviceId → Bool
 item_has_touched n g (Ran r) d = has_touched n g r.0 d
 item_has_touched n g (Failed e k) d = e.0 == d
@@ -39,12 +40,15 @@ pub record IsRosterFor (devices : ℕ) (runs : List Run) : Type 0 where
   pub few_runs : length runs ≤ most_runs
   pub few_commands : (r : RunId) → length (commands_of runs r) ≤ most_commands
   -- each command is on a device of the home
-  pub homed : (r : RunId) (k : CommandIndex) (c : Command) → slice_get (commands_of runs r) k ≡ Some c → c.device.0 < devices
+  pub homed : (r : RunId) (k : CommandIndex) (c : Command) → slice_get (commands_of runs r) k
+      ≡ Some c → c.device.0 < devices
   -- a run follows an earlier run, or none
   pub follows_earlier : (r : RunId) (f : RunNo) → followed_by runs r ≡ Some f → f.0 < r
 
--- the parts are those of the configuration, which is not of the weak model: its runs may be opened, its history is well formed, its grips may be out, and the four clauses of the order hold
-pub record IsStandingOf (s : Configuration) (table : List LineageState) (line : List Mark) (history : List Kept) (runs : List Run) : Type 0 where
+-- the parts are those of the configuration, which is not of the weak model: its runs may be opened,
+-- its history is well formed, its grips may be out, and the four clauses of the order hold
+pub record IsStandingOf (s : Configuration) (table : List LineageState) (line : List Mark)
+    (history : List Kept) (runs : List Run) : Type 0 where
   pub ordered : is_weak s.setting.mode ≡ false
   pub allowed : IsRosterFor (length s.setting.first) s.setting.runs
   pub grips : MayBeOut s.setting (read_of s) s.grips
@@ -52,19 +56,22 @@ pub record IsStandingOf (s : Configuration) (table : List LineageState) (line : 
   pub order : OrderStands s.setting (read_of s) s.grips
   pub its_roster : s.setting.runs ≡ runs
   pub its_history : s.history ≡ history
-  pub its_line : IsLineOf (read_of s).line (item_has_touched (read_of s) s.grips) (has_ended (read_of s)) line
+  pub its_line : IsLineOf (read_of s).line (item_has_touched (read_of s) s.grips)
+      (has_ended (read_of s)) line
   pub disciplined : (d : DeviceId) → IsDisciplined (accesses_at table d)
   pub its_table : Represents s.setting (read_of s) s.grips table
 
 -- the parts are those of a configuration of the weak model, whose table has no accesses
-pub record IsWeakStandingOf (s : Configuration) (table : List LineageState) (history : List Kept) (runs : List Run) : Type 0 where
+pub record IsWeakStandingOf (s : Configuration) (table : List LineageState) (history : List Kept)
+    (runs : List Run) : Type 0 where
   pub weak : is_weak s.setting.mode ≡ true
   pub allowed : IsRosterFor (length s.setting.first) s.setting.runs
   pub its_roster : s.setting.runs ≡ runs
   pub its_history : s.history ≡ history
   pub none : (d : DeviceId) → accesses_at table d ≡ []
 
--- the run may do its next command, the one of this number: it is live, it is not doomed, it has such a command, and the command's guard holds
+-- the run may do its next command, the one of this number: it is live, it is not doomed, it has
+-- such a command, and the command's guard holds
 pub record IsAtCommand (s : Configuration) (r : RunId) (c : CommandIndex) : Type 0 where
   pub live : is_live (read_of s) r ≡ true
   pub sound : is_doomed (read_of s) r ≡ false
@@ -73,8 +80,10 @@ pub record IsAtCommand (s : Configuration) (r : RunId) (c : CommandIndex) : Type
   pub guard : holds (command_at s.setting.runs r c).when ((read_of s).run r).register ≡ true
 
 -- the parts belong to one window, which is not of the weak model, and the run may do this command
-pub data MayTouch (table : List LineageState) (line : List Mark) (history : List Kept) (runs : List Run) (r : RunId) (c : CommandIndex) : Type 0 where
-  Touching : (s : Configuration) (parts : IsStandingOf s table line history runs) (turn : IsAtCommand s r c) → MayTouch table line history runs r c
+pub data MayTouch (table : List LineageState) (line : List Mark) (history : List Kept)
+    (runs : List Run) (r : RunId) (c : CommandIndex) : Type 0 where
+  Touching : (s : Configuration) (parts : IsStandingOf s table line history runs)
+      (turn : IsAtCommand s r c) → MayTouch table line history runs r c
 
 -- the run may do its next command, which is on the device
 pub record IsAsking (s : Configuration) (r : RunId) (d : DeviceId) : Type 0 where
@@ -83,9 +92,14 @@ pub record IsAsking (s : Configuration) (r : RunId) (d : DeviceId) : Type 0 wher
   pub next : is_next_on s.setting (read_of s) r d ≡ true
 
 -- the parts belong to one window, which is not of the weak model, and the run asks for the device
-pub data MayAsk (table : List LineageState) (line : List Mark) (history : List Kept) (runs : List Run) (r : RunId) (d : DeviceId) : Type 0 where
-  Asking : (s : Configuration) (parts : IsStandingOf s table line history runs) (turn : IsAsking s r d) → MayAsk table line history runs r d
+pub data MayAsk (table : List LineageState) (line : List Mark) (history : List Kept)
+    (runs : List Run) (r : RunId) (d : DeviceId) : Type 0 where
+  Asking : (s : Configuration) (parts : IsStandingOf s table line history runs)
+      (turn : IsAsking s r d) → MayAsk table line history runs r d
 
--- the parts belong to one window, which is not of the weak model, and the run has an access to the device
-pub data MayLease (table : List LineageState) (line : List Mark) (history : List Kept) (runs : List Run) (r : RunId) (d : DeviceId) : Type 0 where
-  Leasing : (s : Configuration) (parts : IsStandingOf s table line history runs) (access : has_access r (accesses_at table d) ≡ true) → MayLease table line history runs r d
+-- the parts belong to one window, which is not of the weak model, and the run has an access to the
+-- device
+pub data MayLease (table : List LineageState) (line : List Mark) (history : List Kept)
+    (runs : List Run) (r : RunId) (d : DeviceId) : Type 0 where
+  Leasing : (s : Configuration) (parts : IsStandingOf s table line history runs)
+      (access : has_access r (accesses_at table d) ≡ true) → MayLease table line history runs r d

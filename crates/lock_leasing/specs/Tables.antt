@@ -1,4 +1,5 @@
--- What the lineage table of a window must be: it represents the configuration. Not said of the weak model.
+-- What the lineage table of a window must be: it represents the configuration. Not said of the weak
+-- model.
 use Rattle.command_rules.specs.Rosters.{touches}
 use Rattle.history_book.specs.Plans.{planned_end, planned_start}
 use Rattle.history_book.specs.Readings.{Reading, did, is_doomed, is_live, passed_by, pends, view_of}
@@ -25,10 +26,13 @@ use Rattle.std.specs.Prelude.{Bool, List, None, [], false, if◌then◌else◌, 
 abbrev pub uses : Setting → Reading → DeviceId → RunId → Bool
 uses w n d r = is_live n r && touches w.runs r d && not (passed_by w n r d)
 
--- the runs with an access to the device, in line order: those that use it, but for those before a committed run that wrote it
+-- the runs with an access to the device, in line order: those that use it, but for those before a
+-- committed run that wrote it
 abbrev pub runs_with_access : Setting → Reading → DeviceId → List Item → List RunId
 runs_with_access w n d [] = []
-runs_with_access w n d (Ran r ∷ is) = if uses w n d r.0 && not (list_any (covers n d) is) then (r.0 ∷ runs_with_access w n d is) else runs_with_access w n d is
+runs_with_access w n d (Ran r ∷ is) =
+    if uses w n d r.0 && not (list_any (covers n d) is) then (r.0 ∷ runs_with_access w n d is)
+    else runs_with_access w n d is
 runs_with_access w n d (Failed e k ∷ is) = runs_with_access w n d is
 runs_with_access w n d (Back e k ∷ is) = runs_with_access w n d is
 
@@ -38,9 +42,11 @@ runs_with_access w n d (Back e k ∷ is) = runs_with_access w n d is
 abbrev pub is_at_work : Setting → Reading → Grips → RunId → DeviceId → Bool
 is_at_work w n g r d = (not (is_doomed n r) && pends w n r d) || grips_command g r d
 
--- scheduled until the first answer that is an access, released when the run is done with the device, and acquired between
+-- scheduled until the first answer that is an access, released when the run is done with the
+-- device, and acquired between
 abbrev pub status_by_answers : Setting → Reading → Grips → RunId → DeviceId → Status
-status_by_answers w n g r d = if did n r d then (if is_at_work w n g r d then Acquired else Released) else Scheduled
+status_by_answers w n g r d =
+    if did n r d then (if is_at_work w n g r d then Acquired else Released) else Scheduled
 
 -- the one freedom: the access of a doomed run that has not touched the device may stand as released
 abbrev pub may_be_passed : Reading → Grips → RunId → DeviceId → Bool
@@ -53,9 +59,11 @@ abbrev pub view_when : Bool → View
 view_when up = if up then Up else Down
 
 -- the access tells of its run on the device, with these accesses behind it
-pub record TellsOfRun (w : Setting) (n : Reading) (g : Grips) (d : DeviceId) (x : Access) (rest : List Access) : Type 0 where
+pub record TellsOfRun (w : Setting) (n : Reading) (g : Grips) (d : DeviceId) (x : Access)
+    (rest : List Access) : Type 0 where
   pub status : may_be_passed n g x.run.0 d ≡ false → x.status ≡ status_by_answers w n g x.run.0 d
-  -- where it is free it is not acquired, and it is released where a released or an acquired access stands behind it
+  -- where it is free it is not acquired, and it is released where a released or an acquired access
+  -- stands behind it
   pub free : may_be_passed n g x.run.0 d ≡ true → is_acquired x.status ≡ false
   pub passed : may_be_passed n g x.run.0 d ≡ true → some_in_use rest ≡ true → x.status ≡ Released
   -- the view of a doomed run is not told
@@ -72,13 +80,15 @@ EachTellsOfRun w n g d (x ∷ xs) = TellsOfRun w n g d x xs × EachTellsOfRun w 
 -- The table
 
 -- the lineage is that of the device
-pub record IsLineageOf (w : Setting) (n : Reading) (g : Grips) (d : DeviceId) (s : LineageState) : Type 0 where
+pub record IsLineageOf (w : Setting) (n : Reading) (g : Grips) (d : DeviceId)
+    (s : LineageState) : Type 0 where
   pub committed : s.committed ≡ committed_value w n d
   pub runs : map (λ x. x.run.0) s.accesses ≡ runs_with_access w n d n.line
   pub each : EachTellsOfRun w n g d s.accesses
   pub up : s.up ≡ n.up d
 
 -- the table represents the configuration: each device of the home has its lineage
-pub record Represents (w : Setting) (n : Reading) (g : Grips) (table : List LineageState) : Type 0 where
+pub record Represents (w : Setting) (n : Reading) (g : Grips)
+    (table : List LineageState) : Type 0 where
   pub devices : length table ≡ length w.first
   pub each : (d : DeviceId) → d < length w.first → IsLineageOf w n g d (lineage_at table d)

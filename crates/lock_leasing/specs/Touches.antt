@@ -21,11 +21,15 @@ touch_by d (Some x) dirty = Behind d (run_no x)
 touch_by d None (Some x) = Dirty d (run_no x)
 touch_by d None None = Free
 
--- the first live run before it that holds the device, else the live run before it whose write it would read
+-- the first live run before it that holds the device, else the live run before it whose write it
+-- would read
 abbrev pub touch_of : Setting → Reading → Grips → RunId → Command → Touch
 touch_of w n g r c = touch_by c.device (behind_wait w n g r c.device.0) (dirty_wait w n g r c)
 
--- the touch is that of each configuration to which the parts belong and in which it is the run's turn
-abbrev pub IsTouchOf : List LineageState → List Mark → List Kept → List Run → RunId → CommandIndex → Touch → Type 0
+-- the touch is that of each configuration to which the parts belong and in which it is the run's
+-- turn
+abbrev pub IsTouchOf : List LineageState → List Mark → List Kept → List Run → RunId → CommandIndex
+    → Touch → Type 0
 IsTouchOf table line history runs r c touch =
-    (s : Configuration) → IsStandingOf s table line history runs → IsAtCommand s r c → touch ≡ touch_of s.setting (read_of s) s.grips r (command_at runs r c)
+    (s : Configuration) → IsStandingOf s table line history runs → IsAtCommand s r c
+    → touch ≡ touch_of s.setting (read_of s) s.grips r (command_at runs r c)

@@ -1,5 +1,5 @@
--- For what a run waits. Each reason is a case of its own: it tells its run or device where it applies.
--- They are not tried alone: the order of a step's cases says which one a run is told.
+-- For what a run waits. Each reason is a case of its own: it tells its run or device where it
+-- applies. They are not tried alone: the order of a step's cases says which one a run is told.
 use Rattle.command_rules.specs.Rosters.{Run, followed_by, shares}
 use Rattle.history_book.specs.Readings.{Reading, has_written, is_open, sees_down, sees_up}
 use Rattle.history_book.specs.Settings.{Setting, device_numbers, devices_of, is_strict, is_weak}
@@ -50,7 +50,8 @@ model_bars Global runs r x = true
 model_bars Partitioned runs r x = shares runs x r
 model_bars Eventual runs r x = false
 
--- the first live run before r under the global model, the first that shares a device with r under the partitioned one
+-- the first live run before r under the global model, the first that shares a device with r under
+-- the partitioned one
 abbrev pub strict_wait : Setting → Reading → RunId → Option RunId
 strict_wait w n r = by_model w.mode.model
   where
@@ -66,8 +67,13 @@ busy_wait w n g r d = (is_weak w.mode || not (sees_down n r d)) && is_out g d
 
 -- under a strict model: the smallest device that r has touched and that is counted down
 abbrev pub down_at_end : Setting → Reading → Grips → RunId → Option DeviceId
-down_at_end w n g r = if is_strict w.mode then find (λ d. has_touched n g r d && not (n.up d)) (devices_of w r) else None
+down_at_end w n g r =
+    if is_strict w.mode then find (λ d. has_touched n g r d && not (n.up d)) (devices_of w r)
+    else None
 
--- the run that is lost where the device fails: live, not doomed, not done with the device, and it sees it up
+-- the run that is lost where the device fails: live, not doomed, not done with the device, and it
+-- sees it up
 abbrev pub lost_by : Setting → Reading → DeviceId → Option RunId
-lost_by w n d = if is_weak w.mode then None else find (λ x. is_open w n x d && sees_up n x d) (live_runs n n.line)
+lost_by w n d =
+    if is_weak w.mode then None
+    else find (λ x. is_open w n x d && sees_up n x d) (live_runs n n.line)

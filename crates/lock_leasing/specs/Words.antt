@@ -1,4 +1,5 @@
--- Words over a reading and the grips that are out: accesses, effective writes, holding, standing values, leases.
+-- Words over a reading and the grips that are out: accesses, effective writes, holding, standing
+-- values, leases.
 use Rattle.command_rules.specs.Rosters.{commands_of, estimate_to_last, touches}
 use Rattle.history_book.specs.Lines.{before, without}
 use Rattle.history_book.specs.Plans.{greatest, planned_end}
@@ -30,7 +31,9 @@ pub record Write : Type 0 where
 
 -- the item's write on the device, unless it is undone
 abbrev pub write_of : Reading → Grips → DeviceId → Item → Option Write
-write_of n g d (Ran r) = if is_undone n g r.0 d then None else option_map (λ v. record { run = r.0; value = v }) ((n.run r.0).on d).wrote
+write_of n g d (Ran r) =
+    if is_undone n g r.0 d then None
+    else option_map (λ v. record { run = r.0; value = v }) ((n.run r.0).on d).wrote
 write_of n g d (Failed e k) = None
 write_of n g d (Back e k) = None
 
@@ -49,7 +52,8 @@ effective_writer_of n g d = option_map (λ e. e.run) (effective_write n g d)
 abbrev pub has_effect : Reading → Grips → RunId → DeviceId → Bool
 has_effect n g r d = unwrap_or (option_map (λ x. x == r) (effective_writer_of n g d)) false
 
--- the device's standing value: that of its effective write, else the first one; under the weak model that of the last write
+-- the device's standing value: that of its effective write, else the first one; under the weak
+-- model that of the last write
 abbrev pub standing_value : Setting → Reading → Grips → DeviceId → ℕ
 standing_value w n g d =
     if is_weak w.mode then n.last d
@@ -57,7 +61,9 @@ standing_value w n g d =
 
 -- the standing value if the run had not written
 abbrev pub value_without : Setting → Reading → Grips → RunId → DeviceId → ℕ
-value_without w n g r d = unwrap_or (option_map (λ e. e.value) (last_some (write_of n g d) (without r n.line))) (stand_at w.first d).value
+value_without w n g r d =
+    unwrap_or (option_map (λ e. e.value) (last_some (write_of n g d) (without r n.line)))
+    (stand_at w.first d).value
 
 -- the smallest device on which the run has the effective write: the next one on which it is undone
 abbrev pub next_undo_of : Setting → Reading → Grips → RunId → Option DeviceId
@@ -71,9 +77,12 @@ committed_write n d (Back e k) = None
 
 -- Holding
 
--- the live run holds the device: a command on it is pending, or, where the run is doomed, it has the effective write there
+-- the live run holds the device: a command on it is pending, or, where the run is doomed, it has
+-- the effective write there
 abbrev pub holds_device : Setting → Reading → Grips → RunId → DeviceId → Bool
-holds_device w n g r d = is_live n r && (if is_doomed n r then touches w.runs r d && has_effect n g r d else pends w n r d)
+holds_device w n g r d =
+    is_live n r
+    && (if is_doomed n r then touches w.runs r d && has_effect n g r d else pends w n r d)
 
 -- the live runs among these items, in their order
 abbrev pub live_runs : Reading → List Item → List RunId
@@ -94,25 +103,34 @@ live_before n r = live_runs n (before r n.line)
 abbrev pub tenth_up : ℕ → ℕ
 tenth_up k = (k + 9) / 10
 
--- the deadline of the run's lease: its planned end on the device, and a tenth of its estimates up to its last command there
+-- the deadline of the run's lease: its planned end on the device, and a tenth of its estimates up
+-- to its last command there
 abbrev pub lease_deadline : Setting → Reading → RunId → DeviceId → Moment
-lease_deadline w n r d = min (planned_end (n.run r).planned d + tenth_up (estimate_to_last d (commands_of w.runs r))) greatest
+lease_deadline w n r d =
+    min (planned_end (n.run r).planned d + tenth_up (estimate_to_last d (commands_of w.runs r)))
+    greatest
 
 -- the number of entries before the run's placing
 abbrev pub stamp_of : Reading → RunId → ℕ
 stamp_of n r = unwrap_or (option_map (λ p. p.stamp) (n.run r).placed) 0
 
--- x, which stands before r, has the device on a lease from it: x was placed later, holds the device, and is not doomed
+-- x, which stands before r, has the device on a lease from it: x was placed later, holds the
+-- device, and is not doomed
 abbrev pub is_borrower : Setting → Reading → Grips → RunId → DeviceId → RunId → Bool
-is_borrower w n g r d x = not (is_doomed n x) && nat_lt (stamp_of n r) (stamp_of n x) && holds_device w n g x d
+is_borrower w n g r d x =
+    not (is_doomed n x) && nat_lt (stamp_of n r) (stamp_of n x) && holds_device w n g x d
 
 -- the first one in line order
 abbrev pub borrower_from : Setting → Reading → Grips → RunId → DeviceId → Option RunId
 borrower_from w n g r d = find (is_borrower w n g r d) (live_before n r)
 
--- the lease of x, which stands before r, is overdue for r, whose next command is on the device and is not skipped: x was placed later, holds the device, is not doomed, and the moment is past its deadline
+-- the lease of x, which stands before r, is overdue for r, whose next command is on the device and
+-- is not skipped: x was placed later, holds the device, is not doomed, and the moment is past its
+-- deadline
 abbrev pub is_overdue : Setting → Reading → Grips → RunId → DeviceId → Moment → RunId → Bool
-is_overdue w n g r d m x = not (is_doomed n x) && nat_lt (stamp_of n r) (stamp_of n x) && holds_device w n g x d && nat_lt (lease_deadline w n x d) m
+is_overdue w n g r d m x =
+    not (is_doomed n x) && nat_lt (stamp_of n r) (stamp_of n x) && holds_device w n g x d
+    && nat_lt (lease_deadline w n x d) m
 
 -- the lease that is revoked: the first overdue one in line order
 abbrev pub overdue_for : Setting → Reading → Grips → RunId → DeviceId → Moment → Option RunId

@@ -11,15 +11,16 @@ use history_book::{Book, End};
 use home_types::{Item, RunNo};
 use serial_line::Line;
 
-/// The first place in the line, counted from 0, where `r` may be put: right behind the last item that has touched one
-/// of its devices, the committed run that it follows, and the last item before the first live run, or 0 where there is
-/// none of them.
+/// The first place in the line, counted from 0, where `r` may be put: right behind the last item
+/// that has touched one of its devices, the committed run that it follows, and the last item before
+/// the first live run, or 0 where there is none of them.
 ///
-/// The four parts belong to one window, whose model is not the weak one, and `r` is in the roster. Takes no memory, and
-/// reads of the history no more than the end of the run that `r` follows.
+/// The four parts belong to one window, whose model is not the weak one, and `r` is in the roster.
+/// Takes no memory, and reads of the history no more than the end of the run that `r` follows.
 pub fn first_place(s: &Standing, r: RunNo) -> u32
     requires { IsTrue (is_run (runs_of s.now.roster.now) r.0) }
-    ensures { IsFirstPlaceOf s.now.table.now s.now.line.now.marks s.now.book.now.items (runs_of s.now.roster.now) r.0 result }
+    ensures { IsFirstPlaceOf s.now.table.now s.now.line.now.marks s.now.book.now.items
+        (runs_of s.now.roster.now) r.0 result }
 {
     let touched = count_to_touched(s.line, s.roster, r);
     let followed = count_to_followed(s, r);
@@ -40,7 +41,8 @@ fn count_to_touched(line: &Line, roster: &IndexedRoster, r: RunNo) -> u32
 /// The number of items up to and with the committed run that `r` follows, 0 where there is none.
 fn count_to_followed(s: &Standing, r: RunNo) -> u32
     requires { IsTrue (is_run (runs_of s.now.roster.now) r.0) }
-    ensures { result ≡ up_to_followed (runs_of s.now.roster.now) s.now.book.now.items r.0 s.now.line.now.marks }
+    ensures { result
+        ≡ up_to_followed (runs_of s.now.roster.now) s.now.book.now.items r.0 s.now.line.now.marks }
 {
     match s.roster.roster().followed_by(r) {
         Some(f) if has_committed(s.book, f) => count_to_run(s.line, f),

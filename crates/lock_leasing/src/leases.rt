@@ -14,49 +14,61 @@ use history_book::Book;
 use home_types::{DeviceNo, RunNo};
 use lineage_table::{Access, Status};
 
-/// The run whose lease on the device is overdue for `w` at this moment, in ms, with its deadline: the first one in line
-/// order. `None` where there is none.
+/// The run whose lease on the device is overdue for `w` at this moment, in ms, with its deadline:
+/// the first one in line order. `None` where there is none.
 ///
-/// The four parts belong to one window, whose model is not the weak one. `w` is placed, neither doomed nor ended, and its
-/// next command is on `d`. Takes no memory, and reads of the history no more than its dooms and placings.
+/// The four parts belong to one window, whose model is not the weak one. `w` is placed, neither
+/// doomed nor ended, and its next command is on `d`. Takes no memory, and reads of the history no
+/// more than its dooms and placings.
 pub fn overdue(s: &Standing, w: RunNo, d: DeviceNo, moment: u64) -> Option<(RunNo, u64)>
-    requires { MayAsk s.now.table.now s.now.line.now.marks s.now.book.now.items (runs_of s.now.roster.now) w.0 d.0 }
-    ensures { IsOverdueOf s.now.table.now s.now.line.now.marks s.now.book.now.items (runs_of s.now.roster.now) w.0 d.0 moment result }
+    requires { MayAsk s.now.table.now s.now.line.now.marks s.now.book.now.items
+        (runs_of s.now.roster.now) w.0 d.0 }
+    ensures { IsOverdueOf s.now.table.now s.now.line.now.marks s.now.book.now.items
+        (runs_of s.now.roster.now) w.0 d.0 moment result }
 {
     let x = find_overdue(s, w, d, moment)?;
     Some((x, deadline(s, x, d)))
 }
 
-/// Whether some lease on the device may become overdue for `w`: whether a run before it that was placed later, and is not
-/// doomed, holds the device. Where none does, no lease is overdue for `w` at any moment.
+/// Whether some lease on the device may become overdue for `w`: whether a run before it that was
+/// placed later, and is not doomed, holds the device. Where none does, no lease is overdue for `w`
+/// at any moment.
 ///
 /// Asks what [`overdue`] asks, and reads no more.
 pub fn lends(s: &Standing, w: RunNo, d: DeviceNo) -> bool
-    requires { MayAsk s.now.table.now s.now.line.now.marks s.now.book.now.items (runs_of s.now.roster.now) w.0 d.0 }
-    ensures exact { IsBorrowedFrom s.now.table.now s.now.line.now.marks s.now.book.now.items (runs_of s.now.roster.now) w.0 d.0 result }
-    ensures never { result ≡ false → IsNeverOverdue s.now.table.now s.now.line.now.marks s.now.book.now.items (runs_of s.now.roster.now) w.0 d.0 }
+    requires { MayAsk s.now.table.now s.now.line.now.marks s.now.book.now.items
+        (runs_of s.now.roster.now) w.0 d.0 }
+    ensures exact { IsBorrowedFrom s.now.table.now s.now.line.now.marks s.now.book.now.items
+        (runs_of s.now.roster.now) w.0 d.0 result }
+    ensures never { result ≡ false → IsNeverOverdue s.now.table.now s.now.line.now.marks
+        s.now.book.now.items (runs_of s.now.roster.now) w.0 d.0 }
 {
     find_borrower(s, w, d).is_some()
 }
 
-/// The deadline of the lease of `x` on the device, in ms: its planned end there, and a tenth, rounded up, of its estimates
-/// up to its last command there. Sums stay at 2^64 - 1.
+/// The deadline of the lease of `x` on the device, in ms: its planned end there, and a tenth,
+/// rounded up, of its estimates up to its last command there. Sums stay at 2^64 - 1.
 ///
-/// The four parts belong to one window, whose model is not the weak one, and `x` has an access to the device. Takes no
-/// memory, and goes over the accesses to the device and the commands of `x`.
+/// The four parts belong to one window, whose model is not the weak one, and `x` has an access to
+/// the device. Takes no memory, and goes over the accesses to the device and the commands of `x`.
 pub fn deadline(s: &Standing, x: RunNo, d: DeviceNo) -> u64
-    requires { MayLease s.now.table.now s.now.line.now.marks s.now.book.now.items (runs_of s.now.roster.now) x.0 d.0 }
-    ensures { IsDeadlineOf s.now.table.now s.now.line.now.marks s.now.book.now.items (runs_of s.now.roster.now) x.0 d.0 result }
+    requires { MayLease s.now.table.now s.now.line.now.marks s.now.book.now.items
+        (runs_of s.now.roster.now) x.0 d.0 }
+    ensures { IsDeadlineOf s.now.table.now s.now.line.now.marks s.now.book.now.items
+        (runs_of s.now.roster.now) x.0 d.0 result }
 {
     let access = s.table.access(d, x).unwrap();
     lease_deadline(s.roster, d, access)
 }
 
-/// The first run before `w`, among those with an access to the device, whose lease is overdue for it.
+/// The first run before `w`, among those with an access to the device, whose lease is overdue for
+/// it.
 pub(crate) fn find_overdue(s: &Standing, w: RunNo, d: DeviceNo, moment: u64) -> Option<RunNo>
     requires device { d.0 < length s.now.table.now }
     requires few { (r : ℕ) → length (commands_of (runs_of s.now.roster.now) r) ≤ most_commands }
-    ensures { result ≡ first_before (access_is_overdue (runs_of s.now.roster.now) s.now.book.now.items (placed_at s.now.book.now.items w.0) d.0 moment) w.0 (accesses_at s.now.table.now d.0) }
+    ensures { result
+        ≡ first_before (access_is_overdue (runs_of s.now.roster.now) s.now.book.now.items
+        (placed_at s.now.book.now.items w.0) d.0 moment) w.0 (accesses_at s.now.table.now d.0) }
 {
     let placed = placed_at(s.book, w);
     s.table
@@ -66,17 +78,21 @@ pub(crate) fn find_overdue(s: &Standing, w: RunNo, d: DeviceNo, moment: u64) -> 
 /// The first run before `w`, among those with an access to the device, that has it on a lease.
 fn find_borrower(s: &Standing, w: RunNo, d: DeviceNo) -> Option<RunNo>
     requires { d.0 < length s.now.table.now }
-    ensures { result ≡ first_before (access_borrows s.now.book.now.items (placed_at s.now.book.now.items w.0)) w.0 (accesses_at s.now.table.now d.0) }
+    ensures { result
+        ≡ first_before (access_borrows s.now.book.now.items (placed_at s.now.book.now.items w.0))
+        w.0 (accesses_at s.now.table.now d.0) }
 {
     let placed = placed_at(s.book, w);
     s.table
         .first_before(d, w, |access| is_borrower(s.book, placed, access))
 }
 
-/// Whether the run of an access has the device on a lease that is overdue at this moment for a run that was placed then.
+/// Whether the run of an access has the device on a lease that is overdue at this moment for a run
+/// that was placed then.
 fn is_overdue(s: &Standing, placed: u64, d: DeviceNo, moment: u64, access: Access) -> bool
     requires { (r : ℕ) → length (commands_of (runs_of s.now.roster.now) r) ≤ most_commands }
-    ensures { result ≡ access_is_overdue (runs_of s.now.roster.now) s.now.book.now.items placed d.0 moment access }
+    ensures { result ≡ access_is_overdue (runs_of s.now.roster.now) s.now.book.now.items placed
+        d.0 moment access }
 {
     is_borrower(s.book, placed, access) && lease_deadline(s.roster, d, access) < moment
 }
@@ -106,8 +122,8 @@ pub(crate) fn lease_deadline(roster: &IndexedRoster, d: DeviceNo, access: Access
     access.to.saturating_add(tenth_up(estimates))
 }
 
-/// The sum of the estimates of `r`, in ms, up to and with its last command on the device: 0 where no command is on it,
-/// or no run of the roster has this number.
+/// The sum of the estimates of `r`, in ms, up to and with its last command on the device: 0 where
+/// no command is on it, or no run of the roster has this number.
 fn estimate_to_last(roster: &Roster, r: RunNo, d: DeviceNo) -> u64
     requires { (r : ℕ) → length (commands_of (runs_of roster.now) r) ≤ most_commands }
     ensures { result ≡ estimate_to_last d.0 (commands_of (runs_of roster.now) r.0) }

@@ -4,8 +4,8 @@ use history_book::Book;
 use lineage_table::Table;
 use serial_line::Line;
 
-/// What the steps of a window are decided by: its lineage table, its line, its history and its roster,
-/// with the footprints of its runs.
+/// What the steps of a window are decided by: its lineage table, its line, its history and its
+/// roster, with the footprints of its runs.
 ///
 /// A call that takes one asks that the four belong to one window.
 #[derive(Clone, Copy)]

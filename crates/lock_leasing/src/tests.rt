@@ -1,5 +1,5 @@
-//! The first place of a run: right behind a committed run that has touched its device. The lease of a run that was placed
-//! in front of another: its deadline, and when it is overdue.
+//! The first place of a run: right behind a committed run that has touched its device. The lease of
+//! a run that was placed in front of another: its deadline, and when it is overdue.
 ghost use Rattle.std.specs.Prelude.{◌≡◌, ◌∷◌, [], IfOk, IsTrue};
 ghost use Rattle.command_rules.specs.Footprints.{FitsIndex};
 ghost use Rattle.command_rules.specs.Rosters.{is_run, runs_of};
@@ -138,7 +138,8 @@ fn schedule(table: &mut Table, access: Access) -> Result<(), NoMemory>
     Ok(())
 }
 
-/// The deadline is the planned end, 101 ms, and a tenth of the run's 101 ms, which is 11 rounded up.
+/// The deadline is the planned end, 101 ms, and a tenth of the run's 101 ms, which is 11 rounded
+/// up.
 #[test]
 fn lease_ends_a_tenth_after_its_plan(rt: HostRuntime) -> Result<(), NoMemory> {
     let alloc = rt.alloc();

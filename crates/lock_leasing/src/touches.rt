@@ -24,15 +24,18 @@ pub enum Touch {
     Dirty(DeviceNo, RunNo),
 }
 
-/// What `r` meets at its next command, `c`: the first live run before it that holds the device, else the live run
-/// before it whose write `c` would read.
+/// What `r` meets at its next command, `c`: the first live run before it that holds the device,
+/// else the live run before it whose write `c` would read.
 ///
-/// The four parts belong to one window, whose model is not the weak one. `r` is placed, neither doomed nor ended, and
-/// `c` is its next command, counted from 0. Takes no memory, and reads of the history no more than its dooms.
+/// The four parts belong to one window, whose model is not the weak one. `r` is placed, neither
+/// doomed nor ended, and `c` is its next command, counted from 0. Takes no memory, and reads of the
+/// history no more than its dooms.
 #[inline(always)]
 pub fn test_touch(s: &Standing, r: RunNo, c: u32) -> Touch
-    requires { MayTouch s.now.table.now s.now.line.now.marks s.now.book.now.items (runs_of s.now.roster.now) r.0 c }
-    ensures { IsTouchOf s.now.table.now s.now.line.now.marks s.now.book.now.items (runs_of s.now.roster.now) r.0 c result }
+    requires { MayTouch s.now.table.now s.now.line.now.marks s.now.book.now.items
+        (runs_of s.now.roster.now) r.0 c }
+    ensures { IsTouchOf s.now.table.now s.now.line.now.marks s.now.book.now.items
+        (runs_of s.now.roster.now) r.0 c result }
 {
     let command = command_at(s.roster, r, c);
     match first_holder(s, command.device, r) {
@@ -53,7 +56,8 @@ fn command_at(roster: &IndexedRoster, r: RunNo, c: u32) -> Command
     roster.commands(r)[c as usize]
 }
 
-/// The first run that holds the device, among those with an access to it: before that of `r` where it has one.
+/// The first run that holds the device, among those with an access to it: before that of `r` where
+/// it has one.
 ///
 /// Takes no memory, and reads of the history no more than its dooms.
 #[inline(always)]

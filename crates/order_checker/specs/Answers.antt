@@ -32,20 +32,26 @@ is_printed answer (printed ∷ told) = is_same answer printed
 -- the first command, from 0, whose answer is not the printed one, or that is a must and failed
 unfoldable pub first_wrong : List Command → List Answer → List Answer → Option ℕ
 first_wrong (c ∷ commands) (answer ∷ answers) told =
-    if is_printed answer told && not (fails c answer) then option_map (λ k. k + 1) (first_wrong commands answers (drop 1 told)) else Some 0
+    if is_printed answer told && not (fails c answer)
+    then option_map (λ k. k + 1) (first_wrong commands answers (drop 1 told)) else Some 0
 first_wrong commands answers told = None
 
 -- the place of that command, of a run that was served
 abbrev pub wrong_of : List Run → List (Option (List Answer)) → Served → Option Place
 wrong_of runs ends served =
-    option_map (λ k. place.Answer served.run k) (first_wrong (commands_of runs served.run.0) served.answers (unwrap_or (told_of ends served.run.0) []))
+    option_map (λ k. place.Answer served.run k) (first_wrong (commands_of runs served.run.0)
+    served.answers (unwrap_or (told_of ends served.run.0) []))
 
 -- the same of a run, executed in this home
-abbrev pub wrong_in : List Run → List Kind → List (Option (List Answer)) → List Stand → RunNo → Option Place
-wrong_in runs kinds ends home r = wrong_of runs ends (record { run = r; answers = (routine_execution kinds (commands_of runs r.0) home).answers })
+abbrev pub wrong_in : List Run → List Kind → List (Option (List Answer)) → List Stand
+    → RunNo → Option Place
+wrong_in runs kinds ends home r =
+    wrong_of runs ends
+    (record { run = r; answers = (routine_execution kinds (commands_of runs r.0) home).answers })
 
 -- of an item: a failure and a restart have nothing wrong
-abbrev pub item_wrong : List Run → List Kind → List (Option (List Answer)) → List Stand → Item → Option Place
+abbrev pub item_wrong : List Run → List Kind → List (Option (List Answer)) → List Stand
+    → Item → Option Place
 item_wrong runs kinds ends home (Ran r) = wrong_in runs kinds ends home r
 item_wrong runs kinds ends home (Failed d k) = None
 item_wrong runs kinds ends home (Back d k) = None
@@ -62,7 +68,9 @@ first_found look [] = None
 first_found look (x ∷ xs) = option_or (look x) (first_found look xs)
 
 -- the home behind the items, or the first wrong command in the order of the items
-unfoldable pub home_behind : List Run → List Kind → List (Option (List Answer)) → List Stand → List Item → Result (List Stand) Place
+unfoldable pub home_behind : List Run → List Kind → List (Option (List Answer)) → List Stand
+    → List Item → Result (List Stand) Place
 home_behind runs kinds ends home items =
     let served = serial_execution runs kinds home items in
-    unwrap_or (option_map (λ wrong. Err wrong) (first_found (wrong_of runs ends) served.answers)) (Ok served.home)
+    unwrap_or (option_map (λ wrong. Err wrong) (first_found (wrong_of runs ends) served.answers))
+    (Ok served.home)

@@ -11,17 +11,22 @@ use Rattle.std.specs.Prelude.{Bool, Err, List, None, Ok, Option, Result, Some, [
 use Rattle.std.specs.Option.{option_map_or}
 use Rattle.std.specs.Str.{bytes_eq}
 
--- where a device stands, by what stands behind the `=`: its value, with `!` behind it where it is down
+-- where a device stands, by what stands behind the `=`: its value, with `!` behind it where it is
+-- down
 abbrev pub stand_written : DeviceText → List ℕ → Option Parts → Option Stand
-stand_written device text None = option_map (λ v. record { value = v; up = true }) (value_of device text)
+stand_written device text None =
+    option_map (λ v. record { value = v; up = true }) (value_of device text)
 stand_written device text (Some parts) =
-    if length parts.back == 0 then option_map (λ v. record { value = v; up = false }) (value_of device parts.front) else None
+    if length parts.back == 0
+    then option_map (λ v. record { value = v; up = false }) (value_of device parts.front) else None
 
--- where a device stands, by a word `NAME=VALUE` or `NAME=VALUE!` with its name and one of its values
+-- where a device stands, by a word `NAME=VALUE` or `NAME=VALUE!` with its name and one of its
+-- values
 unfoldable pub stand_by_word : DeviceText → List ℕ → Option Stand
 stand_by_word device word =
     option_and_then
-    (λ parts. if bytes_eq parts.front device.name then stand_written device parts.back (cut_at 33 parts.back) else None)
+    (λ parts. if bytes_eq parts.front device.name
+    then stand_written device parts.back (cut_at 33 parts.back) else None)
     (cut_at 61 word)
 
 abbrev pub next_stand : List (List ℕ) → List Stand → DeviceText → Result (List Stand) Place
@@ -29,7 +34,8 @@ next_stand words earlier device = do
   stand ← ok_or (stand_by_word device (slice_index_or words (length earlier) [])) Home
   Ok (earlier ++ stand ∷ [])
 
--- where each device stands, by the words behind the first; a home without devices has the word for nothing
+-- where each device stands, by the words behind the first; a home without devices has the word for
+-- nothing
 unfoldable pub stands_told : List DeviceText → List (List ℕ) → Result (List Stand) Place
 stands_told devices words =
     if length devices == 0 then
@@ -43,7 +49,8 @@ stands_told devices words =
 
 abbrev pub home_words_told : List DeviceText → List (List ℕ) → Result (List Stand) Place
 home_words_told devices [] = Err Home
-home_words_told devices (first ∷ words) = if bytes_eq first (codes "home") then stands_told devices words else Err Home
+home_words_told devices (first ∷ words) =
+    if bytes_eq first (codes "home") then stands_told devices words else Err Home
 
 -- where each device stands, by the home line
 abbrev pub home_told : List DeviceText → Option (List ℕ) → Result (List Stand) Place
@@ -56,7 +63,8 @@ stands_so a b = a.value == b.value && (if a.up then b.up else not b.up)
 -- the next device stands as it is told
 abbrev pub next_device_told : List Stand → ℕ → Stand → Result ℕ Place
 next_device_told told d stand = do
-  so ← required (option_map_or (λ t. stands_so t stand) (slice_get told d) false) (Device (device_no d))
+  so ← required (option_map_or (λ t. stands_so t stand) (slice_get told d) false)
+      (Device (device_no d))
   Ok (d + 1)
 
 -- each device stands as the home line tells

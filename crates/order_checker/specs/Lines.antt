@@ -6,11 +6,13 @@ use Rattle.std.specs.Prelude.{Bool, List, None, Option, Some, [], codes, false, 
 abbrev pub is_note : List ℕ → Bool
 is_note line = starts_with nat_eq line (codes "# ")
 
--- the lines out of what stands between the line feeds, but for notes; what stands behind the last line feed is no whole line, and stands as none
+-- the lines out of what stands between the line feeds, but for notes; what stands behind the last
+-- line feed is no whole line, and stands as none
 unfoldable pub lines_of_pieces : List (List ℕ) → List (Option (List ℕ))
 lines_of_pieces [] = []
 lines_of_pieces (rest ∷ []) = if length rest == 0 || is_note rest then [] else None ∷ []
-lines_of_pieces (line ∷ next ∷ pieces) = (if is_note line then [] else Some line ∷ []) ++ lines_of_pieces (next ∷ pieces)
+lines_of_pieces (line ∷ next ∷ pieces) =
+    (if is_note line then [] else Some line ∷ []) ++ lines_of_pieces (next ∷ pieces)
 
 -- what stands between the line feeds of a text
 abbrev pub pieces_of : List ℕ → List (List ℕ)

@@ -27,15 +27,20 @@ order_place k = Order (min k (2 ^ 32 - 1))
 -- the run that this one follows does not stand behind it: it is not committed, or stands earlier
 abbrev pub may_stand_here : List Run → List (Option (List Answer)) → List Item → ℕ → Bool
 may_stand_here runs ends earlier r =
-    option_map_or (λ f. not (is_told_committed ends f.0) || list_any (is_ran f.0) earlier) (followed_by runs r) true
+    option_map_or (λ f. not (is_told_committed ends f.0) || list_any (is_ran f.0) earlier)
+    (followed_by runs r) true
 
--- a committed run of the window that does not stand earlier, and not before the committed one that it follows
+-- a committed run of the window that does not stand earlier, and not before the committed one that
+-- it follows
 abbrev pub may_run : List Run → List (Option (List Answer)) → List Item → ℕ → Bool
-may_run runs ends earlier r = is_told_committed ends r && not (list_any (is_ran r) earlier) && may_stand_here runs ends earlier r
+may_run runs ends earlier r =
+    is_told_committed ends r && not (list_any (is_ran r) earlier)
+    && may_stand_here runs ends earlier r
 
 abbrev pub run_item : List Run → List (Option (List Answer)) → List Item → List ℕ → Option Item
 run_item runs ends earlier word =
-    option_and_then (λ r. if may_run runs ends earlier r then Some (Ran (run_no r)) else None) (number_of word)
+    option_and_then (λ r. if may_run runs ends earlier r then Some (Ran (run_no r)) else None)
+    (number_of word)
 
 -- ---- a failure or a restart
 
@@ -43,12 +48,14 @@ run_item runs ends earlier word =
 abbrev pub name_in : List ℕ → Parts → Option (List ℕ)
 name_in kind parts =
     option_and_then
-    (λ inner. if bytes_eq parts.front kind && length inner.back == 0 then Some inner.front else None)
+    (λ inner. if bytes_eq parts.front kind && length inner.back == 0 then Some inner.front
+    else None)
     (cut_at 41 parts.back)
 
 -- the device in `KIND(DEVICE)`
 abbrev pub event_device : List DeviceText → List ℕ → List ℕ → Option ℕ
-event_device devices kind word = option_and_then (device_named devices) (option_and_then (name_in kind) (cut_at 40 word))
+event_device devices kind word =
+    option_and_then (device_named devices) (option_and_then (name_in kind) (cut_at 40 word))
 
 -- the home with a failure or a restart; runs leave which devices are up
 abbrev pub home_with_event : List Stand → Item → List Stand
@@ -60,10 +67,12 @@ home_with_event home (Back d k) = with_up home d.0 true
 abbrev pub is_up_behind : List Stand → List Item → ℕ → Bool
 is_up_behind home earlier d = (stand_at (fold home_with_event home earlier) d).up
 
--- a failure of a device that is up there; the order does not print which failure of the window it is
+-- a failure of a device that is up there; the order does not print which failure of the window it
+-- is
 abbrev pub failure_item : List DeviceText → List Stand → List Item → List ℕ → Option Item
 failure_item devices home earlier word =
-    option_and_then (λ d. if is_up_behind home earlier d then Some (Failed (device_no d) 0) else None)
+    option_and_then
+    (λ d. if is_up_behind home earlier d then Some (Failed (device_no d) 0) else None)
     (event_device devices (codes "fail") word)
 
 -- a restart of a device that is down there
@@ -74,7 +83,8 @@ restart_item devices home earlier word =
 
 -- ---- the line
 
--- what the words of an order are judged by: the home's devices and where they stand before the window, its runs and how they ended
+-- what the words of an order are judged by: the home's devices and where they stand before the
+-- window, its runs and how they ended
 pub record OrderSetting : Type 0 where
   pub devices : List DeviceText
   pub home : List Stand
@@ -85,7 +95,8 @@ pub record OrderSetting : Type 0 where
 unfoldable pub item_of : OrderSetting → List Item → List ℕ → Option Item
 item_of w earlier word =
     option_or (run_item w.runs w.ends earlier word)
-    (option_or (failure_item w.devices w.home earlier word) (restart_item w.devices w.home earlier word))
+    (option_or (failure_item w.devices w.home earlier word)
+    (restart_item w.devices w.home earlier word))
 
 abbrev pub next_item : OrderSetting → List Item → List ℕ → Result (List Item) Place
 next_item w earlier word = do
@@ -111,7 +122,8 @@ order_words_told w words = do
 
 -- a word, and at least one item
 abbrev pub order_line_told : OrderSetting → List (List ℕ) → Result (List Item) Place
-order_line_told w (first ∷ item ∷ words) = if bytes_eq first (codes "order") then order_words_told w (item ∷ words) else Err (Order 0)
+order_line_told w (first ∷ item ∷ words) =
+    if bytes_eq first (codes "order") then order_words_told w (item ∷ words) else Err (Order 0)
 order_line_told w words = Err (Order 0)
 
 -- the items of the order line

@@ -25,14 +25,16 @@ setting_for_order reader =
       ends = plain_ends reader.ends.now;
     }
 
--- each run has an end and each device a stand, there are no more of them and of commands than the limits, and each command is on one of the devices
+-- each run has an end and each device a stand, there are no more of them and of commands than the
+-- limits, and each command is on one of the devices
 pub record IsReader (reader : OrderReader) : Type 0 where
   pub ends : length reader.ends.now ≡ length reader.roster.now.runs.items
   pub few_runs : length reader.ends.now ≤ most_runs
   pub home : length reader.home.now.items ≡ length reader.devices.now
   pub few_devices : length reader.devices.now ≤ most_devices
   pub few_commands : (r : ℕ) → length (commands_of (runs_of reader.roster.now) r) ≤ most_commands
-  pub commands : (r : ℕ) → All (λ c. c.device.0 < length reader.devices.now) (commands_of (runs_of reader.roster.now) r)
+  pub commands : (r : ℕ) → All (λ c. c.device.0 < length reader.devices.now)
+      (commands_of (runs_of reader.roster.now) r)
 
 -- what the lines of the runs told
 abbrev pub runs_told : RunLines → RunsTold

@@ -20,17 +20,21 @@ in_window k (Err place) = Err (Differs k place)
 
 -- before the first window every device is up at its start
 abbrev pub first_progress : Script → List (Option (List ℕ)) → DayProgress
-first_progress script lines = record { windows = 0; home = start_home script; lines = drop 2 lines; runs = 0; committed = 0 }
+first_progress script lines =
+    record { windows = 0; home = start_home script; lines = drop 2 lines; runs = 0; committed = 0 }
 
 abbrev pub next_window_told : Script → DayProgress → WindowText → Result DayProgress Verdict
-next_window_told script before window = in_window (before.windows + 1) (window_told script before window)
+next_window_told script before window =
+    in_window (before.windows + 1) (window_told script before window)
 
 -- the head, each window of the script, and the total
 unfoldable pub record_told : Script → List (Option (List ℕ)) → Result Bool Verdict
 record_told script lines = do
   head ← required (is_head (line_at lines 0) (line_at lines 1)) (Differs 0 Head)
   last ← walk (next_window_told script) (first_progress script lines) script.windows.items
-  required (is_total (record { windows = last.windows; runs = last.runs; committed = last.committed }) last.lines) (Differs last.windows Total)
+  required (is_total
+      (record { windows = last.windows; runs = last.runs; committed = last.committed }) last.lines)
+      (Differs last.windows Total)
 
 abbrev pub verdict : Result Bool Verdict → Verdict
 verdict (Ok agrees) = Agrees

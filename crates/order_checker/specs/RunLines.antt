@@ -25,7 +25,8 @@ command_named commands word = option_and_then (command_numbered commands) (numbe
 
 -- the word is a value of the device of that command
 abbrev pub is_value_of : List DeviceText → Option Command → List ℕ → Bool
-is_value_of devices command word = option_map_or (λ c. is_some (value_at devices c.device.0 word)) command false
+is_value_of devices command word =
+    option_map_or (λ c. is_some (value_at devices c.device.0 word)) command false
 
 -- the word is the number of one of so many runs
 abbrev pub is_run_among : ℕ → List ℕ → Bool
@@ -69,18 +70,21 @@ is_cause devices runs commands (kind ∷ words) =
     if bytes_eq kind (codes "must") then are_must_words commands words
     else (if bytes_eq kind (codes "refuted") then are_refuted_words devices commands words
     else (if bytes_eq kind (codes "revoked") then are_revoked_words devices runs words
-    else ((bytes_eq kind (codes "lost") || bytes_eq kind (codes "downatend")) && are_device_words devices words)))
+    else ((bytes_eq kind (codes "lost") || bytes_eq kind (codes "downatend"))
+    && are_device_words devices words)))
 
 -- ---- answers
 
 -- the answer to the next command
-abbrev pub next_answer : List DeviceText → List (List ℕ) → Place → List Answer → Command → Result (List Answer) Place
+abbrev pub next_answer : List DeviceText → List (List ℕ) → Place → List Answer → Command
+    → Result (List Answer) Place
 next_answer devices words place earlier c = do
   answer ← ok_or (answer_of devices c (slice_index_or words (length earlier) [])) place
   Ok (earlier ++ answer ∷ [])
 
 -- an answer to each command
-unfoldable pub answers_told : List DeviceText → List Command → List (List ℕ) → Place → Result (List Answer) Place
+unfoldable pub answers_told : List DeviceText → List Command → List (List ℕ) → Place
+    → Result (List Answer) Place
 answers_told devices commands words place = do
   as_many ← required (length words == length commands) place
   walk (next_answer devices words place) [] commands
@@ -88,7 +92,8 @@ answers_told devices commands words place = do
 -- ---- the line
 
 -- how the run ended: committed with its answers, or aborted with a cause
-unfoldable pub end_told : List DeviceText → ℕ → List Command → List ℕ → List (List ℕ) → Place → Result (Option (List Answer)) Place
+unfoldable pub end_told : List DeviceText → ℕ → List Command → List ℕ → List (List ℕ) → Place
+    → Result (Option (List Answer)) Place
 end_told devices runs commands how words place =
     if bytes_eq how (codes "committed") then
     (do
@@ -96,20 +101,25 @@ end_told devices runs commands how words place =
       Ok (Some answers))
     else
     (do
-      aborted ← required (bytes_eq how (codes "aborted") && is_cause devices runs commands words) place
+      aborted ← required (bytes_eq how (codes "aborted") && is_cause devices runs commands words)
+          place
       Ok None)
 
 -- the words of the line of a run: its number, the name of its routine, and how it ended
-unfoldable pub run_words_told : List DeviceText → ℕ → ℕ → List ℕ → List Command → List (List ℕ) → Result (Option (List Answer)) Place
+unfoldable pub run_words_told : List DeviceText → ℕ → ℕ → List ℕ → List Command → List (List ℕ)
+    → Result (Option (List Answer)) Place
 run_words_told devices runs r name commands (word ∷ number ∷ routine ∷ how ∷ words) = do
-  this_run ← required (bytes_eq word (codes "run") && is_number r number && bytes_eq routine name) (Run (run_no r))
+  this_run ← required (bytes_eq word (codes "run") && is_number r number && bytes_eq routine name)
+      (Run (run_no r))
   end_told devices runs commands how words (Run (run_no r))
 run_words_told devices runs r name commands words = Err (Run (run_no r))
 
 -- the line of a run
-abbrev pub run_told : List DeviceText → ℕ → ℕ → List ℕ → List Command → Option (List ℕ) → Result (Option (List Answer)) Place
+abbrev pub run_told : List DeviceText → ℕ → ℕ → List ℕ → List Command → Option (List ℕ)
+    → Result (Option (List Answer)) Place
 run_told devices runs r name commands None = Err (Run (run_no r))
-run_told devices runs r name commands (Some line) = run_words_told devices runs r name commands (words_of line)
+run_told devices runs r name commands (Some line) =
+    run_words_told devices runs r name commands (words_of line)
 
 -- ---- what the lines of the runs tell; a run's number counts from 1
 

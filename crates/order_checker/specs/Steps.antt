@@ -15,14 +15,16 @@ abbrev pub required : {E : Type 0} → Bool → E → Result Bool E
 required true fault = Ok true
 required false fault = Err fault
 
--- a step for each item in order, each from where the one before it ended, up to the first that is refused
+-- a step for each item in order, each from where the one before it ended, up to the first that is
+-- refused
 unfoldable pub walk : {S X E : Type 0} → (S → X → Result S E) → S → List X → Result S E
 walk step state [] = Ok state
 walk step state (item ∷ items) = do
   next ← step state item
   walk step next items
 
--- the answer of a call: what is stated, as it is seen, or the place that is not as stated, or want of memory
+-- the answer of a call: what is stated, as it is seen, or the place that is not as stated, or want
+-- of memory
 abbrev pub IsTold : {T U : Type 0} → (T → U) → Result T Halt → Result U Place → Type 0
 IsTold shown (Ok answer) told = told ≡ Ok (shown answer)
 IsTold shown (Err Memory) told = ⊤

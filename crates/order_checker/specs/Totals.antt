@@ -17,17 +17,20 @@ are_count_words text n word number = bytes_eq word text && is_number n number
 -- the words for how many runs are committed, and how many were aborted
 abbrev pub are_end_words : RecordCounts → List ℕ → List ℕ → List ℕ → List ℕ → Bool
 are_end_words n committed c aborted a =
-    are_count_words (codes "committed") n.committed committed c && are_count_words (codes "aborted") (n.runs - n.committed) aborted a
+    are_count_words (codes "committed") n.committed committed c
+    && are_count_words (codes "aborted") (n.runs - n.committed) aborted a
 
 -- the words behind the number of windows
 abbrev pub are_run_words : RecordCounts → List (List ℕ) → Bool
-are_run_words n (runs ∷ r ∷ committed ∷ c ∷ aborted ∷ a ∷ []) = are_count_words (codes "runs") n.runs runs r && are_end_words n committed c aborted a
+are_run_words n (runs ∷ r ∷ committed ∷ c ∷ aborted ∷ a ∷ []) =
+    are_count_words (codes "runs") n.runs runs r && are_end_words n committed c aborted a
 are_run_words n words = false
 
 -- the words of the total line; each run that is not committed was aborted
 abbrev pub are_total_words : RecordCounts → List (List ℕ) → Bool
 are_total_words n (total ∷ windows ∷ w ∷ words) =
-    bytes_eq total (codes "total") && are_count_words (codes "windows") n.windows windows w && are_run_words n words
+    bytes_eq total (codes "total") && are_count_words (codes "windows") n.windows windows w
+    && are_run_words n words
 are_total_words n words = false
 
 -- the lines are the total line, and nothing after it

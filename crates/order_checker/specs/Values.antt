@@ -28,15 +28,18 @@ value_written (Range low high) states word = number_of word
 -- the value of the device that the word is
 abbrev pub value_of : DeviceText → List ℕ → Option ℕ
 value_of device word =
-    option_and_then (λ v. if has_value device.kind v then Some v else None) (value_written device.kind device.states.items word)
+    option_and_then (λ v. if has_value device.kind v then Some v else None)
+    (value_written device.kind device.states.items word)
 
 -- the same of the device with this number
 abbrev pub value_at : List DeviceText → ℕ → List ℕ → Option ℕ
 value_at devices d word = option_and_then (λ device. value_of device word) (slice_get devices d)
 
--- the answer to a command that the word is: `-` to any, `/` to one with a guard, `.` to a write, a value of its device to a read
+-- the answer to a command that the word is: `-` to any, `/` to one with a guard, `.` to a write, a
+-- value of its device to a read
 abbrev pub answer_of : List DeviceText → Command → List ℕ → Option Answer
 answer_of devices c word =
     if bytes_eq word (codes "-") then Some Down
     else (if not (is_always c.when) && bytes_eq word (codes "/") then Some Skipped
-    else (if writes c.job then (if bytes_eq word (codes ".") then Some Fine else None) else option_map Found (value_at devices c.device.0 word)))
+    else (if writes c.job then (if bytes_eq word (codes ".") then Some Fine else None)
+    else option_map Found (value_at devices c.device.0 word)))

@@ -18,7 +18,8 @@ use Rattle.routine_reader.specs.declared.scripts.WindowText.{WindowText}
 use Rattle.std.specs.List.{count_by}
 use Rattle.std.specs.Prelude.{List, Ok, Option, Result, [], drop, is_some, length, map, option_map, slice_get, unwrap_or, ℕ, ◌+◌, ◌++◌, ◌∷◌}
 
--- what was read so far: how many windows, where the devices stand, the lines that are left, and how many runs, and committed ones
+-- what was read so far: how many windows, where the devices stand, the lines that are left, and how
+-- many runs, and committed ones
 pub record DayProgress : Type 0 where
   pub windows : ℕ
   pub home : List Stand
@@ -28,7 +29,8 @@ pub record DayProgress : Type 0 where
 
 -- the name of a routine
 abbrev pub named_routine : Script → ℕ → List ℕ
-named_routine script i = unwrap_or (option_map (λ routine. routine.name) (slice_get script.routines.items i)) []
+named_routine script i =
+    unwrap_or (option_map (λ routine. routine.name) (slice_get script.routines.items i)) []
 
 -- how the runs so far ended, and the lines that are left
 pub record RunsTold : Type 0 where
@@ -36,9 +38,11 @@ pub record RunsTold : Type 0 where
   pub lines : List (Option (List ℕ))
 
 -- how the run with this number ended, of a window with so many, by the next of these lines
-abbrev pub run_text_told : Script → ℕ → ℕ → RunText → List (Option (List ℕ)) → Result (Option (List Answer)) Place
+abbrev pub run_text_told : Script → ℕ → ℕ → RunText → List (Option (List ℕ))
+    → Result (Option (List Answer)) Place
 run_text_told script runs r run lines =
-    run_told script.devices.items runs r (named_routine script run.routine) (routine_commands script run.routine) (line_at lines 0)
+    run_told script.devices.items runs r (named_routine script run.routine)
+    (routine_commands script run.routine) (line_at lines 0)
 
 -- how the next run ended, by the next line
 abbrev pub next_run_told : Script → ℕ → RunsTold → RunText → Result RunsTold Place
@@ -47,23 +51,34 @@ next_run_told script runs earlier run = do
   Ok (record { ends = earlier.ends ++ told ∷ []; lines = drop 1 earlier.lines })
 
 -- the lines behind the first line of the window with this number, from 1, at this time
-abbrev pub window_line_told : ℕ → When → List (Option (List ℕ)) → Result (List (Option (List ℕ))) Place
+abbrev pub window_line_told : ℕ → When → List (Option (List ℕ))
+    → Result (List (Option (List ℕ))) Place
 window_line_told k at lines = do
   first ← required (is_window_line k at (line_at lines 0)) Window
   Ok (drop 1 lines)
 
 -- where the devices stand behind the order, by the next line
-unfoldable pub order_end_told : Script → List Stand → WindowText → RunsTold → Result (List Stand) Place
+unfoldable pub order_end_told : Script → List Stand → WindowText → RunsTold
+    → Result (List Stand) Place
 order_end_told script home window told =
     let runs = map (run_of_text script) window.runs.items in do
-      items ← order_told (record { devices = script.devices.items; home = home; runs = runs; ends = told.ends }) (line_at told.lines 0)
+      items ← order_told
+          (record { devices = script.devices.items; home = home; runs = runs; ends = told.ends })
+          (line_at told.lines 0)
       home_behind runs (kinds_of script) told.ends home items
 
 -- the lines of a window, from what was read before it
 unfoldable pub window_told : Script → DayProgress → WindowText → Result DayProgress Place
 window_told script before window = do
   lines ← window_line_told (before.windows + 1) window.at before.lines
-  told ← walk (next_run_told script (length window.runs.items)) (record { ends = []; lines = lines }) window.runs.items
+  told ← walk (next_run_told script (length window.runs.items))
+      (record { ends = []; lines = lines }) window.runs.items
   home ← order_end_told script before.home window told
   agrees ← home_agrees script.devices.items home (line_at (drop 1 told.lines) 0)
-  Ok (record { windows = before.windows + 1; home = home; lines = drop 1 (drop 1 told.lines); runs = before.runs + length window.runs.items; committed = before.committed + count_by is_some told.ends })
+  Ok (record {
+    windows = before.windows + 1;
+    home = home;
+    lines = drop 1 (drop 1 told.lines);
+    runs = before.runs + length window.runs.items;
+    committed = before.committed + count_by is_some told.ends;
+  })

@@ -27,16 +27,21 @@ pub record Parts : Type 0 where
 
 -- what stands before the first such byte, and behind it; none where there is no such byte
 abbrev pub cut_at : ℕ → List ℕ → Option Parts
-cut_at byte text = option_map (λ i. record { front = take i text; back = drop (i + 1) text }) (position (λ b. b == byte) text)
+cut_at byte text =
+    option_map (λ i. record { front = take i text; back = drop (i + 1) text })
+    (position (λ b. b == byte) text)
 
 -- decimal digits, at least one, and none that could be left out in front
 abbrev pub is_numeral : List ℕ → Bool
-is_numeral word = list_all is_ascii_digit word && nat_lt 0 (length word) && (length word == 1 || not (slice_index word 0 == 48))
+is_numeral word =
+    list_all is_ascii_digit word && nat_lt 0 (length word)
+    && (length word == 1 || not (slice_index word 0 == 48))
 
 -- the number that the word writes, at most 2^64 - 1
 unfoldable pub number_of : List ℕ → Option ℕ
 number_of word =
-    if is_numeral word && nat_lt (digits_value 10 word) (2 ^ 64) then Some (digits_value 10 word) else None
+    if is_numeral word && nat_lt (digits_value 10 word) (2 ^ 64) then Some (digits_value 10 word)
+    else None
 
 -- the word writes this number
 abbrev pub is_number : ℕ → List ℕ → Bool

@@ -36,7 +36,8 @@ fn is_same(answer: Answer, printed: Answer) -> bool
 
 /// Whether the answer is the printed one to the command with this number.
 fn is_printed(answer: Answer, told: &[Answer], command: usize) -> bool
-    ensures { result ≡ option_map_or (λ printed. is_same answer printed) (slice_get told.now command) false }
+    ensures { result
+        ≡ option_map_or (λ printed. is_same answer printed) (slice_get told.now command) false }
 {
     match told.get(command) {
         Some(printed) => is_same(answer, *printed),
@@ -46,7 +47,8 @@ fn is_printed(answer: Answer, told: &[Answer], command: usize) -> bool
 
 /// Whether the command answered as it is printed, and did not fail.
 fn is_right(command: Command, answer: Answer, told: &[Answer], number: usize) -> bool
-    ensures { result ≡ (option_map_or (λ printed. is_same answer printed) (slice_get told.now number) false && not (fails command answer)) }
+    ensures { result ≡ (option_map_or (λ printed. is_same answer printed)
+        (slice_get told.now number) false && not (fails command answer)) }
 {
     is_printed(answer, told, number) && !fails(command, answer)
 }
@@ -61,7 +63,9 @@ fn effect_in(
 ) -> Outcome
     requires home { length home.now.items ≡ length devices.now }
     requires device { command.device.0 < length home.now.items }
-    ensures { effect_of result ≡ command_effect (kind_at (map (λ d. d.kind) devices.now) command.device.0) command.when command.job register (stand_at home.now.items command.device.0) }
+    ensures { effect_of result
+        ≡ command_effect (kind_at (map (λ d. d.kind) devices.now) command.device.0) command.when
+        command.job register (stand_at home.now.items command.device.0) }
 {
     let device = command.device.0 as usize;
     let stand = home.as_slice()[device];
@@ -74,8 +78,8 @@ fn effect_in(
     )
 }
 
-/// Executes the commands in the home, up to the first, counted from 0, whose answer is not the printed one, or that is a
-/// must and fails.
+/// Executes the commands in the home, up to the first, counted from 0, whose answer is not the
+/// printed one, or that is a must and fails.
 fn first_wrong(
     home: &mut List<Stand>,
     devices: &[DeviceText],
@@ -85,9 +89,14 @@ fn first_wrong(
     requires home { length home.old.items ≡ length devices.now }
     requires devices { HasDevices home.old.items commands.now }
     requires few { length commands.now ≤ most_commands }
-    ensures some { IfSome result (λ k. first_wrong commands.now (routine_execution (map (λ d. d.kind) devices.now) commands.now home.old.items).answers told.now ≡ Some k) }
-    ensures none { IfNone result (first_wrong commands.now (routine_execution (map (λ d. d.kind) devices.now) commands.now home.old.items).answers told.now ≡ None) }
-    ensures home { IfNone result (home.new.items ≡ (routine_execution (map (λ d. d.kind) devices.now) commands.now home.old.items).home) }
+    ensures some { IfSome result (λ k. first_wrong commands.now
+        (routine_execution (map (λ d. d.kind) devices.now) commands.now home.old.items).answers
+        told.now ≡ Some k) }
+    ensures none { IfNone result (first_wrong commands.now
+        (routine_execution (map (λ d. d.kind) devices.now) commands.now home.old.items).answers
+        told.now ≡ None) }
+    ensures home { IfNone result (home.new.items
+        ≡ (routine_execution (map (λ d. d.kind) devices.now) commands.now home.old.items).home) }
     ensures same { length home.new.items ≡ length home.old.items }
 {
     let mut register = 0;
@@ -117,9 +126,15 @@ fn run_in(reader: &OrderReader<'_>, home: &mut List<Stand>, run: RunNo) -> Optio
     requires run { IsTrue (is_run (runs_of reader.now.roster.now) run.0) }
     requires home { length home.old.items ≡ length reader.now.devices.now }
     requires reader { IsReader reader.now }
-    ensures some { IfSome result (λ place. wrong_in (runs_of reader.now.roster.now) (map (λ d. d.kind) reader.now.devices.now) (plain_ends reader.now.ends.now) home.old.items run ≡ Some place) }
-    ensures none { IfNone result (wrong_in (runs_of reader.now.roster.now) (map (λ d. d.kind) reader.now.devices.now) (plain_ends reader.now.ends.now) home.old.items run ≡ None) }
-    ensures home { IfNone result (home.new.items ≡ (routine_execution (map (λ d. d.kind) reader.now.devices.now) (commands_of (runs_of reader.now.roster.now) run.0) home.old.items).home) }
+    ensures some { IfSome result (λ place. wrong_in (runs_of reader.now.roster.now)
+        (map (λ d. d.kind) reader.now.devices.now)
+        (plain_ends reader.now.ends.now) home.old.items run ≡ Some place) }
+    ensures none { IfNone result
+        (wrong_in (runs_of reader.now.roster.now) (map (λ d. d.kind) reader.now.devices.now)
+        (plain_ends reader.now.ends.now) home.old.items run ≡ None) }
+    ensures home { IfNone result
+        (home.new.items ≡ (routine_execution (map (λ d. d.kind) reader.now.devices.now)
+        (commands_of (runs_of reader.now.roster.now) run.0) home.old.items).home) }
     ensures same { length home.new.items ≡ length home.old.items }
 {
     let commands = reader.roster.commands(run);
@@ -135,9 +150,14 @@ fn item_in(reader: &OrderReader<'_>, home: &mut List<Stand>, item: Item) -> Opti
     requires home { length home.old.items ≡ length reader.now.devices.now }
     requires reader { IsReader reader.now }
     requires item { IsItemOf home.old.items reader.now.roster.now item }
-    ensures some { IfSome result (λ place. item_wrong (runs_of reader.now.roster.now) (map (λ d. d.kind) reader.now.devices.now) (plain_ends reader.now.ends.now) home.old.items item ≡ Some place) }
-    ensures none { IfNone result (item_wrong (runs_of reader.now.roster.now) (map (λ d. d.kind) reader.now.devices.now) (plain_ends reader.now.ends.now) home.old.items item ≡ None) }
-    ensures home { IfNone result (home.new.items ≡ home_after (runs_of reader.now.roster.now) (map (λ d. d.kind) reader.now.devices.now) home.old.items item) }
+    ensures some { IfSome result (λ place. item_wrong (runs_of reader.now.roster.now)
+        (map (λ d. d.kind) reader.now.devices.now)
+        (plain_ends reader.now.ends.now) home.old.items item ≡ Some place) }
+    ensures none { IfNone result
+        (item_wrong (runs_of reader.now.roster.now) (map (λ d. d.kind) reader.now.devices.now)
+        (plain_ends reader.now.ends.now) home.old.items item ≡ None) }
+    ensures home { IfNone result (home.new.items ≡ home_after (runs_of reader.now.roster.now)
+        (map (λ d. d.kind) reader.now.devices.now) home.old.items item) }
     ensures same { length home.new.items ≡ length home.old.items }
 {
     match item {
@@ -157,7 +177,9 @@ pub fn home_behind(
 ) -> Result<List<Stand>, Halt>
     requires reader { IsReader reader.now }
     requires items { All (IsItemOf reader.now.home.now.items reader.now.roster.now) items.now }
-    ensures behind { IsTold (λ behind. behind.items) result (home_behind (runs_of reader.now.roster.now) (map (λ d. d.kind) reader.now.devices.now) (plain_ends reader.now.ends.now) reader.now.home.now.items items.now) }
+    ensures behind { IsTold (λ behind. behind.items) result
+        (home_behind (runs_of reader.now.roster.now) (map (λ d. d.kind) reader.now.devices.now)
+        (plain_ends reader.now.ends.now) reader.now.home.now.items items.now) }
     ensures same { IfOk result (λ behind. length behind.items ≡ length reader.now.devices.now) }
 {
     let mut home = List::of(alloc, reader.home.as_slice())?;

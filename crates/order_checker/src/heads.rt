@@ -25,9 +25,11 @@ fn is_mode_line(line: &[u8]) -> bool
 
 /// What stands behind the two lines above the windows. `None` where they are not as they should be.
 pub fn after_head(text: &[u8]) -> Option<&[u8]>
-    ensures head { IfSome result (λ rest. is_head (line_at (lines_of text.now) 0) (line_at (lines_of text.now) 1) ≡ true) }
+    ensures head { IfSome result
+        (λ rest. is_head (line_at (lines_of text.now) 0) (line_at (lines_of text.now) 1) ≡ true) }
     ensures rest { IfSome result (λ rest. lines_of rest.now ≡ drop 2 (lines_of text.now)) }
-    ensures none { IfNone result (is_head (line_at (lines_of text.now) 0) (line_at (lines_of text.now) 1) ≡ false) }
+    ensures none { IfNone result
+        (is_head (line_at (lines_of text.now) 0) (line_at (lines_of text.now) 1) ≡ false) }
 {
     let (first, rest) = next_line(text)?;
     let (second, rest) = next_line(rest)?;

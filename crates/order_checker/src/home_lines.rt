@@ -30,7 +30,8 @@ fn stand_written(device: &DeviceText, text: &[u8]) -> Option<Stand>
     }
 }
 
-/// Where the device stands, by a word `NAME=VALUE` or `NAME=VALUE!` with its name and one of its values.
+/// Where the device stands, by a word `NAME=VALUE` or `NAME=VALUE!` with its name and one of its
+/// values.
 #[tactic(auto, unfolding(crate::specs::HomeLines::stand_by_word))]
 fn stand_of(device: &DeviceText, word: &[u8]) -> Option<Stand>
     ensures { result ≡ stand_by_word device.now word.now }
@@ -49,7 +50,8 @@ fn read_each_stand(
     words: &[&[u8]],
 ) -> Result<List<Stand>, Halt>
     requires { length words.now ≡ length devices.now }
-    ensures { IsTold (λ stands. stands.items) result (walk (next_stand (texts words.now)) [] devices.now) }
+    ensures { IsTold (λ stands. stands.items) result
+        (walk (next_stand (texts words.now)) [] devices.now) }
 {
     let mut stands = List::new(alloc);
     stands.reserve(devices.len() as u64)?;
@@ -82,7 +84,8 @@ fn read_stands(alloc: Global, devices: &[DeviceText], words: &[&[u8]]) -> Result
 
 /// Reads where each device stands, by the home line.
 fn read_home_line(alloc: Global, devices: &[DeviceText], line: &[u8]) -> Result<List<Stand>, Halt>
-    ensures { IsTold (λ stands. stands.items) result (home_words_told devices.now (words_of line.now)) }
+    ensures { IsTold (λ stands. stands.items) result
+        (home_words_told devices.now (words_of line.now)) }
 {
     let words = words_of(alloc, line)?;
     match words.as_slice() {
@@ -129,7 +132,8 @@ pub fn check_home(
     line: &[u8],
 ) -> Result<(), Halt>
     requires { length home.now ≤ most_devices }
-    ensures { IsTold (λ _. length home.now) result (home_agrees devices.now home.now (Some line.now)) }
+    ensures { IsTold (λ _. length home.now) result
+        (home_agrees devices.now home.now (Some line.now)) }
 {
     let told = read_home_line(alloc, devices, line)?;
     all_stand_so(told.as_slice(), home)

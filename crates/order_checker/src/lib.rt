@@ -1,4 +1,5 @@
-// Whether a record is the serial execution of the order that it prints, judged by the script and the record alone.
+// Whether a record is the serial execution of the order that it prints, judged by the script and
+// the record alone.
 #![tactic(auto)]
 
 mod answers;

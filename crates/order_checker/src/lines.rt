@@ -20,7 +20,8 @@ fn line_end(text: &[u8]) -> Option<usize>
     memchr(b'\n', text)
 }
 
-/// The text up to its first line feed, and what stands behind that. `None` where there is no line feed.
+/// The text up to its first line feed, and what stands behind that. `None` where there is no line
+/// feed.
 fn cut_line(text: &[u8]) -> Option<(&[u8], &[u8])>
     ensures pieces { IfSome result (λ p. pieces_of text.now ≡ p.0.now ∷ pieces_of p.1.now) }
     ensures shorter { IfSome result (λ p. length p.1.now < length text.now) }

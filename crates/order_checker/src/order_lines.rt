@@ -98,8 +98,8 @@ pub fn turn(home: &mut List<Stand>, item: Item)
     home.set(device.0 as u64, Stand { value, up });
 }
 
-/// What the words of an order are judged by: the devices and where they stand before the window, its runs, and how these
-/// ended.
+/// What the words of an order are judged by: the devices and where they stand before the window,
+/// its runs, and how these ended.
 #[derive(Clone, Copy)]
 pub struct OrderReader<'a> {
     pub devices: &'a [DeviceText],
@@ -112,7 +112,8 @@ impl<'a> OrderReader<'a> {
     /// Whether the run that this one follows stands earlier, if it is committed.
     fn may_follow(&self, earlier: &[Item], run: RunNo) -> bool
         requires { IsTrue (is_run (runs_of self.now.roster.now) run.0) }
-        ensures { result ≡ may_stand_here (runs_of self.now.roster.now) (plain_ends self.now.ends.now) earlier.now run.0 }
+        ensures { result ≡ may_stand_here (runs_of self.now.roster.now)
+            (plain_ends self.now.ends.now) earlier.now run.0 }
     {
         match self.roster.followed_by(run) {
             Some(followed) => {
@@ -125,7 +126,8 @@ impl<'a> OrderReader<'a> {
     /// The run whose number the word is, where it may stand behind these items.
     fn run_item(&self, earlier: &[Item], word: &[u8]) -> Option<Item>
         requires { IsReader self.now }
-        ensures item { result ≡ run_item (runs_of self.now.roster.now) (plain_ends self.now.ends.now) earlier.now word.now }
+        ensures item { result ≡ run_item (runs_of self.now.roster.now)
+            (plain_ends self.now.ends.now) earlier.now word.now }
         ensures of_roster { IfSome result (IsItemOf self.now.home.now.items self.now.roster.now) }
     {
         let number = number_of(word)?;
@@ -138,11 +140,13 @@ impl<'a> OrderReader<'a> {
         }
     }
 
-    /// The item that the word is, where it may stand behind these; `home` has the failures and restarts among them.
+    /// The item that the word is, where it may stand behind these; `home` has the failures and
+    /// restarts among them.
     #[tactic(auto, unfolding(crate::specs::OrderLines::item_of))]
     fn item_of(&self, home: &List<Stand>, earlier: &List<Item>, word: &[u8]) -> Option<Item>
         requires reader { IsReader self.now }
-        requires home { home.now.items ≡ fold home_with_event self.now.home.now.items earlier.now.items }
+        requires home { home.now.items
+            ≡ fold home_with_event self.now.home.now.items earlier.now.items }
         requires same { length home.now.items ≡ length self.now.home.now.items }
         ensures item { result ≡ item_of (setting_for_order self.now) earlier.now.items word.now }
         ensures of_roster { IfSome result (IsItemOf self.now.home.now.items self.now.roster.now) }
@@ -166,8 +170,10 @@ impl<'a> OrderReader<'a> {
     /// Reads the items that the words are, one by one.
     fn read_each_item(&self, alloc: Global, words: &[&[u8]]) -> Result<List<Item>, Halt>
         requires { IsReader self.now }
-        ensures items { IsTold (λ items. items.items) result (walk (next_item (setting_for_order self.now)) [] (texts words.now)) }
-        ensures of_roster { IfOk result (λ items. All (IsItemOf self.now.home.now.items self.now.roster.now) items.items) }
+        ensures items { IsTold (λ items. items.items) result
+            (walk (next_item (setting_for_order self.now)) [] (texts words.now)) }
+        ensures of_roster { IfOk result
+            (λ items. All (IsItemOf self.now.home.now.items self.now.roster.now) items.items) }
     {
         let mut items = List::new(alloc);
         items.reserve(words.len() as u64)?;
@@ -185,8 +191,10 @@ impl<'a> OrderReader<'a> {
     /// Reads the items that the words are.
     fn read_items(&self, alloc: Global, words: &[&[u8]]) -> Result<List<Item>, Halt>
         requires { IsReader self.now }
-        ensures items { IsTold (λ items. items.items) result (items_told (setting_for_order self.now) (texts words.now)) }
-        ensures of_roster { IfOk result (λ items. All (IsItemOf self.now.home.now.items self.now.roster.now) items.items) }
+        ensures items { IsTold (λ items. items.items) result
+            (items_told (setting_for_order self.now) (texts words.now)) }
+        ensures of_roster { IfOk result
+            (λ items. All (IsItemOf self.now.home.now.items self.now.roster.now) items.items) }
     {
         if is_none_word(words) {
             return Ok(List::new(alloc));
@@ -197,7 +205,8 @@ impl<'a> OrderReader<'a> {
     /// Asks that each committed run stands among the items.
     fn all_stand(&self, items: &[Item]) -> Result<(), Halt>
         requires { IsReader self.now }
-        ensures { IsTold (λ _. length self.now.ends.now) result (walk (next_stands items.now) 0 (plain_ends self.now.ends.now)) }
+        ensures { IsTold (λ _. length self.now.ends.now) result
+            (walk (next_stands items.now) 0 (plain_ends self.now.ends.now)) }
     {
         'ends: for (i, end) in self.ends.iter().enumerate() {
             if !stands_if_committed(end, items, RunNo(i as u32 + 1)) {
@@ -211,8 +220,10 @@ impl<'a> OrderReader<'a> {
     #[tactic(auto, unfolding(crate::specs::OrderLines::order_words_told))]
     fn read_words(&self, alloc: Global, words: &[&[u8]]) -> Result<List<Item>, Halt>
         requires { IsReader self.now }
-        ensures items { IsTold (λ items. items.items) result (order_words_told (setting_for_order self.now) (texts words.now)) }
-        ensures of_roster { IfOk result (λ items. All (IsItemOf self.now.home.now.items self.now.roster.now) items.items) }
+        ensures items { IsTold (λ items. items.items) result
+            (order_words_told (setting_for_order self.now) (texts words.now)) }
+        ensures of_roster { IfOk result
+            (λ items. All (IsItemOf self.now.home.now.items self.now.roster.now) items.items) }
     {
         let items = self.read_items(alloc, words)?;
         self.all_stand(items.as_slice())?;
@@ -222,8 +233,10 @@ impl<'a> OrderReader<'a> {
     /// Reads the order line.
     pub fn read(&self, alloc: Global, line: &[u8]) -> Result<List<Item>, Halt>
         requires { IsReader self.now }
-        ensures items { IsTold (λ items. items.items) result (order_line_told (setting_for_order self.now) (words_of line.now)) }
-        ensures of_roster { IfOk result (λ items. All (IsItemOf self.now.home.now.items self.now.roster.now) items.items) }
+        ensures items { IsTold (λ items. items.items) result
+            (order_line_told (setting_for_order self.now) (words_of line.now)) }
+        ensures of_roster { IfOk result
+            (λ items. All (IsItemOf self.now.home.now.items self.now.roster.now) items.items) }
     {
         let words = words_of(alloc, line)?;
         match words.as_slice() {

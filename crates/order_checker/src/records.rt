@@ -44,8 +44,10 @@ fn read_windows<'a>(
     requires home { length first.home.items ≡ length script.now.devices.items }
     requires runs { first.runs ≡ 0 }
     requires committed { first.committed ≡ 0 }
-    ensures told { AreWindowsTold result (walk (next_window_told script.now) (progress_told first.entry) windows.now) }
-    ensures counts { IfOk result (λ last. (last.windows ≤ most_windows) × (last.committed ≤ last.runs)) }
+    ensures told { AreWindowsTold result
+        (walk (next_window_told script.now) (progress_told first.entry) windows.now) }
+    ensures counts { IfOk result
+        (λ last. (last.windows ≤ most_windows) × (last.committed ≤ last.runs)) }
 {
     let mut so_far = first;
     'windows: for window in windows {
@@ -58,10 +60,11 @@ fn read_windows<'a>(
     Ok(so_far)
 }
 
-/// Whether the record is the serial execution of the order that it prints, judged by the script alone.
+/// Whether the record is the serial execution of the order that it prints, judged by the script
+/// alone.
 ///
-/// The record is read once, from front to end, and the first thing that is not as it should be is the place. Memory is
-/// taken for what one window says.
+/// The record is read once, from front to end, and the first thing that is not as it should be is
+/// the place. Memory is taken for what one window says.
 ///
 /// Asks for a script that the format allows, as `read_script` gives it.
 #[tactic(auto, unfolding(crate::specs::Records::verdict_of, crate::specs::Records::record_told))]

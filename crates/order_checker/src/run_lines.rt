@@ -81,7 +81,8 @@ fn are_lender_words(runs: usize, by: &[u8], lender: &[u8]) -> bool
 
 /// Whether the words are a deadline and a moment.
 fn are_times(deadline: &[u8], end: &[u8], at: &[u8], moment: &[u8]) -> bool
-    ensures { result ≡ are_number_words (codes "deadline") deadline.now end.now && are_number_words (codes "at") at.now moment.now }
+    ensures { result ≡ are_number_words (codes "deadline") deadline.now end.now
+        && are_number_words (codes "at") at.now moment.now }
 {
     are_number_words("deadline", deadline, end) && are_number_words("at", at, moment)
 }
@@ -160,7 +161,8 @@ fn read_each_answer(
     place: Place,
 ) -> Result<List<Answer>, Halt>
     requires { length words.now ≡ length commands.now }
-    ensures { IsTold (λ answers. answers.items) result (walk (next_answer devices.now (texts words.now) place) [] commands.now) }
+    ensures { IsTold (λ answers. answers.items) result
+        (walk (next_answer devices.now (texts words.now) place) [] commands.now) }
 {
     let mut answers = List::new(alloc);
     answers.reserve(commands.len() as u64)?;
@@ -182,7 +184,8 @@ fn read_answers(
     words: &[&[u8]],
     place: Place,
 ) -> Result<List<Answer>, Halt>
-    ensures { IsTold (λ answers. answers.items) result (answers_told devices.now commands.now (texts words.now) place) }
+    ensures { IsTold (λ answers. answers.items) result
+        (answers_told devices.now commands.now (texts words.now) place) }
 {
     if words.len() != commands.len() {
         return Err(Halt::At(place));
@@ -198,7 +201,8 @@ fn read_end(
     how: &[u8],
     words: &[&[u8]],
 ) -> Result<RunEnd, Halt>
-    ensures { IsTold plain_end result (end_told reader.now.devices.now reader.now.runs reader.now.commands.now how.now (texts words.now) (Place.Run reader.now.run)) }
+    ensures { IsTold plain_end result (end_told reader.now.devices.now reader.now.runs
+        reader.now.commands.now how.now (texts words.now) (Place.Run reader.now.run)) }
 {
     let place = Place::Run(reader.run);
     if reads(how, "committed") {
@@ -215,7 +219,8 @@ fn read_end(
 /// Reads the line of a run: its number, the name of its routine, and how it ended.
 #[tactic(auto, unfolding(crate::specs::RunLines::run_words_told))]
 pub fn read_run_line(alloc: Global, reader: &RunReader<'_>, line: &[u8]) -> Result<RunEnd, Halt>
-    ensures { IsTold plain_end result (run_words_told reader.now.devices.now reader.now.runs reader.now.run.0 reader.now.name.now reader.now.commands.now (words_of line.now)) }
+    ensures { IsTold plain_end result (run_words_told reader.now.devices.now reader.now.runs
+        reader.now.run.0 reader.now.name.now reader.now.commands.now (words_of line.now)) }
 {
     let words = words_of(alloc, line)?;
     match words.as_slice() {

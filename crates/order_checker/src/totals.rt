@@ -27,7 +27,9 @@ fn are_count_words(text: &str, n: u64, word: &[u8], number: &[u8]) -> bool
 /// Whether the words say how many runs are committed, and how many were aborted.
 fn are_end_words(totals: Totals, committed: &[u8], c: &[u8], aborted: &[u8], a: &[u8]) -> bool
     requires { totals.committed ≤ totals.runs }
-    ensures { result ≡ are_end_words (record { windows = totals.windows; runs = totals.runs; committed = totals.committed }) committed.now c.now aborted.now a.now }
+    ensures { result ≡ are_end_words
+        (record { windows = totals.windows; runs = totals.runs; committed = totals.committed })
+        committed.now c.now aborted.now a.now }
 {
     are_count_words("committed", totals.committed, committed, c)
         && are_count_words("aborted", totals.runs - totals.committed, aborted, a)
@@ -36,7 +38,9 @@ fn are_end_words(totals: Totals, committed: &[u8], c: &[u8], aborted: &[u8], a: 
 /// Whether these are the words behind the number of windows.
 fn are_run_words(totals: Totals, words: &[&[u8]]) -> bool
     requires { totals.committed ≤ totals.runs }
-    ensures { result ≡ are_run_words (record { windows = totals.windows; runs = totals.runs; committed = totals.committed }) (texts words.now) }
+    ensures { result ≡ are_run_words
+        (record { windows = totals.windows; runs = totals.runs; committed = totals.committed })
+        (texts words.now) }
 {
     match words {
         [runs, r, committed, c, aborted, a] => {
@@ -50,7 +54,9 @@ fn are_run_words(totals: Totals, words: &[&[u8]]) -> bool
 /// Whether these are the words of the total line.
 fn are_total_words(totals: Totals, words: &[&[u8]]) -> bool
     requires { totals.committed ≤ totals.runs }
-    ensures { result ≡ are_total_words (record { windows = totals.windows; runs = totals.runs; committed = totals.committed }) (texts words.now) }
+    ensures { result ≡ are_total_words
+        (record { windows = totals.windows; runs = totals.runs; committed = totals.committed })
+        (texts words.now) }
 {
     match words {
         [total, windows, w, words @ ..] => {
@@ -65,7 +71,11 @@ fn are_total_words(totals: Totals, words: &[&[u8]]) -> bool
 /// Whether what is left is the total line, and nothing after it.
 pub fn is_total(alloc: Global, totals: Totals, text: &[u8]) -> Result<bool, NoMemory>
     requires { totals.committed ≤ totals.runs }
-    ensures { IfOk result (λ is_it. is_it ≡ is_total (record { windows = totals.windows; runs = totals.runs; committed = totals.committed }) (lines_of text.now)) }
+    ensures { IfOk result (λ is_it. is_it ≡ is_total (record {
+      windows = totals.windows;
+      runs = totals.runs;
+      committed = totals.committed;
+    }) (lines_of text.now)) }
 {
     let Some((line, behind)) = next_line(text) else {
         return Ok(false);

@@ -80,8 +80,8 @@ pub fn value_at(devices: &[DeviceText], device: DeviceNo, word: &[u8]) -> Option
     value_of(device, word)
 }
 
-/// The answer to the command that the word is: `-` to any, `/` to one with a guard, `.` to a write, a value of its device to
-/// a read.
+/// The answer to the command that the word is: `-` to any, `/` to one with a guard, `.` to a write,
+/// a value of its device to a read.
 pub fn answer_of(devices: &[DeviceText], command: Command, word: &[u8]) -> Option<Answer>
     ensures { result ≡ answer_of devices.now command word.now }
 {

@@ -10,10 +10,11 @@ pub enum Place {
     Window,
     /// The line of the run.
     Run(RunNo),
-    /// The item of the order line, counted from 1; those from 2^32 - 1 on share that number. 0 for the line itself, and
-    /// where a committed run is missing.
+    /// The item of the order line, counted from 1; those from 2^32 - 1 on share that number. 0 for
+    /// the line itself, and where a committed run is missing.
     Order(u32),
-    /// The printed answer to a command of the run, counted from 0, or a must command of it that fails.
+    /// The printed answer to a command of the run, counted from 0, or a must command of it that
+    /// fails.
     Answer(RunNo, u32),
     /// The home line.
     Home,

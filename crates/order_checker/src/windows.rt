@@ -61,7 +61,8 @@ fn read_run<'a>(
     text: &'a [u8],
 ) -> Result<RunLine<'a>, Halt>
     requires { run.now.routine < length script.now.routines.items }
-    ensures told { IsTold (λ told. plain_end told.end) result (run_text_told script.now runs number.0 run.now (lines_of text.now)) }
+    ensures told { IsTold (λ told. plain_end told.end) result
+        (run_text_told script.now runs number.0 run.now (lines_of text.now)) }
     ensures rest { IfOk result (λ told. lines_of told.rest.now ≡ drop 1 (lines_of text.now)) }
 {
     let Some((line, rest)) = next_line(text) else {
@@ -88,7 +89,8 @@ fn read_runs<'a>(
 ) -> Result<RunLines<'a>, Halt>
     requires few { length runs.now ≤ most_runs }
     requires routines { All (λ run. run.routine < length script.now.routines.items) runs.now }
-    ensures told { IsTold runs_told result (walk (next_run_told script.now (length runs.now)) (record { ends = []; lines = lines_of text.now }) runs.now) }
+    ensures told { IsTold runs_told result (walk (next_run_told script.now (length runs.now))
+        (record { ends = []; lines = lines_of text.now }) runs.now) }
     ensures count { IfOk result (λ told. length told.ends.items ≡ length runs.now) }
 {
     let mut ends = List::new(alloc);
@@ -109,7 +111,8 @@ fn after_window_line<'a>(
     window: &WindowText,
     text: &'a [u8],
 ) -> Result<&'a [u8], Halt>
-    ensures { IsTold (λ rest. lines_of rest.now) result (window_line_told number window.now.at (lines_of text.now)) }
+    ensures { IsTold (λ rest. lines_of rest.now) result
+        (window_line_told number window.now.at (lines_of text.now)) }
 {
     let Some((line, behind)) = next_line(text) else {
         return Err(Halt::At(Place::Window));
@@ -143,8 +146,10 @@ fn read_order<'a>(
     text: &'a [u8],
 ) -> Result<OrderLine<'a>, Halt>
     requires { IsReader reader.now }
-    ensures told { IsTold (λ told. told.items.items) result (order_told (setting_for_order reader.now) (line_at (lines_of text.now) 0)) }
-    ensures of_roster { IfOk result (λ told. All (IsItemOf reader.now.home.now.items reader.now.roster.now) told.items.items) }
+    ensures told { IsTold (λ told. told.items.items) result
+        (order_told (setting_for_order reader.now) (line_at (lines_of text.now) 0)) }
+    ensures of_roster { IfOk result
+        (λ told. All (IsItemOf reader.now.home.now.items reader.now.roster.now) told.items.items) }
     ensures rest { IfOk result (λ told. lines_of told.rest.now ≡ drop 1 (lines_of text.now)) }
 {
     let Some((line, rest)) = next_line(text) else {
@@ -175,9 +180,11 @@ fn read_order_end<'a>(
     requires window { slice_get script.now.windows.items number ≡ Some window.now }
     requires home { length home.now.items ≡ length script.now.devices.items }
     requires count { length told.now.ends.items ≡ length window.now.runs.items }
-    ensures told { IsTold (λ end. end.home.items) result (order_end_told script.now home.now.items window.now (runs_told told.now)) }
+    ensures told { IsTold (λ end. end.home.items) result
+        (order_end_told script.now home.now.items window.now (runs_told told.now)) }
     ensures home { IfOk result (λ end. length end.home.items ≡ length script.now.devices.items) }
-    ensures rest { IfOk result (λ end. lines_of end.rest.now ≡ drop 1 (lines_of told.now.rest.now)) }
+    ensures rest { IfOk result
+        (λ end. lines_of end.rest.now ≡ drop 1 (lines_of told.now.rest.now)) }
 {
     let roster = roster(alloc, script, number)?;
     let reader = OrderReader {
@@ -203,7 +210,8 @@ fn after_home<'a>(
     text: &'a [u8],
 ) -> Result<&'a [u8], Halt>
     requires { length home.now ≤ most_devices }
-    ensures told { IsTold (λ _. length home.now) result (home_agrees devices.now home.now (line_at (lines_of text.now) 0)) }
+    ensures told { IsTold (λ _. length home.now) result
+        (home_agrees devices.now home.now (line_at (lines_of text.now) 0)) }
     ensures rest { IfOk result (λ rest. lines_of rest.now ≡ drop 1 (lines_of text.now)) }
 {
     let Some((line, rest)) = next_line(text) else {
@@ -226,7 +234,8 @@ pub fn read_window<'a>(
     requires home { length before.home.items ≡ length script.now.devices.items }
     requires runs { before.runs ≤ before.windows * most_runs }
     requires committed { before.committed ≤ before.runs }
-    ensures told { IsTold progress_told result (window_told script.now (progress_told before.entry) window.now) }
+    ensures told { IsTold progress_told result
+        (window_told script.now (progress_told before.entry) window.now) }
     ensures home { IfOk result (λ next. length next.home.items ≡ length script.now.devices.items) }
     ensures windows { IfOk result (λ next. next.windows ≡ before.entry.windows + 1) }
     ensures runs { IfOk result (λ next. next.runs ≤ next.windows * most_runs) }

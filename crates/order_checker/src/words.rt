@@ -9,7 +9,8 @@ use home_types::NoMemory;
 use std::alloc::{AllocError, Global};
 use std::str::from_utf8;
 
-/// The words of a line. Room is taken at first for as many as it has where each is of one byte, and more as it is needed.
+/// The words of a line. Room is taken at first for as many as it has where each is of one byte, and
+/// more as it is needed.
 fn split_words<'a>(alloc: Global, line: &'a [u8]) -> Result<Vec<&'a [u8]>, AllocError>
     ensures { IfOk result (λ words. texts words.items ≡ words_of line.now) }
 {
@@ -60,7 +61,8 @@ fn place_of(text: &[u8], byte: u8) -> Option<usize>
 
 /// What stands before the first such byte, and behind it. `None` where there is no such byte.
 pub fn cut_at(text: &[u8], byte: u8) -> Option<(&[u8], &[u8])>
-    ensures parts { IfSome result (λ p. cut_at byte text.now ≡ Some (record { front = p.0.now; back = p.1.now })) }
+    ensures parts { IfSome result
+        (λ p. cut_at byte text.now ≡ Some (record { front = p.0.now; back = p.1.now })) }
     ensures shorter { IfSome result (λ p. length p.1.now < length text.now) }
     ensures none { IfNone result (cut_at byte text.now ≡ None) }
 {

@@ -1,4 +1,5 @@
-//! A day over a journal: a hub is killed in the middle of a window, and one begins again behind the windows that are kept.
+//! A day over a journal: a hub is killed in the middle of a window, and one begins again behind the
+//! windows that are kept.
 ghost use Rattle.std.specs.Prelude.{◌≡◌, ◌<◌, IfOk, IfSome};
 ghost use Rattle.routine_reader.specs.Rosters.{kinds_of};
 ghost use Rattle.routine_reader.specs.Scripts.{plain_script};
@@ -18,8 +19,10 @@ const SCRIPT: &str = r#"{"safehome": 1, "devices": [
   {"name": "lamp", "states": ["off", "on"], "start": "off"},
   {"name": "heat", "low": 10, "high": 30, "start": 18}],
  "routines": [
-  {"name": "come", "commands": [{"on": "lamp", "do": "set", "to": "on"}, {"on": "heat", "do": "set", "to": 21}]},
-  {"name": "leave", "commands": [{"on": "lamp", "do": "set", "to": "off"}, {"on": "heat", "do": "set", "to": 15}]}],
+  {"name": "come",
+    "commands": [{"on": "lamp", "do": "set", "to": "on"}, {"on": "heat", "do": "set", "to": 21}]},
+  {"name": "leave",
+    "commands": [{"on": "lamp", "do": "set", "to": "off"}, {"on": "heat", "do": "set", "to": 15}]}],
  "windows": [
   {"at": "2021-04-26T18:30", "runs": [{"routine": "come"}]},
   {"at": "2021-04-27T07:00", "runs": [{"routine": "leave"}]}]}"#;
@@ -27,12 +30,13 @@ const SCRIPT: &str = r#"{"safehome": 1, "devices": [
 /// As many bytes as the disk has room for.
 const ROOM: u64 = 100;
 
-/// How many turns of a window each hub works before it is killed: the first one closes its window, the second has driven
-/// both devices when its run has not ended, the third is killed at once, the last one closes the window.
+/// How many turns of a window each hub works before it is killed: the first one closes its window,
+/// the second has driven both devices when its run has not ended, the third is killed at once, the
+/// last one closes the window.
 const TURNS: [u64; 4] = [MOST_TURNS, 4, 0, MOST_TURNS];
 
-/// Prints, behind each of four hubs on the same things, how many windows are kept, and where the things stand. None where
-/// that fails.
+/// Prints, behind each of four hubs on the same things, how many windows are kept, and where the
+/// things stand. None where that fails.
 pub fn print_killed_day(rt: &HostRuntime) -> Option<()> {
     match read_script(rt.alloc(), SCRIPT.as_bytes()) {
         Ok(script) => {
@@ -58,8 +62,8 @@ fn play(rt: &HostRuntime, script: &Script) -> Option<()>
     Some(())
 }
 
-/// A hub begins behind what the disk keeps, works the next window for so many turns, and keeps its state if it closes.
-/// Answers the disk, and how many windows are kept.
+/// A hub begins behind what the disk keeps, works the next window for so many turns, and keeps its
+/// state if it closes. Answers the disk, and how many windows are kept.
 fn live(
     alloc: Global,
     script: &Script,
@@ -121,7 +125,8 @@ fn home_of(
     }
 }
 
-/// Works the window for so many turns, and keeps its state if it closes. Else the hub is killed in the middle of it.
+/// Works the window for so many turns, and keeps its state if it closes. Else the hub is killed in
+/// the middle of it.
 fn end(journal: Journal<MemoryDisk>, hub: Hub<RadioDevice>, turns: u64) -> (MemoryDisk, u32)
     requires kinds { journal.kinds ≡ hub.setting.kinds }
     requires next { journal.kept < journal.most }

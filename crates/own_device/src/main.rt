@@ -1,5 +1,5 @@
-// A home of devices of one's own: opens a window on them, steps its hub by hand, and prints what came of it. Then a hub that
-// is killed in the middle of a window, and one that goes on.
+// A home of devices of one's own: opens a window on them, steps its hub by hand, and prints what
+// came of it. Then a hub that is killed in the middle of a window, and one that goes on.
 #![tactic(auto)]
 
 mod kills;
@@ -30,12 +30,15 @@ const SCRIPT: &str = r#"{"safehome": 1, "devices": [
   {"name": "heat", "low": 10, "high": 30, "start": 18},
   {"name": "fan", "states": ["off", "on"], "start": "off"}],
  "routines": [
-  {"name": "warm", "commands": [{"on": "heat", "do": "set", "to": 20}, {"on": "heat", "do": "set", "to": 22},
+  {"name": "warm",
+    "commands": [{"on": "heat", "do": "set", "to": 20}, {"on": "heat", "do": "set", "to": 22},
     {"on": "heat", "do": "set", "to": 24}]},
-  {"name": "cook", "commands": [{"on": "lamp", "do": "set", "to": "on"}, {"on": "fan", "do": "set", "to": "on"},
+  {"name": "cook",
+    "commands": [{"on": "lamp", "do": "set", "to": "on"}, {"on": "fan", "do": "set", "to": "on"},
     {"on": "lamp", "do": "set", "to": "off"}, {"on": "fan", "do": "set", "to": "off"}]},
   {"name": "read", "commands": [{"on": "lamp", "do": "set", "to": "on", "must": false},
-    {"on": "heat", "do": "load", "must": false}, {"on": "lamp", "do": "set", "to": "off", "must": false}]}],
+    {"on": "heat", "do": "load", "must": false},
+    {"on": "lamp", "do": "set", "to": "off", "must": false}]}],
  "windows": [{"at": "2021-04-26T18:30", "probes": 1,
     "runs": [{"routine": "warm"}, {"routine": "cook"}, {"routine": "read"}]}]}"#;
 
@@ -46,8 +49,8 @@ fn main(rt: HostRuntime) -> ExitCode {
     }
 }
 
-/// Works the script's window, and prints its order as far as it is final after some turns, then the window with its
-/// history, and the counts of each device. None where that fails.
+/// Works the script's window, and prints its order as far as it is final after some turns, then the
+/// window with its history, and the counts of each device. None where that fails.
 fn run(rt: &HostRuntime) -> Option<()> {
     match read_script(rt.alloc(), SCRIPT.as_bytes()) {
         Ok(script) => {
@@ -84,7 +87,8 @@ fn play(rt: &HostRuntime, script: &Script) -> Option<()>
     }
 }
 
-/// The items that are final stay first in the line, in this order, whatever comes; so the record's order begins with them.
+/// The items that are final stay first in the line, in this order, whatever comes; so the record's
+/// order begins with them.
 fn print_final(rt: &HostRuntime, script: &Script, hub: &Hub<RadioDevice>) -> Option<()> {
     print!(rt; "final after {FIRST_TURNS} turns:").ok()?;
     for at in 0..hub.sealed() {

@@ -10,7 +10,8 @@ use std::rc::Rc;
 /// How many answers a link carries between two that it loses.
 const CARRIED: u32 = 2;
 
-/// Where the thing on the wall stands that a device moves. It outlives the device, and no hub sees it.
+/// Where the thing on the wall stands that a device moves. It outlives the device, and no hub sees
+/// it.
 pub type Thing = Rc<Cell<Value>>;
 
 /// A device behind a radio link that loses each third answer.
@@ -31,8 +32,12 @@ impl RadioDevice {
     /// Waits for the answer to a call, and counts a fault where the link loses it.
     fn hear(&mut self) -> Result<(), Dead>
         requires room { self.old.faults < 2 ^ 63 }
-        ensures heard { OnOk result (self.new ≡ record self.old { until_loss = self.new.until_loss }) }
-        ensures lost { OnErr result (self.new ≡ record self.old { until_loss = self.new.until_loss; faults = self.old.faults + 1 }) }
+        ensures heard { OnOk result
+            (self.new ≡ record self.old { until_loss = self.new.until_loss }) }
+        ensures lost { OnErr result (self.new ≡ record self.old {
+          until_loss = self.new.until_loss;
+          faults = self.old.faults + 1;
+        }) }
     {
         if self.until_loss == 0 {
             self.until_loss = CARRIED;
@@ -89,8 +94,8 @@ impl Device for RadioDevice {
 
 /// The bench on which radio devices are made. They tell no plan.
 ///
-/// It puts a thing on the wall with its first device, at the device's start. Each later device of the number finds the
-/// thing where it stands.
+/// It puts a thing on the wall with its first device, at the device's start. Each later device of
+/// the number finds the thing where it stands.
 #[derive(Drop)]
 pub struct RadioBench {
     things: Vec<Thing>,

@@ -23,8 +23,8 @@ pub const MOST_TURNS: u64 = 64;
 /// The turn, from 0, in which every device is probed.
 const PROBING_TURN: u64 = 5;
 
-/// Opens the script's window of this number, from 0, on a home that has opened none. None where there is no such window or
-/// no memory.
+/// Opens the script's window of this number, from 0, on a home that has opened none. None where
+/// there is no such window or no memory.
 pub fn open_window(
     alloc: Global,
     script: &Script,
@@ -54,8 +54,8 @@ pub fn open_window(
     }
 }
 
-/// Steps each run, turn after turn, 1 ms each, from this turn until that one, or until nothing is left to do. In one turn
-/// every device is probed.
+/// Steps each run, turn after turn, 1 ms each, from this turn until that one, or until nothing is
+/// left to do. In one turn every device is probed.
 pub fn work<D: Device>(hub: &mut Hub<D>, from: u64, until: u64)
     ensures { hub.new.setting ≡ hub.old.setting }
 {
@@ -75,7 +75,8 @@ pub fn work<D: Device>(hub: &mut Hub<D>, from: u64, until: u64)
     }
 }
 
-/// Makes the step of the run, at this moment in ms. A device that goes out makes its call and comes home at once.
+/// Makes the step of the run, at this moment in ms. A device that goes out makes its call and comes
+/// home at once.
 fn step<D: Device>(hub: &mut Hub<D>, r: RunNo, moment: u64)
     requires { 0 < r.0 }
     ensures { hub.new.setting ≡ hub.old.setting }

@@ -53,4 +53,5 @@ told_end r history (Some (Aborted cause)) = None
 
 -- the same of each run of the window, from 1
 unfoldable pub ends_told : WindowText → List Kept → List (Option (List Answer))
-ends_told window history = map (λ (r, run). told_end r history (end_of history r)) (enumerate_from 1 window.runs.items)
+ends_told window history =
+    map (λ (r, run). told_end r history (end_of history r)) (enumerate_from 1 window.runs.items)

@@ -1,4 +1,6 @@
--- A closed window that its printed lines agree with: each run has ended as its line may tell, the order is one of its runs, and the serial execution of the order answers and leaves what is printed.
+-- A closed window that its printed lines agree with: each run has ended as its line may tell, the
+-- order is one of its runs, and the serial execution of the order answers and leaves what is
+-- printed.
 use Rattle.day_report.specs.Days.{is_abort, is_commit}
 use Rattle.history_book.specs.declared.records.WindowRecord.{WindowRecord}
 use Rattle.home_types.specs.Kinds.{has_value}
@@ -30,26 +32,34 @@ abbrev pub HaveValues : List Kind → List Stand → Type 0
 HaveValues [] [] = ⊤
 HaveValues [] (stand ∷ home) = ⊥
 HaveValues (kind ∷ kinds) [] = ⊥
-HaveValues (kind ∷ kinds) (stand ∷ home) = (has_value kind stand.value ≡ true) × HaveValues kinds home
+HaveValues (kind ∷ kinds) (stand ∷ home) =
+    (has_value kind stand.value ≡ true) × HaveValues kinds home
 
 -- the window that begins with this home fits
-pub record WindowFits (script : Script) (home : List Stand) (window : WindowText) (closed : WindowRecord) : Type 0 where
-  pub runs : (r : RunId) → 1 ≤ r → r ≤ length window.runs.items → RunFits (kinds_of script) (map (run_of_text script) window.runs.items) r closed.history.items
+pub record WindowFits (script : Script) (home : List Stand) (window : WindowText)
+    (closed : WindowRecord) : Type 0 where
+  pub runs : (r : RunId) → 1 ≤ r → r ≤ length window.runs.items → RunFits (kinds_of script)
+      (map (run_of_text script) window.runs.items) r closed.history.items
   pub items : ItemsMayStand (order_setting script home window closed) [] closed.order.items
   pub all : AllStand (map plain_item closed.order.items) 0 (ends_told window closed.history.items)
-  pub serial : home_behind (map (run_of_text script) window.runs.items) (kinds_of script) (ends_told window closed.history.items) home (map plain_item closed.order.items)
+  pub serial : home_behind (map (run_of_text script) window.runs.items) (kinds_of script)
+      (ends_told window closed.history.items) home (map plain_item closed.order.items)
       ≡ Ok closed.last.devices.items
   pub values : HaveValues (kinds_of script) closed.last.devices.items
-  pub committed : count_by is_some (ends_told window closed.history.items) ≡ count_by (λ kept. is_commit kept.entry) closed.history.items
-  pub ended : length window.runs.items ≡ count_by (λ kept. is_commit kept.entry) closed.history.items + count_by (λ kept. is_abort kept.entry) closed.history.items
+  pub committed : count_by is_some (ends_told window closed.history.items)
+      ≡ count_by (λ kept. is_commit kept.entry) closed.history.items
+  pub ended : length window.runs.items ≡ count_by (λ kept. is_commit kept.entry)
+      closed.history.items + count_by (λ kept. is_abort kept.entry) closed.history.items
 
 -- the home before the window of this number, from 0
 abbrev pub home_before : Script → List WindowRecord → ℕ → List Stand
 home_before script records zero = start_home script
-home_before script records (suc k) = unwrap_or (option_map (λ closed. closed.last.devices.items) (slice_get records k)) []
+home_before script records (suc k) =
+    unwrap_or (option_map (λ closed. closed.last.devices.items) (slice_get records k)) []
 
 -- each window fits
 abbrev pub DayFits : Script → List WindowRecord → Type 0
 DayFits script records =
-    (k : ℕ) (window : WindowText) (closed : WindowRecord) → slice_get script.windows.items k ≡ Some window → slice_get records k ≡ Some closed
+    (k : ℕ) (window : WindowText) (closed : WindowRecord) → slice_get script.windows.items k
+    ≡ Some window → slice_get records k ≡ Some closed
     → WindowFits script (home_before script records k) window closed

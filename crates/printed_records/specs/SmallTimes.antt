@@ -21,15 +21,19 @@ IsSmall (DownAtEnd d) = ⊤
 
 -- .. of each run that was aborted
 abbrev pub CausesAreSmall : List Kept → Type 0
-CausesAreSmall history = (r : RunId) (cause : Cause) → end_of history r ≡ Some (Aborted cause) → IsSmall cause
+CausesAreSmall history =
+    (r : RunId) (cause : Cause) → end_of history r ≡ Some (Aborted cause) → IsSmall cause
 
 -- .. of each window
 abbrev pub TimesAreSmall : List WindowRecord → Type 0
-TimesAreSmall records = (k : ℕ) (closed : WindowRecord) → slice_get records k ≡ Some closed → CausesAreSmall closed.history.items
+TimesAreSmall records =
+    (k : ℕ) (closed : WindowRecord) → slice_get records k ≡ Some closed
+    → CausesAreSmall closed.history.items
 
 -- the entry is no end, or one with such times
 abbrev pub is_small : Entry → Bool
-is_small (Ended r (Aborted (Revoked lender d deadline moment))) = nat_lt deadline (2 ^ 64) && nat_lt moment (2 ^ 64)
+is_small (Ended r (Aborted (Revoked lender d deadline moment))) =
+    nat_lt deadline (2 ^ 64) && nat_lt moment (2 ^ 64)
 is_small _ = true
 
 -- .. each entry

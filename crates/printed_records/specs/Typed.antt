@@ -1,4 +1,5 @@
--- Which answers and which causes a run may have, by the kinds of the devices and the commands of the window's runs.
+-- Which answers and which causes a run may have, by the kinds of the devices and the commands of
+-- the window's runs.
 use Rattle.command_rules.specs.Rosters.{Run, command_at, commands_of}
 use Rattle.history_book.specs.declared.entries.Cause.TheVariants.{DownAtEnd, Lost, MustDown, Refuted, Revoked}
 use Rattle.history_book.specs.declared.entries.Cause.{Cause}
@@ -25,12 +26,15 @@ AreTyped kinds [] (a ∷ answers) = ⊥
 AreTyped kinds (c ∷ commands) [] = ⊥
 AreTyped kinds (c ∷ commands) (a ∷ answers) = IsTyped kinds c a × AreTyped kinds commands answers
 
--- the cause names a command of the run, a value of that command's device, a device, or a run of the window
+-- the cause names a command of the run, a value of that command's device, a device, or a run of the
+-- window
 abbrev pub IsCauseFor : List Kind → List Run → RunId → Cause → Type 0
 IsCauseFor kinds runs r (MustDown c) = c < length (commands_of runs r)
 IsCauseFor kinds runs r (Refuted c x) =
-    (c < length (commands_of runs r)) × (has_value (kind_at kinds (command_at runs r c).device.0) x ≡ true)
+    (c < length (commands_of runs r))
+    × (has_value (kind_at kinds (command_at runs r c).device.0) x ≡ true)
 IsCauseFor kinds runs r (Lost d) = d.0 < length kinds
 IsCauseFor kinds runs r (Revoked lender d deadline moment) =
-    (1 ≤ lender.0) × (lender.0 ≤ length runs) × (d.0 < length kinds) × (deadline < 2 ^ 64) × (moment < 2 ^ 64)
+    (1 ≤ lender.0) × (lender.0 ≤ length runs) × (d.0 < length kinds) × (deadline < 2 ^ 64)
+    × (moment < 2 ^ 64)
 IsCauseFor kinds runs r (DownAtEnd d) = d.0 < length kinds

@@ -14,9 +14,9 @@ use history_book::{Cause, End, Entry, Kept, WindowRecord};
 use home_types::{List, Mode};
 use routine_reader::Script;
 
-/// The text of a legal day agrees with its script, with a trace or without, under each model that promises an order:
-/// first come, first served, unless it is `ev`. Nothing is asked of the times of the records: each is a number of 64
-/// bits, and the histories are looked at for that alone.
+/// The text of a legal day agrees with its script, with a trace or without, under each model that
+/// promises an order: first come, first served, unless it is `ev`. Nothing is asked of the times of
+/// the records: each is a number of 64 bits, and the histories are looked at for that alone.
 pub fn held_day_agrees(script: &Script, mode: Mode, trace: bool, records: &List<WindowRecord>)
     requires sound { IsSound (plain_script script.now) }
     requires promised { prints_order mode ≡ true }

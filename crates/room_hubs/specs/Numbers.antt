@@ -13,7 +13,8 @@ use Rattle.room_hubs.specs.declared.rosters.RoomRoster.{RoomRoster}
 use Rattle.std.specs.List.{position_or_len}
 use Rattle.std.specs.Prelude.{List, length, map, option_map, slice_index_or, suc, zero, ℕ, ◌+◌, ◌<◌, ◌==◌}
 
--- a room of a window: the home's numbers of its devices and of its runs, and these runs in the room's own numbers
+-- a room of a window: the home's numbers of its devices and of its runs, and these runs in the
+-- room's own numbers
 pub record Room : Type 0 where
   pub number : ℕ
   pub devices : List ℕ
@@ -65,7 +66,8 @@ IsOwnItem room (Ran r) = IsOwnRun room r.0
 IsOwnItem room (Failed d k) = IsOwnDevice room d.0
 IsOwnItem room (Back d k) = IsOwnDevice room d.0
 
--- from the home's numbers to the room's own: the place among the room's, and where it is none of them how many there are
+-- from the home's numbers to the room's own: the place among the room's, and where it is none of
+-- them how many there are
 abbrev pub place_in : List ℕ → ℕ → ℕ
 place_in numbers n = position_or_len (λ m. m == n) numbers
 

@@ -17,7 +17,8 @@ abbrev pub listed : {T : Type 0} → List T → Listed T
 listed items = record { items = items; spare = 0 }
 
 abbrev pub no_device_text : DeviceText
-no_device_text = record { name = []; kind = States 0; states = listed []; start = 0; downs = listed [] }
+no_device_text =
+    record { name = []; kind = States 0; states = listed []; start = 0; downs = listed [] }
 
 abbrev pub no_run_text : RunText
 no_run_text = record { routine = 0; follows = None }
@@ -32,7 +33,11 @@ room_devices script k = devices_at script.devices.items (devices_in (rooms_of sc
 
 -- a routine in the own numbers of a room with these devices
 abbrev pub own_routine : List ℕ → RoutineText → RoutineText
-own_routine devices routine = record routine { routine = record { commands = listed (map (own_command devices) routine.routine.commands.items) } }
+own_routine devices routine =
+    record routine {
+      routine =
+          record { commands = listed (map (own_command devices) routine.routine.commands.items) };
+    }
 
 -- the run with this number, from 1
 abbrev pub run_text_at : List RunText → ℕ → RunText
@@ -41,22 +46,30 @@ run_text_at texts (suc i) = slice_index_or texts i no_run_text
 
 -- the same in the own numbers of a room with these runs
 abbrev pub own_run_text : List ℕ → List RunText → ℕ → RunText
-own_run_text mine texts r = record { routine = (run_text_at texts r).routine; follows = option_map (own_run_no mine) (run_text_at texts r).follows }
+own_run_text mine texts r = record {
+  routine = (run_text_at texts r).routine;
+  follows = option_map (own_run_no mine) (run_text_at texts r).follows;
+}
 
 -- a window with these runs alone
 abbrev pub own_window_text : List ℕ → WindowText → WindowText
-own_window_text mine window = record window { runs = listed (map (own_run_text mine window.runs.items) mine) }
+own_window_text mine window =
+    record window { runs = listed (map (own_run_text mine window.runs.items) mine) }
 
 -- the window with the runs of a room alone
 abbrev pub own_window : Script → ℕ → WindowText → WindowText
-own_window script k window = own_window_text (runs_in (rooms_of script).room_of (map (run_of_text script) window.runs.items) k) window
+own_window script k window =
+    own_window_text
+    (runs_in (rooms_of script).room_of (map (run_of_text script) window.runs.items) k) window
 
--- the script of a room: its devices, the routines in its own numbers, and of each window its own runs. A routine on devices
--- of other rooms is in it too; no run of the room does it where no run crosses
+-- the script of a room: its devices, the routines in its own numbers, and of each window its own
+-- runs. A routine on devices of other rooms is in it too; no run of the room does it where no run
+-- crosses
 abbrev pub own_script : Script → ℕ → Script
 own_script script k = record {
   devices = listed (room_devices script k);
-  routines = listed (map (own_routine (devices_in (rooms_of script).room_of k)) script.routines.items);
+  routines =
+      listed (map (own_routine (devices_in (rooms_of script).room_of k)) script.routines.items);
   windows = listed (map (own_window script k) script.windows.items);
 }
 

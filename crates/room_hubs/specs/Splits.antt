@@ -1,4 +1,5 @@
--- How the runs of a window are split among the rooms. A home's rooms are given by the number of each device's room.
+-- How the runs of a window are split among the rooms. A home's rooms are given by the number of
+-- each device's room.
 use Rattle.command_rules.specs.Rosters.{Run, commands_of, followed_by, run_no}
 use Rattle.home_types.specs.declared.commands.Command.{Command}
 use Rattle.room_hubs.specs.Numbers.{Room, own_run}
@@ -21,12 +22,15 @@ run_room room_of (c ∷ cs) = device_room room_of c.device.0
 
 -- some command is in another room than the first one
 abbrev pub crosses_rooms : List ℕ → List Command → Bool
-crosses_rooms room_of commands = list_any (λ c. not (device_room room_of c.device.0 == run_room room_of commands)) commands
+crosses_rooms room_of commands =
+    list_any (λ c. not (device_room room_of c.device.0 == run_room room_of commands)) commands
 
 -- the run follows one of another room
 abbrev pub follows_across : List ℕ → List Run → Run → Bool
 follows_across room_of runs run =
-    option_map_or (λ f. not (run_room room_of (commands_of runs f.0) == run_room room_of run.commands)) run.follows false
+    option_map_or
+    (λ f. not (run_room room_of (commands_of runs f.0) == run_room room_of run.commands))
+    run.follows false
 
 abbrev pub crosses : List ℕ → List Run → Run → Bool
 crosses room_of runs run = crosses_rooms room_of run.commands || follows_across room_of runs run
@@ -34,7 +38,8 @@ crosses room_of runs run = crosses_rooms room_of run.commands || follows_across 
 -- how the run at this place, from 0, crosses
 abbrev pub cross_at : List ℕ → List Run → ℕ → SplitFault
 cross_at room_of runs place =
-    if crosses_rooms room_of (commands_of runs (suc place)) then CrossRoom (run_no (suc place)) else CrossFollow (run_no (suc place))
+    if crosses_rooms room_of (commands_of runs (suc place)) then CrossRoom (run_no (suc place))
+    else CrossFollow (run_no (suc place))
 
 -- the refusal of a window: the smallest run that crosses, and how
 abbrev pub cross_fault : List ℕ → List Run → Option SplitFault
@@ -45,7 +50,8 @@ abbrev pub devices_in : List ℕ → ℕ → List ℕ
 devices_in room_of k = filter (λ d. device_room room_of d == k) (range_with_len 0 (length room_of))
 
 abbrev pub runs_in : List ℕ → List Run → ℕ → List ℕ
-runs_in room_of runs k = filter (λ r. run_room room_of (commands_of runs r) == k) (range_with_len 1 (length runs))
+runs_in room_of runs k =
+    filter (λ r. run_room room_of (commands_of runs r) == k) (range_with_len 1 (length runs))
 
 abbrev pub run_with : List Run → ℕ → Run
 run_with runs r = record { commands = commands_of runs r; follows = followed_by runs r }
@@ -70,7 +76,8 @@ all_rooms rooms runs = map (room_at rooms.room_of runs) (range_with_len 0 (lengt
 
 -- all rooms, or the refusal
 abbrev pub window_split : PlainRooms → List Run → Result (List Room) SplitFault
-window_split rooms runs = option_map_or (λ fault. Err fault) (cross_fault rooms.room_of runs) (Ok (all_rooms rooms runs))
+window_split rooms runs =
+    option_map_or (λ fault. Err fault) (cross_fault rooms.room_of runs) (Ok (all_rooms rooms runs))
 
 -- the split of a window of the script
 abbrev pub script_split : Script → ℕ → Result (List Room) SplitFault

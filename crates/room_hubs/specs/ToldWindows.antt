@@ -35,7 +35,8 @@ abbrev pub told_cause : Room → Cause → Cause
 told_cause room (MustDown c) = MustDown c
 told_cause room (Refuted c x) = Refuted c x
 told_cause room (Lost d) = Lost (told_device room d)
-told_cause room (Revoked lender d deadline moment) = Revoked (told_run room lender) (told_device room d) deadline moment
+told_cause room (Revoked lender d deadline moment) =
+    Revoked (told_run room lender) (told_device room d) deadline moment
 told_cause room (DownAtEnd d) = DownAtEnd (told_device room d)
 
 abbrev pub end_in_home : Room → End → End
@@ -54,7 +55,8 @@ told_entry room (Ended r end) = Ended (told_run room r) (end_in_home room end)
 
 -- an entry with its maker; 0 is the detector's number in every room
 abbrev pub told_kept : Room → Kept → Kept
-told_kept room kept = record { maker = home_run room kept.maker; entry = told_entry room kept.entry }
+told_kept room kept =
+    record { maker = home_run room kept.maker; entry = told_entry room kept.entry }
 
 -- the history of a room's window
 abbrev pub told_entries : RoomWindow → List Kept
@@ -70,22 +72,27 @@ RoomHome = List ℕ × List Stand
 
 -- how the room's devices stand at its window's end
 abbrev pub last_of_room : RoomWindow → RoomHome
-last_of_room window = (numbers_of_devices window.roster.devices.items, window.closed.last.devices.items)
+last_of_room window =
+    (numbers_of_devices window.roster.devices.items, window.closed.last.devices.items)
 
 abbrev pub stand_in : RoomHome → ℕ → Stand
 stand_in home d = stand_at home.1 (place_in home.0 d)
 
 -- how the home stands where its rooms stand so: each device as in its room
 abbrev pub joined_home : List ℕ → List RoomHome → List Stand
-joined_home room_of homes = map (λ d. stand_in (slice_index_or homes (device_room room_of d) ([], [])) d) (range_with_len 0 (length room_of))
+joined_home room_of homes =
+    map (λ d. stand_in (slice_index_or homes (device_room room_of d) ([], [])) d)
+    (range_with_len 0 (length room_of))
 
 -- the record tells of the windows of the rooms, all in the home's numbers
-pub record IsToldOfRooms (room_of : List ℕ) (windows : List RoomWindow) (told : WindowRecord) : Type 0 where
+pub record IsToldOfRooms (room_of : List ℕ) (windows : List RoomWindow)
+    (told : WindowRecord) : Type 0 where
   pub history : told.history.items ≡ joined_history windows
   pub order : told.order.items ≡ joined_order (map room_order windows)
   pub last : told.last.devices.items ≡ joined_home room_of (map last_of_room windows)
 
--- what the lines of the home's window tell: the windows of its rooms, in the home's numbers. No line tells a first state or counts
+-- what the lines of the home's window tell: the windows of its rooms, in the home's numbers. No
+-- line tells a first state or counts
 abbrev pub told_record : List ℕ → Mode → List RoomWindow → WindowRecord
 told_record room_of mode windows = record {
   mode = mode;

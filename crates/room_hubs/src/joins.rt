@@ -22,7 +22,8 @@ fn push_items(order: &mut List<Item>, roster: &RoomRoster, items: &[Item]) -> Re
 /// Puts the orders of rooms at the end, room after room.
 fn join_windows(order: &mut List<Item>, windows: &[RoomWindow]) -> Result<(), NoMemory>
     requires { All (λ window. HasOwnOrder (room_order window)) windows.now }
-    ensures { OnOk result (order.new.items ≡ order.old.items ++ joined_order (map room_order windows.now)) }
+    ensures { OnOk result
+        (order.new.items ≡ order.old.items ++ joined_order (map room_order windows.now)) }
 {
     'windows: for window in windows {
         push_items(order, &window.roster, window.closed.order.as_slice())?;
@@ -30,7 +31,8 @@ fn join_windows(order: &mut List<Item>, windows: &[RoomWindow]) -> Result<(), No
     Ok(())
 }
 
-/// The orders of the rooms of one window, room after room, each item in the home's numbers, or `NoMemory`.
+/// The orders of the rooms of one window, room after room, each item in the home's numbers, or
+/// `NoMemory`.
 pub fn joined(alloc: Global, windows: &List<RoomWindow>) -> Result<List<Item>, NoMemory>
     requires { All (λ window. HasOwnOrder (room_order window)) windows.now.items }
     ensures { IfOk result (λ order. order.items ≡ joined_order (map room_order windows.now.items)) }

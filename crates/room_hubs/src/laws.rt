@@ -1,5 +1,5 @@
-//! What is true of the rooms of a home, and of each order that is merged from theirs. No function here does any work: its
-//! contract is a law.
+//! What is true of the rooms of a home, and of each order that is merged from theirs. No function
+//! here does any work: its contract is a law.
 ghost use Rattle.command_rules.specs.Rosters.{Run};
 ghost use Rattle.home_types.specs.declared.kinds.Kind.{Kind};
 ghost use Rattle.home_types.specs.declared.worlds.Stand.{Stand};
@@ -28,24 +28,24 @@ pub fn split_parts()
         → IsParted (rooms_of script).room_of (script_runs script window) }
 {}
 
-/// The script of a room says of each window, of the kinds and of the start what the room has of the home's.
+/// The script of a room says of each window, of the kinds and of the start what the room has of the
+/// home's.
 pub fn own_scripts()
     ensures runs { (script : Script) (k window : ℕ)
         → script_runs (own_script script k) window
         ≡ (room_at (rooms_of script).room_of (script_runs script window) k).own_runs }
-    ensures kinds { (script : Script) (k window : ℕ)
-        → kinds_of (own_script script k)
-        ≡ room_kinds (room_at (rooms_of script).room_of (script_runs script window) k) (kinds_of script) }
-    ensures start { (script : Script) (k window : ℕ)
-        → start_home (own_script script k)
-        ≡ room_home (room_at (rooms_of script).room_of (script_runs script window) k) (start_home script) }
+    ensures kinds { (script : Script) (k window : ℕ) → kinds_of (own_script script k) ≡ room_kinds
+        (room_at (rooms_of script).room_of (script_runs script window) k) (kinds_of script) }
+    ensures start { (script : Script) (k window : ℕ) → start_home (own_script script k) ≡ room_home
+        (room_at (rooms_of script).room_of (script_runs script window) k) (start_home script) }
 {}
 
-/// Whatever order is merged from orders of the rooms, its serial execution goes in step with theirs.
+/// Whatever order is merged from orders of the rooms, its serial execution goes in step with
+/// theirs.
 pub fn merged()
-    ensures { (rooms : ℕ → Room) (runs : List Run) (kinds : List Kind) (home : List Stand) (merge : Merge)
-        → PartHome rooms runs home → IsMerge rooms merge
-        → InStep rooms (home_execution rooms runs kinds home merge) (room_execution rooms kinds home merge) }
+    ensures { (rooms : ℕ → Room) (runs : List Run) (kinds : List Kind) (home : List Stand)
+        (merge : Merge) → PartHome rooms runs home → IsMerge rooms merge → InStep rooms
+        (home_execution rooms runs kinds home merge) (room_execution rooms kinds home merge) }
 {}
 
 /// The joined order is such a merge, in which each room has its own order.

@@ -1,4 +1,5 @@
-// The rooms of a home, each with a hub of its own: how a window is split among them, and how their orders are joined.
+// The rooms of a home, each with a hub of its own: how a window is split among them, and how their
+// orders are joined.
 #![tactic(auto)]
 
 mod joins;

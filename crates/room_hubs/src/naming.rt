@@ -50,7 +50,8 @@ fn number_of(alloc: Global, names: &mut List<Text>, room: &str) -> Result<u32, N
 /// The rooms of these devices.
 fn rooms_among(alloc: Global, devices: &[DeviceText]) -> Result<Rooms, NoMemory>
     requires { length devices.now ≤ most_devices }
-    ensures { IfOk result (λ rooms. plain_rooms rooms ≡ rooms_named (map (λ device. device.name) devices.now)) }
+    ensures { IfOk result
+        (λ rooms. plain_rooms rooms ≡ rooms_named (map (λ device. device.name) devices.now)) }
 {
     let mut names = List::new(alloc);
     let mut room_of = List::new(alloc);
@@ -61,8 +62,9 @@ fn rooms_among(alloc: Global, devices: &[DeviceText]) -> Result<Rooms, NoMemory>
     Ok(Rooms { names, room_of })
 }
 
-/// The rooms of the home of a script, numbered from 0 in the order of their first devices, or `NoMemory`. The room of a
-/// device is the part of its name before the first `_`, or the whole name.
+/// The rooms of the home of a script, numbered from 0 in the order of their first devices, or
+/// `NoMemory`. The room of a device is the part of its name before the first `_`, or the whole
+/// name.
 pub fn rooms(alloc: Global, script: &Script) -> Result<Rooms, NoMemory>
     requires { IsSound (plain_script script.now) }
     ensures { IfOk result (λ rooms. plain_rooms rooms ≡ rooms_of script.now) }

@@ -62,7 +62,8 @@ pub(crate) fn place_in(devices: &[DeviceNo], device: DeviceNo) -> usize
     }
 }
 
-/// A device of the home in the own numbers of a room with these devices: how many they are, where it is none of them.
+/// A device of the home in the own numbers of a room with these devices: how many they are, where
+/// it is none of them.
 fn own_device(devices: &[DeviceNo], device: DeviceNo) -> DeviceNo
     requires { length devices.now ≤ most_devices }
     ensures { result ≡ own_device (numbers_of_devices devices.now) device }
@@ -84,8 +85,8 @@ pub fn own_command(devices: &[DeviceNo], command: Command) -> Command
     }
 }
 
-/// A run of the home in the own numbers of a room with these runs, which count from 1: one more than they are, where it is
-/// none of them.
+/// A run of the home in the own numbers of a room with these runs, which count from 1: one more
+/// than they are, where it is none of them.
 pub fn own_run_no(runs: &[RunNo], run: RunNo) -> RunNo
     requires { length runs.now ≤ most_runs }
     ensures { result ≡ own_run_no (numbers_of_runs runs.now) run }

@@ -20,9 +20,11 @@ pub struct Rooms {
 pub struct RoomRoster {
     /// The number of the room.
     pub room: u32,
-    /// The home's numbers of the room's devices, in ascending order. The room's own number of a device is its place here.
+    /// The home's numbers of the room's devices, in ascending order. The room's own number of a
+    /// device is its place here.
     pub devices: List<DeviceNo>,
-    /// The home's numbers of the room's runs, in ascending order. The room's own numbers count from 1.
+    /// The home's numbers of the room's runs, in ascending order. The room's own numbers count
+    /// from 1.
     pub runs: List<RunNo>,
     /// The room's runs, in the room's own numbers.
     pub roster: Roster,

@@ -47,8 +47,8 @@ fn copy_devices(
     numbers: &[DeviceNo],
 ) -> Result<List<DeviceText>, NoMemory>
     requires { All (λ number. number.0 < length devices.now) numbers.now }
-    ensures { IfOk result (λ copy.
-        plain_devices copy.items ≡ plain_devices (devices_at devices.now (numbers_of_devices numbers.now))) }
+    ensures { IfOk result (λ copy. plain_devices copy.items
+        ≡ plain_devices (devices_at devices.now (numbers_of_devices numbers.now))) }
 {
     let mut copy = List::new(alloc);
     'numbers: for number in numbers {
@@ -67,7 +67,8 @@ pub fn room_script(
 ) -> Result<Script, NoMemory>
     requires sound { IsSound (plain_script script.now) }
     requires rooms { plain_rooms rooms.now ≡ rooms_of script.now }
-    ensures devices { IfOk result (λ own. plain_devices own.devices.items ≡ plain_devices (room_devices script.now room)) }
+    ensures devices { IfOk result
+        (λ own. plain_devices own.devices.items ≡ plain_devices (room_devices script.now room)) }
     ensures sound { IfOk result (λ own. IsSound (plain_script own)) }
 {
     let numbers = devices_in(alloc, rooms.room_of.as_slice(), room)?;

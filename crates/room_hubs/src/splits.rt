@@ -123,7 +123,8 @@ pub(crate) fn devices_in(
     room: u32,
 ) -> Result<List<DeviceNo>, NoMemory>
     requires { length room_of.now ≤ most_devices }
-    ensures { IfOk result (λ devices. numbers_of_devices devices.items ≡ devices_in room_of.now room) }
+    ensures { IfOk result
+        (λ devices. numbers_of_devices devices.items ≡ devices_in room_of.now room) }
 {
     let mut devices = List::new(alloc);
     'devices: for d in 0..room_of.len() {
@@ -142,7 +143,8 @@ fn runs_in(
     room: u32,
 ) -> Result<List<RunNo>, NoMemory>
     requires { length roster.now ≤ most_runs }
-    ensures { IfOk result (λ runs. numbers_of_runs runs.items ≡ runs_in room_of.now (map plain_run roster.now) room) }
+    ensures { IfOk result
+        (λ runs. numbers_of_runs runs.items ≡ runs_in room_of.now (map plain_run roster.now) room) }
 {
     let mut runs = List::new(alloc);
     'runs: for place in 0..roster.len() {
@@ -162,7 +164,8 @@ fn own_commands(
     commands: &[Command],
 ) -> Result<List<Command>, NoMemory>
     requires { length devices.now ≤ most_devices }
-    ensures { IfOk result (λ own. own.items ≡ map (own_command (numbers_of_devices devices.now)) commands.now) }
+    ensures { IfOk result
+        (λ own. own.items ≡ map (own_command (numbers_of_devices devices.now)) commands.now) }
 {
     let mut own = List::new(alloc);
     own.reserve(commands.len() as u64)?;
@@ -205,8 +208,8 @@ fn own_roster(
     requires devices { length devices.now ≤ most_devices }
     requires few { length mine.now ≤ most_runs }
     requires there { All (λ run. (1 ≤ run.0) × (run.0 ≤ length runs.now)) mine.now }
-    ensures { IfOk result (λ own. runs_of own
-        ≡ own_runs (numbers_of_devices devices.now) (numbers_of_runs mine.now) (map plain_run runs.now)) }
+    ensures { IfOk result (λ own. runs_of own ≡ own_runs (numbers_of_devices devices.now)
+        (numbers_of_runs mine.now) (map plain_run runs.now)) }
 {
     let mut own = List::new(alloc);
     own.reserve(mine.len() as u64)?;
@@ -267,8 +270,8 @@ fn split_runs(
     requires names { length rooms.now.names.items ≤ most_devices }
     requires devices { length rooms.now.room_of.items ≤ most_devices }
     requires runs { length runs.now ≤ most_runs }
-    ensures rosters { IfOk result (λ all.
-        window_split (plain_rooms rooms.now) (map plain_run runs.now) ≡ Ok (map plain_room all.items)) }
+    ensures rosters { IfOk result (λ all. window_split (plain_rooms rooms.now)
+        (map plain_run runs.now) ≡ Ok (map plain_room all.items)) }
     ensures refused { IfErr result (λ e. e ≢ SplitFault.NoMemory
         → window_split (plain_rooms rooms.now) (map plain_run runs.now) ≡ Err e) }
 {
@@ -281,11 +284,12 @@ fn split_runs(
     }
 }
 
-/// What each room has of the window with this number, from 0, in the order of the rooms: its devices, its runs, and these
-/// as a window of its own.
+/// What each room has of the window with this number, from 0, in the order of the rooms: its
+/// devices, its runs, and these as a window of its own.
 ///
-/// Answers the smallest run that has commands in two rooms or follows a run of another room: by `CrossRoom` where it has
-/// commands in two rooms, else by `CrossFollow`. Answers `NoMemory` where there is none to be had.
+/// Answers the smallest run that has commands in two rooms or follows a run of another room: by
+/// `CrossRoom` where it has commands in two rooms, else by `CrossFollow`. Answers `NoMemory` where
+/// there is none to be had.
 pub fn split(
     alloc: Global,
     script: &Script,
@@ -295,8 +299,10 @@ pub fn split(
     requires window { window < length script.now.windows.items }
     requires sound { IsSound (plain_script script.now) }
     requires rooms { plain_rooms rooms.now ≡ rooms_of script.now }
-    ensures rosters { IfOk result (λ all. script_split script.now window ≡ Ok (map plain_room all.items)) }
-    ensures refused { IfErr result (λ e. e ≢ SplitFault.NoMemory → script_split script.now window ≡ Err e) }
+    ensures rosters { IfOk result
+        (λ all. script_split script.now window ≡ Ok (map plain_room all.items)) }
+    ensures refused { IfErr result
+        (λ e. e ≢ SplitFault.NoMemory → script_split script.now window ≡ Err e) }
 {
     let roster = match roster(alloc, script, window) {
         Ok(roster) => roster,

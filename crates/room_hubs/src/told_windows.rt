@@ -114,8 +114,8 @@ fn push_history(
     roster: &RoomRoster,
     entries: &[Kept],
 ) -> Result<(), NoMemory>
-    ensures { OnOk result
-        (history.new.items ≡ history.old.items ++ map (told_kept (plain_room roster.now)) entries.now) }
+    ensures { OnOk result (history.new.items
+        ≡ history.old.items ++ map (told_kept (plain_room roster.now)) entries.now) }
 {
     'entries: for kept in entries {
         history.push(told_kept(roster, *kept))?;
@@ -151,7 +151,9 @@ fn last_stand(window: &RoomWindow, device: DeviceNo) -> Stand
 
 /// Where a device of the home stands at the end of the windows of its rooms.
 fn joined_stand(room_of: &[u32], windows: &[RoomWindow], device: DeviceNo) -> Stand
-    ensures { result ≡ stand_in (slice_index_or (map last_of_room windows.now) (device_room room_of.now device.0) ([], [])) device.0 }
+    ensures { result ≡ stand_in
+        (slice_index_or (map last_of_room windows.now) (device_room room_of.now device.0) ([], []))
+        device.0 }
 {
     match windows.get(device_room(room_of, device) as usize) {
         Some(window) => last_stand(window, device),
@@ -166,7 +168,8 @@ fn joined_home(
     windows: &[RoomWindow],
 ) -> Result<List<Stand>, NoMemory>
     requires { length room_of.now ≤ most_devices }
-    ensures { IfOk result (λ home. home.items ≡ joined_home room_of.now (map last_of_room windows.now)) }
+    ensures { IfOk result
+        (λ home. home.items ≡ joined_home room_of.now (map last_of_room windows.now)) }
 {
     let mut home = List::new(alloc);
     'devices: for d in 0..room_of.len() {
@@ -175,9 +178,9 @@ fn joined_home(
     Ok(home)
 }
 
-/// What the lines of a home's window tell of the windows of its rooms, but for a trace: the entries of the rooms, room
-/// after room, the joined order, and how the home stands at last, all in the home's numbers. It has no first state and no
-/// counts, since no line tells them.
+/// What the lines of a home's window tell of the windows of its rooms, but for a trace: the entries
+/// of the rooms, room after room, the joined order, and how the home stands at last, all in the
+/// home's numbers. It has no first state and no counts, since no line tells them.
 ///
 /// Answers `NoMemory` where there is none to be had.
 pub fn told_window(

@@ -59,7 +59,15 @@ kept-at : (key : List ℕ) (value : Data) (members : Members)
       takes = if bytes_eq key (codes "takes") then Some value else get_member (codes "takes") members;
     }
 kept-at key value members =
-    rw (put-at (codes "on") key value members _ refl, put-at (codes "do") key value members _ refl, put-at (codes "to") key value members _ refl, put-at (codes "when") key value members _ refl, put-at (codes "must") key value members _ refl, put-at (codes "ms") key value members _ refl, put-at (codes "takes") key value members _ refl) refl
+    rw (
+      put-at (codes "on") key value members _ refl,
+      put-at (codes "do") key value members _ refl,
+      put-at (codes "to") key value members _ refl,
+      put-at (codes "when") key value members _ refl,
+      put-at (codes "must") key value members _ refl,
+      put-at (codes "ms") key value members _ refl,
+      put-at (codes "takes") key value members _ refl,
+    ) refl
 
 -- a member that a command knows is kept
 kept-put : (value : Data) (members : Members) (key : List ℕ) → knows GuardedCommand key ≡ true → with_member key value (given_in members) ≡ given_in (put key value members)

@@ -5,7 +5,8 @@ use Rattle.routine_reader.specs.Scripts.{plain_device}
 use Rattle.routine_reader.specs.declared.devices.NamedDevices.{NamedDevices}
 use Rattle.std.specs.Prelude.{All, length, map, ◌≡◌, ◌≤◌}
 
--- the names are those of the devices, in order; there are no more devices and states than the limits
+-- the names are those of the devices, in order; there are no more devices and states than the
+-- limits
 pub record AreDevices (devices : NamedDevices) : Type 0 where
   pub names : devices.names ≡ device_names (map plain_device devices.texts.items)
   pub few : length devices.texts.items ≤ most_devices

@@ -34,7 +34,8 @@ abbrev pub verb_of : List ℕ → Option Verb
 verb_of text =
     if bytes_eq text (codes "set") then Some Set
     else (if bytes_eq text (codes "check") then Some Check
-    else (if bytes_eq text (codes "load") then Some Load else (if bytes_eq text (codes "store") then Some Store else None)))
+    else (if bytes_eq text (codes "load") then Some Load
+    else (if bytes_eq text (codes "store") then Some Store else None)))
 
 abbrev pub verb_in : Data → Option Verb
 verb_in value = option_and_then verb_of (as_str value)
@@ -73,9 +74,18 @@ pub record CommandMembers : Type 0 where
   pub ms : ℕ
   pub takes : ℕ
 
-abbrev pub command_with : Option (List ℕ) → Option Verb → Option (Option Data) → Option Guard → Option Bool → Option ℕ → Option ℕ → Option CommandMembers
+abbrev pub command_with : Option (List ℕ) → Option Verb → Option (Option Data) → Option Guard
+    → Option Bool → Option ℕ → Option ℕ → Option CommandMembers
 command_with (Some device) (Some verb) (Some to) (Some when) (Some must) (Some ms) (Some takes) =
-    Some (record { device = device; verb = verb; to = to; when = when; must = must; ms = ms; takes = takes })
+    Some (record {
+      device = device;
+      verb = verb;
+      to = to;
+      when = when;
+      must = must;
+      ms = ms;
+      takes = takes;
+    })
 command_with device verb to when must ms takes = None
 
 abbrev pub ms_at : Data → Option ℕ
@@ -125,10 +135,21 @@ command_reading version devices routine number value =
     let spot = inside part.Command routine number in do
       members ← ok_or (command_members version value) (Shape spot)
       device ← ok_or (place_of (device_names devices) members.device) (UnknownName spot)
-      job ← ok_or (job_of members.verb members.to (kind_of devices device) (state_names_of devices device)) (BadState spot)
+      job ← ok_or
+          (job_of members.verb members.to (kind_of devices device) (state_names_of devices device))
+          (BadState spot)
       ms ← within_limit count.Ms members.ms
       takes ← within_limit count.Ms members.takes
-      Ok (record { device = record { 0 = device }; job = job; when = members.when; must = members.must; ms = ms; takes = takes })
+      Ok (record {
+        device = record { 0 = device };
+        job = job;
+        when = members.when;
+        must = members.must;
+        ms = ms;
+        takes = takes;
+      })
 
-abbrev pub next_command_read : ℕ → List PlainDevice → ℕ → List Command → Data → Result Command ReadFault
-next_command_read version devices routine earlier value = command_reading version devices routine (length earlier + 1) value
+abbrev pub next_command_read : ℕ → List PlainDevice → ℕ → List Command → Data
+    → Result Command ReadFault
+next_command_read version devices routine earlier value =
+    command_reading version devices routine (length earlier + 1) value

@@ -31,12 +31,15 @@ pub record DeviceMembers : Type 0 where
 -- either states, or both low and high
 abbrev pub has_states_or_range : Data → Bool
 has_states_or_range value =
-    if lacks (codes "states") value then not (lacks (codes "low") value) && not (lacks (codes "high") value)
+    if lacks (codes "states") value
+    then not (lacks (codes "low") value) && not (lacks (codes "high") value)
     else lacks (codes "low") value && lacks (codes "high") value
 
-abbrev pub device_with : Option (List ℕ) → Option (Option (List Data)) → Option ℕ → Option ℕ → Option Data → Option (List Data) → Option DeviceMembers
+abbrev pub device_with : Option (List ℕ) → Option (Option (List Data)) → Option ℕ → Option ℕ
+    → Option Data → Option (List Data) → Option DeviceMembers
 device_with (Some name) (Some states) (Some low) (Some high) (Some start) (Some down) =
-    Some (record { name = name; states = states; low = low; high = high; start = start; down = down })
+    Some
+    (record { name = name; states = states; low = low; high = high; start = start; down = down })
 device_with name states low high start down = None
 
 abbrev pub device_members : Data → Option DeviceMembers
@@ -83,7 +86,8 @@ unfoldable pub device_values : Spot → Option (List Data) → ℕ → ℕ → R
 device_values spot (Some values) low high = do
   names ← state_names spot values
   Ok (states_with names)
-device_values spot None low high = if nat_le low high then Ok (range_with low high) else Err (BadState spot)
+device_values spot None low high =
+    if nat_le low high then Ok (range_with low high) else Err (BadState spot)
 
 abbrev pub value_within : Kind → ℕ → Option ℕ
 value_within kind value = if has_value kind value then Some value else None
@@ -91,7 +95,8 @@ value_within kind value = if has_value kind value then Some value else None
 -- the value that a text or a whole number is: the place of a state, or a number of the range
 abbrev pub value_in : Kind → List (List ℕ) → Data → Option ℕ
 value_in (States n) states value = option_and_then (place_of states) (as_str value)
-value_in (Range low high) states value = option_and_then (value_within (Range low high)) (number_of value)
+value_in (Range low high) states value =
+    option_and_then (value_within (Range low high)) (number_of value)
 
 -- ---- when it is down
 
@@ -130,7 +135,13 @@ device_reading number names value =
       values ← device_values spot members.states members.low members.high
       start ← ok_or (value_in values.kind values.states members.start) (BadState spot)
       downs ← downs_reading number members.down
-      Ok (record { name = name; kind = values.kind; states = values.states; start = start; downs = downs })
+      Ok (record {
+        name = name;
+        kind = values.kind;
+        states = values.states;
+        start = start;
+        downs = downs;
+      })
 
 abbrev pub next_device_read : List PlainDevice → Data → Result PlainDevice ReadFault
 next_device_read earlier value = device_reading (length earlier + 1) (device_names earlier) value

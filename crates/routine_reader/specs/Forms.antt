@@ -20,7 +20,8 @@ is_of_command name =
 -- the table of an object has a member of this name
 abbrev pub knows : Form → List ℕ → Bool
 knows Day name =
-    bytes_eq name (codes "safehome") || bytes_eq name (codes "devices") || bytes_eq name (codes "routines")
+    bytes_eq name (codes "safehome") || bytes_eq name (codes "devices")
+    || bytes_eq name (codes "routines")
     || bytes_eq name (codes "windows")
 knows Device name =
     bytes_eq name (codes "name") || bytes_eq name (codes "states") || bytes_eq name (codes "low")
@@ -47,7 +48,8 @@ list_of (item value items) = value ∷ list_of items
 
 -- an object, with no member that its table does not have
 abbrev pub has_form : Form → Data → Bool
-has_form form value = option_map_or (λ members. list_all (knows form) (names_of members)) (as_object value) false
+has_form form value =
+    option_map_or (λ members. list_all (knows form) (names_of members)) (as_object value) false
 
 abbrev pub lacks : List ℕ → Data → Bool
 lacks name value = is_none (get name value)
@@ -58,10 +60,12 @@ at_most most number = if nat_le number most then Some number else None
 
 -- a whole number of 64 bits, and one of 32 bits
 abbrev pub long_number_of : Data → Option ℕ
-long_number_of value = option_and_then (at_most most_of_64_bits) (option_and_then as_u64 (as_number value))
+long_number_of value =
+    option_and_then (at_most most_of_64_bits) (option_and_then as_u64 (as_number value))
 
 abbrev pub number_of : Data → Option ℕ
-number_of value = option_and_then (at_most most_of_32_bits) (option_and_then as_u64 (as_number value))
+number_of value =
+    option_and_then (at_most most_of_32_bits) (option_and_then as_u64 (as_number value))
 
 -- a text or a whole number, which may name a state
 abbrev pub is_state : Data → Bool

@@ -49,4 +49,6 @@ with_member name value given =
     else (if bytes_eq name (codes "to") then record given { to = Some value }
     else (if bytes_eq name (codes "must") then record given { must = Some value }
     else (if bytes_eq name (codes "ms") then record given { ms = Some value }
-    else (if bytes_eq name (codes "takes") then record given { takes = Some value } else record given { when = Some value })))))
+    else (if bytes_eq name (codes "takes") then record given {
+      takes = Some value;
+    } else record given { when = Some value })))))

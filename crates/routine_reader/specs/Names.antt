@@ -25,7 +25,8 @@ starts_with_letter name = option_map_or is_letter (slice_get name 0) false
 
 -- a name has 1 to 32 of these characters, and starts with a letter
 abbrev pub is_name : List ℕ → Bool
-is_name name = starts_with_letter name && nat_le (length name) most_characters && list_all is_name_byte name
+is_name name =
+    starts_with_letter name && nat_le (length name) most_characters && list_all is_name_byte name
 
 -- the place of a name among names
 abbrev pub place_of : List (List ℕ) → List ℕ → Option ℕ
@@ -37,4 +38,5 @@ is_among names name = list_any (bytes_eq name) names
 -- the text, where it is a name and none of the names
 abbrev pub new_name : Spot → List (List ℕ) → List ℕ → Result (List ℕ) ReadFault
 new_name spot names name =
-    if is_name name then (if is_among names name then Err (DoubleName spot) else Ok name) else Err (BadName spot)
+    if is_name name then (if is_among names name then Err (DoubleName spot) else Ok name)
+    else Err (BadName spot)

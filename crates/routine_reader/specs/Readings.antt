@@ -27,7 +27,8 @@ pub record DayMembers : Type 0 where
   pub routines : List Data
   pub windows : List Data
 
-abbrev pub day_with : Option ℕ → Option (List Data) → Option (List Data) → Option (List Data) → Option DayMembers
+abbrev pub day_with : Option ℕ → Option (List Data) → Option (List Data) → Option (List Data)
+    → Option DayMembers
 day_with (Some version) (Some devices) (Some routines) (Some windows) =
     Some (record { version = version; devices = devices; routines = routines; windows = windows })
 day_with version devices routines windows = None

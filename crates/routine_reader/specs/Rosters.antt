@@ -20,11 +20,14 @@ abbrev pub start_home : Script → List Stand
 start_home script = map start_stand script.devices.items
 
 abbrev pub routine_commands : Script → ℕ → List Command
-routine_commands script i = unwrap_or (option_map (λ t. t.routine.commands.items) (slice_get script.routines.items i)) []
+routine_commands script i =
+    unwrap_or (option_map (λ t. t.routine.commands.items) (slice_get script.routines.items i)) []
 
 abbrev pub run_of_text : Script → RunText → Run
 run_of_text script t = record { commands = routine_commands script t.routine; follows = t.follows }
 
 -- the runs of the window with this number, from 0, with the commands of their routines
 abbrev pub script_runs : Script → ℕ → List Run
-script_runs script k = unwrap_or (option_map (λ t. map (run_of_text script) t.runs.items) (slice_get script.windows.items k)) []
+script_runs script k =
+    unwrap_or
+    (option_map (λ t. map (run_of_text script) t.runs.items) (slice_get script.windows.items k)) []

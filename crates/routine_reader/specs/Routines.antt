@@ -31,7 +31,8 @@ routine_members value =
     else None
 
 -- 1 to 64 commands
-unfoldable pub commands_reading : ℕ → List PlainDevice → ℕ → List Data → Result (List Command) ReadFault
+unfoldable pub commands_reading : ℕ → List PlainDevice → ℕ → List Data
+    → Result (List Command) ReadFault
 commands_reading version devices routine values =
     if length values == 0 then Err (Shape (at part.Routine routine))
     else do
@@ -42,7 +43,8 @@ abbrev pub routine_names : List PlainRoutine → List (List ℕ)
 routine_names routines = map (λ routine. routine.name) routines
 
 -- the routine with this number of a script of this version, after routines with these names
-unfoldable pub routine_reading : ℕ → List PlainDevice → ℕ → List (List ℕ) → Data → Result PlainRoutine ReadFault
+unfoldable pub routine_reading : ℕ → List PlainDevice → ℕ → List (List ℕ) → Data
+    → Result PlainRoutine ReadFault
 routine_reading version devices number names value =
     let spot = at part.Routine number in do
       members ← ok_or (routine_members value) (Shape spot)
@@ -50,5 +52,7 @@ routine_reading version devices number names value =
       commands ← commands_reading version devices number members.commands
       Ok (record { name = name; commands = commands })
 
-abbrev pub next_routine : ℕ → List PlainDevice → List PlainRoutine → Data → Result PlainRoutine ReadFault
-next_routine version devices earlier value = routine_reading version devices (length earlier + 1) (routine_names earlier) value
+abbrev pub next_routine : ℕ → List PlainDevice → List PlainRoutine → Data
+    → Result PlainRoutine ReadFault
+next_routine version devices earlier value =
+    routine_reading version devices (length earlier + 1) (routine_names earlier) value

@@ -9,7 +9,8 @@ use Rattle.routine_reader.specs.declared.scripts.Script.{Script}
 use Rattle.routine_reader.specs.declared.scripts.WindowText.{WindowText}
 use Rattle.std.specs.Prelude.{List, map, ℕ}
 
--- a device: its name, its kind, the names of its states, where it starts, and the calls at which it is down
+-- a device: its name, its kind, the names of its states, where it starts, and the calls at which it
+-- is down
 pub record PlainDevice : Type 0 where
   pub name : List ℕ
   pub kind : Kind

@@ -22,12 +22,14 @@ IsName name = is_name name ≡ true
 
 -- no name is among those before it
 abbrev pub AreDifferent : List (List ℕ) → Type 0
-AreDifferent names = (k : ℕ) (name : List ℕ) → slice_get names k ≡ Some name → is_among (take k names) name ≡ false
+AreDifferent names =
+    (k : ℕ) (name : List ℕ) → slice_get names k ≡ Some name → is_among (take k names) name ≡ false
 
 -- n states have 1 to 256 names, all different; a range has none
 abbrev pub IsSoundKind : Kind → List (List ℕ) → Type 0
 IsSoundKind (States n) states =
-    (n ≡ length states) × (0 < length states) × (length states ≤ most_states) × All IsName states × AreDifferent states
+    (n ≡ length states) × (0 < length states) × (length states ≤ most_states) × All IsName states
+    × AreDifferent states
 IsSoundKind (Range low high) states = (states ≡ []) × (low ≤ high) × (high < 2 ^ 32)
 
 -- from a first call on, which is at least 1, to before a later one
@@ -82,7 +84,8 @@ pub record IsSoundWindow (routines : ℕ) (window : PlainWindow) : Type 0 where
   pub few_turns : length window.turns ≤ most_turns
   pub turns : All (λ turn. turn ≤ length window.runs) window.turns
   pub few_runs : length window.runs ≤ most_runs
-  pub runs : (k : ℕ) (run : RunText) → slice_get window.runs k ≡ Some run → IsSoundRun routines k run
+  pub runs : (k : ℕ) (run : RunText) → slice_get window.runs k ≡ Some run
+      → IsSoundRun routines k run
 
 abbrev pub IsBefore : When → When → Type 0
 IsBefore a b = is_before a b ≡ true
@@ -90,7 +93,8 @@ IsBefore a b = is_before a b ≡ true
 -- each window is later than the one before
 abbrev pub AreInOrder : List PlainWindow → Type 0
 AreInOrder windows =
-    (k : ℕ) (a b : PlainWindow) → slice_get windows k ≡ Some a → slice_get windows (k + 1) ≡ Some b → IsBefore a.at b.at
+    (k : ℕ) (a b : PlainWindow) → slice_get windows k ≡ Some a → slice_get windows (k + 1) ≡ Some b
+    → IsBefore a.at b.at
 
 -- a script that the format allows
 pub record IsSound (script : PlainScript) : Type 0 where

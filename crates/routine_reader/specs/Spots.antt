@@ -63,7 +63,8 @@ refusal_text (BadName spot) = codes "bad name " ++ spot_text spot
 refusal_text (BadState spot) = codes "bad state " ++ spot_text spot
 refusal_text (BadTime spot) = codes "bad time " ++ spot_text spot
 refusal_text (TooMany kind count limit) =
-    codes "too many " ++ count_text kind ++ codes " " ++ decimal count ++ codes " of " ++ decimal limit
+    codes "too many " ++ count_text kind ++ codes " " ++ decimal count ++ codes " of "
+    ++ decimal limit
 refusal_text (BadFollow spot) = codes "bad follow " ++ spot_text spot
 refusal_text (BadVersion version) = codes "bad version " ++ decimal version
 refusal_text (BadTurn spot) = codes "bad turn " ++ spot_text spot

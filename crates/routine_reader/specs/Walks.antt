@@ -9,12 +9,14 @@ use Rattle.std.specs.Prelude.{Err, List, Ok, Result, [], false, if◌then◌else
 
 infixl 10 ◌>>=◌
 -- what is read next, where this is no refusal
-abbrev pub ◌>>=◌ : {A B : Type 0} → Result A ReadFault → (A → Result B ReadFault) → Result B ReadFault
+abbrev pub ◌>>=◌ : {A B : Type 0} → Result A ReadFault → (A → Result B ReadFault)
+    → Result B ReadFault
 Ok a >>= next = next a
 Err fault >>= next = Err fault
 
 -- the items so far, and then one read from each value; a reading sees what was read before it
-unfoldable pub read_each : {T : Type 0} → (List T → Data → Result T ReadFault) → List T → List Data → Result (List T) ReadFault
+unfoldable pub read_each : {T : Type 0} → (List T → Data → Result T ReadFault) → List T → List Data
+    → Result (List T) ReadFault
 read_each reading earlier [] = Ok earlier
 read_each reading earlier (value ∷ values) = do
   item ← reading earlier value

@@ -29,7 +29,8 @@ pub record WindowMembers : Type 0 where
   pub turns : List Data
   pub runs : List Data
 
-abbrev pub window_with : Option (List ℕ) → Option ℕ → Option ℕ → Option (List Data) → Option (List Data) → Option WindowMembers
+abbrev pub window_with : Option (List ℕ) → Option ℕ → Option ℕ → Option (List Data)
+    → Option (List Data) → Option WindowMembers
 window_with (Some time) (Some seed) (Some probes) (Some turns) (Some runs) =
     Some (record { at = time; seed = seed; probes = probes; turns = turns; runs = runs })
 window_with time seed probes turns runs = None
@@ -75,20 +76,23 @@ pub record RunMembers : Type 0 where
   pub follows : Option ℕ
 
 abbrev pub run_from_members : Option (List ℕ) → Option (Option ℕ) → Option RunMembers
-run_from_members (Some routine) (Some follows) = Some (record { routine = routine; follows = follows })
+run_from_members (Some routine) (Some follows) =
+    Some (record { routine = routine; follows = follows })
 run_from_members routine follows = None
 
 abbrev pub run_members : Data → Option RunMembers
 run_members value =
     if has_form form.Run value then
-    (run_from_members (needed as_str (codes "routine") value) (if_there number_of (codes "follows") value))
+    (run_from_members (needed as_str (codes "routine") value)
+    (if_there number_of (codes "follows") value))
     else None
 
 -- the run that the run with this number follows, if any: an earlier one
 abbrev pub follows_reading : Spot → ℕ → Option ℕ → Result (Option RunNo) ReadFault
 follows_reading spot number None = Ok None
 follows_reading spot number (Some followed) =
-    if nat_le 1 followed && nat_le (followed + 1) number then Ok (Some (record { 0 = followed })) else Err (BadFollow spot)
+    if nat_le 1 followed && nat_le (followed + 1) number then Ok (Some (record { 0 = followed }))
+    else Err (BadFollow spot)
 
 -- the run at this place, of routines with these names
 unfoldable pub run_reading : List (List ℕ) → ℕ → ℕ → Data → Result RunText ReadFault
@@ -105,7 +109,8 @@ next_run_read routines window earlier value = run_reading routines window (lengt
 -- ---- the window
 
 -- the window with this number, after one at this time, of routines with these names
-unfoldable pub window_reading : List (List ℕ) → ℕ → Option When → Data → Result PlainWindow ReadFault
+unfoldable pub window_reading : List (List ℕ) → ℕ → Option When → Data
+    → Result PlainWindow ReadFault
 window_reading routines number before value =
     let spot = at part.Window number in do
       members ← ok_or (window_members value) (Shape spot)
@@ -122,4 +127,5 @@ abbrev pub last_time : List PlainWindow → Option When
 last_time windows = option_map (λ window. window.at) (slice_get windows (length windows - 1))
 
 abbrev pub next_window_read : List (List ℕ) → List PlainWindow → Data → Result PlainWindow ReadFault
-next_window_read routines earlier value = window_reading routines (length earlier + 1) (last_time earlier) value
+next_window_read routines earlier value =
+    window_reading routines (length earlier + 1) (last_time earlier) value

@@ -80,7 +80,8 @@ impl<'a> GivenMembers<'a> {
     /// Keeps a member that a command of this version may have. Whether it is one.
     fn keep(&mut self, version: u64, name: &str, value: &'a Json) -> bool
         ensures known { result ≡ knows (command_form version) name.now }
-        ensures kept { IsTrue result → given_of self.new ≡ with_member name.now (view value.now) (given_of self.old) }
+        ensures kept { IsTrue result
+            → given_of self.new ≡ with_member name.now (view value.now) (given_of self.old) }
     {
         match name {
             "on" => self.on = Some(value),
@@ -96,10 +97,13 @@ impl<'a> GivenMembers<'a> {
     }
 }
 
-/// The members of a command, by one walk over them. `None` where one of them is no member of a command of this version.
+/// The members of a command, by one walk over them. `None` where one of them is no member of a
+/// command of this version.
 fn given_members(version: u64, members: &Map<String, Json>) -> Option<GivenMembers<'_>>
-    ensures known { is_some result ≡ list_all (knows (command_form version)) (names_of (members_view members.now.entries)) }
-    ensures given { IfSome result (λ given. given_of given ≡ given_in (members_view members.now.entries)) }
+    ensures known { is_some result
+        ≡ list_all (knows (command_form version)) (names_of (members_view members.now.entries)) }
+    ensures given { IfSome result
+        (λ given. given_of given ≡ given_in (members_view members.now.entries)) }
 {
     let mut given = GivenMembers {
         on: None,
@@ -136,7 +140,8 @@ fn guard_of(value: &Json) -> Option<Guard>
 
 /// The guard that the member is, or the one that always holds where it is missing.
 fn guard_given(member: Option<&Json>) -> Option<Guard>
-    ensures { result ≡ option_map_or guard_of (option_map (λ m. view m.now) member.entry) (Some Guard.Always) }
+    ensures { result
+        ≡ option_map_or guard_of (option_map (λ m. view m.now) member.entry) (Some Guard.Always) }
 {
     match member {
         Some(member) => guard_of(member),
@@ -145,7 +150,15 @@ fn guard_given(member: Option<&Json>) -> Option<Guard>
 }
 
 fn command_members(version: u64, value: &Json) -> Option<CommandMembers<'_>>
-    ensures { option_map (λ members. record { device = members.device.now; verb = members.verb; to = option_map (λ state. view state.now) members.to; when = members.when; must = members.must; ms = members.ms; takes = members.takes }) result ≡ command_members version (view value.now) }
+    ensures { option_map (λ members. record {
+      device = members.device.now;
+      verb = members.verb;
+      to = option_map (λ state. view state.now) members.to;
+      when = members.when;
+      must = members.must;
+      ms = members.ms;
+      takes = members.takes;
+    }) result ≡ command_members version (view value.now) }
 {
     let given = given_members(version, value.as_object()?)?;
     let device = given.on?.as_str()?;
@@ -210,7 +223,8 @@ pub fn read_command(
     value: &Json,
 ) -> Result<Command, ReadFault>
     requires { AreDevices devices.now }
-    ensures { result ≡ command_reading version (map plain_device devices.now.texts.items) routine number (view value.now) }
+    ensures { result ≡ command_reading version
+        (map plain_device devices.now.texts.items) routine number (view value.now) }
 {
     let spot = Part::Command.inside(routine, number);
     let Some(members) = command_members(version, value) else {

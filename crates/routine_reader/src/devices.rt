@@ -44,7 +44,14 @@ fn has_states_or_range(value: &Json) -> bool
 }
 
 fn device_members(value: &Json) -> Option<DeviceMembers<'_>>
-    ensures { option_map (λ members. record { name = members.name.now; states = option_map (λ items. map view items.now) members.states; low = members.low; high = members.high; start = view members.start.now; down = map view members.down.now }) result ≡ device_members (view value.now) }
+    ensures { option_map (λ members. record {
+      name = members.name.now;
+      states = option_map (λ items. map view items.now) members.states;
+      low = members.low;
+      high = members.high;
+      start = view members.start.now;
+      down = map view members.down.now;
+    }) result ≡ device_members (view value.now) }
 {
     if !has_form(Form::Device, value) || !has_states_or_range(value) {
         return None;
@@ -61,7 +68,8 @@ fn device_members(value: &Json) -> Option<DeviceMembers<'_>>
 
 /// Reads the name of a state, unlike these.
 fn read_state<'a>(spot: Spot, names: &Names<'a>, value: &'a Json) -> Result<&'a str, ReadFault>
-    ensures reading { IsReading (λ name. name.now) result (state_name spot names.now (view value.now)) }
+    ensures reading { IsReading (λ name. name.now) result
+        (state_name spot names.now (view value.now)) }
     ensures new { IfOk result (λ name. is_among names.now name.now ≡ false) }
 {
     match value.as_str() {
@@ -71,7 +79,8 @@ fn read_state<'a>(spot: Spot, names: &Names<'a>, value: &'a Json) -> Result<&'a 
 }
 
 fn read_each_state(alloc: Global, spot: Spot, values: &[Json]) -> Result<List<Text>, ReadFault>
-    ensures reading { IsReading (λ names. names.items) result (read_each (state_name spot) [] (map view values.now)) }
+    ensures reading { IsReading (λ names. names.items) result
+        (read_each (state_name spot) [] (map view values.now)) }
     ensures count { IfOk result (λ names. length names.items ≡ length values.now) }
 {
     let mut names = Names::new(alloc);
@@ -88,7 +97,8 @@ fn read_each_state(alloc: Global, spot: Spot, values: &[Json]) -> Result<List<Te
 /// Reads the states of a device: 1 to `limits::STATES` names, all different.
 #[tactic(auto, unfolding(crate::specs::Devices::state_names))]
 fn read_states(alloc: Global, spot: Spot, values: &[Json]) -> Result<List<Text>, ReadFault>
-    ensures reading { IsReading (λ names. names.items) result (state_names spot (map view values.now)) }
+    ensures reading { IsReading (λ names. names.items) result
+        (state_names spot (map view values.now)) }
     ensures few { IfOk result (λ names. length names.items ≤ most_states) }
 {
     if values.is_empty() {
@@ -111,8 +121,10 @@ fn read_values(
     spot: Spot,
     members: &DeviceMembers<'_>,
 ) -> Result<DeviceValues, ReadFault>
-    ensures reading { IsReading (λ values. record { kind = values.kind; states = values.states.items }) result
-        (device_values spot (option_map (λ items. map view items.now) members.now.states) members.now.low members.now.high) }
+    ensures reading { IsReading
+        (λ values. record { kind = values.kind; states = values.states.items }) result
+        (device_values spot (option_map (λ items. map view items.now) members.now.states)
+        members.now.low members.now.high) }
     ensures few { IfOk result (λ values. length values.states.items ≤ most_states) }
 {
     let DeviceMembers {
@@ -175,7 +187,8 @@ fn read_each_down(
     values: &[Json],
 ) -> Result<List<(u32, u32)>, ReadFault>
     requires { length values.now ≤ most_downs }
-    ensures { IsReading (λ downs. downs.items) result (read_each (next_down device) [] (map view values.now)) }
+    ensures { IsReading (λ downs. downs.items) result
+        (read_each (next_down device) [] (map view values.now)) }
 {
     let mut downs = List::new(alloc);
     downs.reserve(values.len() as u64)?;
@@ -203,7 +216,8 @@ fn read_device<'a>(
     names: &mut Names<'a>,
     value: &'a Json,
 ) -> Result<DeviceText, ReadFault>
-    ensures reading { IsReading plain_device result (device_reading number names.old (view value.now)) }
+    ensures reading { IsReading plain_device result
+        (device_reading number names.old (view value.now)) }
     ensures few { IfOk result (λ device. length device.states.items ≤ most_states) }
     ensures named { IfOk result (λ device. names.new ≡ names.old ++ device.name ∷ []) }
 {
@@ -237,7 +251,8 @@ pub struct NamedDevices<'a> {
 /// Reads the devices of a script.
 pub fn read_devices<'a>(alloc: Global, values: &'a [Json]) -> Result<NamedDevices<'a>, ReadFault>
     requires { length values.now ≤ most_devices }
-    ensures reading { IsReading (λ devices. map plain_device devices.texts.items) result (read_each next_device_read [] (map view values.now)) }
+    ensures reading { IsReading (λ devices. map plain_device devices.texts.items) result
+        (read_each next_device_read [] (map view values.now)) }
     ensures devices { IfOk result AreDevices }
 {
     let mut names = Names::new(alloc);

@@ -168,7 +168,8 @@ pub enum ReadFault {
     NoMemory,
     /// The bytes are no JSON text.
     NotJson,
-    /// No object, a member that is missing, foreign or of the wrong JSON type, or a list that may not be empty.
+    /// No object, a member that is missing, foreign or of the wrong JSON type, or a list that may
+    /// not be empty.
     Shape(Spot),
     /// No device or routine has this name.
     UnknownName(Spot),
@@ -228,7 +229,8 @@ impl From<NoMemory> for ReadFault {
 
 /// Refuses more than the limit.
 pub fn within_limit(kind: Count, count: u64) -> Result<(), ReadFault>
-    ensures { MatchResult result (λ _. within_limit kind count ≡ Ok count) (λ fault. within_limit kind count ≡ Err fault) }
+    ensures { MatchResult result (λ _. within_limit kind count ≡ Ok count)
+        (λ fault. within_limit kind count ≡ Err fault) }
 {
     let limit = kind.limit();
     if count <= limit {

@@ -121,14 +121,16 @@ pub fn text_at<'a>(value: &'a Value, name: &str) -> Option<&'a str>
 
 /// The list that a member is.
 pub fn list_at<'a>(value: &'a Value, name: &str) -> Option<&'a [Value]>
-    ensures { option_map (λ items. map view items.now) result ≡ needed items_in name.now (view value.now) }
+    ensures { option_map (λ items. map view items.now) result
+        ≡ needed items_in name.now (view value.now) }
 {
     items_in(value.get(name)?)
 }
 
 /// The list that a member is, empty where the member is missing.
 pub fn list_or_empty<'a>(value: &'a Value, name: &str) -> Option<&'a [Value]>
-    ensures { option_map (λ items. map view items.now) result ≡ or_default items_in [] name.now (view value.now) }
+    ensures { option_map (λ items. map view items.now) result
+        ≡ or_default items_in [] name.now (view value.now) }
 {
     match value.get(name) {
         Some(member) => items_in(member),
@@ -138,7 +140,8 @@ pub fn list_or_empty<'a>(value: &'a Value, name: &str) -> Option<&'a [Value]>
 
 /// The list that a member is, if it is there.
 pub fn list_if_there<'a>(value: &'a Value, name: &str) -> Option<Option<&'a [Value]>>
-    ensures { option_map (λ there. option_map (λ items. map view items.now) there) result ≡ if_there items_in name.now (view value.now) }
+    ensures { option_map (λ there. option_map (λ items. map view items.now) there) result
+        ≡ if_there items_in name.now (view value.now) }
 {
     match value.get(name) {
         Some(member) => Some(Some(items_in(member)?)),
@@ -182,14 +185,16 @@ pub fn number_if_there(value: &Value, name: &str) -> Option<Option<u32>>
 
 /// The text or the whole number that a member is.
 pub fn state_at<'a>(value: &'a Value, name: &str) -> Option<&'a Value>
-    ensures { option_map (λ state. view state.now) result ≡ needed state_of name.now (view value.now) }
+    ensures { option_map (λ state. view state.now) result
+        ≡ needed state_of name.now (view value.now) }
 {
     state_of(value.get(name)?)
 }
 
 /// The whole number of 32 bits that the member is, or this one where it is missing.
 pub fn number_given(member: Option<&Value>, default: u32) -> Option<u32>
-    ensures { result ≡ option_map_or number_of (option_map (λ m. view m.now) member.entry) (Some default) }
+    ensures { result
+        ≡ option_map_or number_of (option_map (λ m. view m.now) member.entry) (Some default) }
 {
     match member {
         Some(member) => number_of(member),
@@ -199,7 +204,8 @@ pub fn number_given(member: Option<&Value>, default: u32) -> Option<u32>
 
 /// The flag that the member is, or this one where it is missing.
 pub fn flag_given(member: Option<&Value>, default: bool) -> Option<bool>
-    ensures { result ≡ option_map_or as_bool (option_map (λ m. view m.now) member.entry) (Some default) }
+    ensures { result
+        ≡ option_map_or as_bool (option_map (λ m. view m.now) member.entry) (Some default) }
 {
     match member {
         Some(member) => member.as_bool(),
@@ -209,7 +215,8 @@ pub fn flag_given(member: Option<&Value>, default: bool) -> Option<bool>
 
 /// The text or the whole number that the member is, if it is there.
 pub fn state_given(member: Option<&Value>) -> Option<Option<&Value>>
-    ensures { option_map (λ there. option_map (λ state. view state.now) there) result ≡ option_map_or (present state_of) (option_map (λ m. view m.now) member.entry) (Some None) }
+    ensures { option_map (λ there. option_map (λ state. view state.now) there) result
+        ≡ option_map_or (present state_of) (option_map (λ m. view m.now) member.entry) (Some None) }
 {
     match member {
         Some(member) => Some(Some(state_of(member)?)),

@@ -34,7 +34,8 @@ fn starts_with_letter(bytes: &[u8]) -> bool
     }
 }
 
-/// Whether the text is a name: 1 to 32 characters out of `a` to `z`, `0` to `9`, `_` and `-`, the first a letter.
+/// Whether the text is a name: 1 to 32 characters out of `a` to `z`, `0` to `9`, `_` and `-`, the
+/// first a letter.
 pub fn is_name(text: &str) -> bool
     ensures { result ≡ is_name text.now }
 {
@@ -50,8 +51,8 @@ pub fn place_of(names: &[Text], name: &str) -> Option<usize>
     names.iter().position(|known| name == known.as_str())
 }
 
-/// Names, all different, each with its number from 0 in the order in which they were added. They stand in the value that
-/// is read, and are not copied.
+/// Names, all different, each with its number from 0 in the order in which they were added. They
+/// stand in the value that is read, and are not copied.
 #[derive(Drop)]
 pub struct Names<'a> {
     names: IndexSet<&'a str>,

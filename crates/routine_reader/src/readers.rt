@@ -22,7 +22,8 @@ use std::alloc::Global;
 /// The value of these bytes.
 fn read_value(alloc: Global, bytes: &[u8]) -> Result<Json, ReadFault>
     ensures reading { IfOk result (λ value. json_value_of bytes.now ≡ Some (view value)) }
-    ensures refused { IfErr result (λ fault. is_memory fault ≡ false → (fault ≡ ReadFault.NotJson) × (json_value_of bytes.now ≡ None)) }
+    ensures refused { IfErr result (λ fault. is_memory fault ≡ false
+        → (fault ≡ ReadFault.NotJson) × (json_value_of bytes.now ≡ None)) }
 {
     match Json::from_slice(alloc, bytes) {
         Ok(value) => Ok(value),
@@ -46,7 +47,12 @@ struct Members<'a> {
 }
 
 fn members_of(value: &Json) -> Option<Members<'_>>
-    ensures { option_map (λ members. record { version = members.version; devices = map view members.devices.now; routines = map view members.routines.now; windows = map view members.windows.now }) result ≡ day_members (view value.now) }
+    ensures { option_map (λ members. record {
+      version = members.version;
+      devices = map view members.devices.now;
+      routines = map view members.routines.now;
+      windows = map view members.windows.now;
+    }) result ≡ day_members (view value.now) }
 {
     if !has_form(Form::Day, value) {
         return None;
@@ -65,8 +71,14 @@ fn read_parts(alloc: Global, members: &Members<'_>) -> Result<Script, ReadFault>
     requires devices { length members.now.devices.now ≤ most_devices }
     requires routines { length members.now.routines.now ≤ most_routines }
     requires windows { length members.now.windows.now ≤ most_windows }
-    ensures reading { IsReading plain_script result (parts_reading (record { version = members.now.version; devices = map view members.now.devices.now; routines = map view members.now.routines.now; windows = map view members.now.windows.now })) }
-    ensures in_range { IfOk result (λ script. All (λ window. IsCivilTime window.at) script.windows.items) }
+    ensures reading { IsReading plain_script result (parts_reading (record {
+      version = members.now.version;
+      devices = map view members.now.devices.now;
+      routines = map view members.now.routines.now;
+      windows = map view members.now.windows.now;
+    })) }
+    ensures in_range { IfOk result
+        (λ script. All (λ window. IsCivilTime window.at) script.windows.items) }
 {
     let devices = read_devices(alloc, members.devices)?;
     let routines = read_routines(alloc, members.version, &devices, members.routines)?;
@@ -81,7 +93,12 @@ fn read_parts(alloc: Global, members: &Members<'_>) -> Result<Script, ReadFault>
 /// Reads a script of version 1 or 2, with no more of each than the limit.
 #[tactic(auto, unfolding(crate::specs::Readings::members_reading))]
 fn read_members(alloc: Global, members: &Members<'_>) -> Result<Script, ReadFault>
-    ensures reading { IsReading plain_script result (members_reading (record { version = members.now.version; devices = map view members.now.devices.now; routines = map view members.now.routines.now; windows = map view members.now.windows.now })) }
+    ensures reading { IsReading plain_script result (members_reading (record {
+      version = members.now.version;
+      devices = map view members.now.devices.now;
+      routines = map view members.now.routines.now;
+      windows = map view members.now.windows.now;
+    })) }
     ensures sound { IfOk result (λ script. IsSound (plain_script script)) }
 {
     if members.version != UNGUARDED && members.version != GUARDED {
@@ -110,21 +127,26 @@ fn read_top(alloc: Global, value: &Json) -> Result<Script, ReadFault>
 ///
 /// The first of these, in this order:
 ///
-/// - `TooMany` with `Bytes` for more than `limits::SCRIPT_BYTES` bytes, and `NotJson` where `serde_json` reads no value;
-/// - at the top: `Shape`, `BadVersion`, and `TooMany` for the devices, the routines and the windows;
-/// - at each device in order: `Shape`, then of its name `BadName` and `DoubleName`, of its states `Shape`, `TooMany`,
-///   `BadName` and `DoubleName`, of its range and its start `BadState`, of its downs `TooMany` and `Shape`;
-/// - at each routine in order: `Shape`, then of its name `BadName` and `DoubleName`, of its commands `Shape` and `TooMany`,
-///   and at each command `Shape`, `UnknownName`, `BadState`, and `TooMany` for `ms` and `takes`;
-/// - at each window in order: `Shape`, `BadTime`, `TooMany` for probes, turns and runs, at each turn `Shape` and
-///   `BadTurn`, and at each run `Shape`, `UnknownName` and `BadFollow`.
+/// - `TooMany` with `Bytes` for more than `limits::SCRIPT_BYTES` bytes, and `NotJson` where
+///   `serde_json` reads no value;
+/// - at the top: `Shape`, `BadVersion`, and `TooMany` for the devices, the routines and the
+///   windows;
+/// - at each device in order: `Shape`, then of its name `BadName` and `DoubleName`, of its states
+///   `Shape`, `TooMany`, `BadName` and `DoubleName`, of its range and its start `BadState`, of its
+///   downs `TooMany` and `Shape`;
+/// - at each routine in order: `Shape`, then of its name `BadName` and `DoubleName`, of its
+///   commands `Shape` and `TooMany`, and at each command `Shape`, `UnknownName`, `BadState`, and
+///   `TooMany` for `ms` and `takes`;
+/// - at each window in order: `Shape`, `BadTime`, `TooMany` for probes, turns and runs, at each
+///   turn `Shape` and `BadTurn`, and at each run `Shape`, `UnknownName` and `BadFollow`.
 ///
 /// `NoMemory` may come at any point.
 #[tactic(auto, unfolding(crate::specs::Readings::script_reading))]
 pub fn read_script(alloc: Global, bytes: &[u8]) -> Result<Script, ReadFault>
     ensures reading { IfOk result (λ script. script_reading bytes.now ≡ Ok (plain_script script)) }
     ensures sound { IfOk result (λ script. IsSound (plain_script script)) }
-    ensures refused { IfErr result (λ fault. is_memory fault ≡ false → script_reading bytes.now ≡ Err fault) }
+    ensures refused { IfErr result
+        (λ fault. is_memory fault ≡ false → script_reading bytes.now ≡ Err fault) }
 {
     if bytes.len() as u64 > limits::SCRIPT_BYTES {
         return Err(ReadFault::TooMany {

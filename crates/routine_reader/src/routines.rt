@@ -27,7 +27,10 @@ struct RoutineMembers<'a> {
 }
 
 fn routine_members(value: &Json) -> Option<RoutineMembers<'_>>
-    ensures { option_map (λ members. record { name = members.name.now; commands = map view members.commands.now }) result ≡ routine_members (view value.now) }
+    ensures { option_map (λ members. record {
+      name = members.name.now;
+      commands = map view members.commands.now;
+    }) result ≡ routine_members (view value.now) }
 {
     if !has_form(Form::Routine, value) {
         return None;
@@ -48,7 +51,8 @@ fn read_each_command(
     requires devices { AreDevices devices.now }
     requires few { length values.now ≤ most_commands }
     ensures { IsReading (λ commands. commands.items) result
-        (read_each (next_command_read version (map plain_device devices.now.texts.items) routine) [] (map view values.now)) }
+        (read_each (next_command_read version (map plain_device devices.now.texts.items) routine) []
+        (map view values.now)) }
 {
     let mut commands = List::new(alloc);
     commands.reserve(values.len() as u64)?;
@@ -70,8 +74,8 @@ fn read_commands(
     values: &[Json],
 ) -> Result<List<Command>, ReadFault>
     requires { AreDevices devices.now }
-    ensures { IsReading (λ commands. commands.items) result
-        (commands_reading version (map plain_device devices.now.texts.items) routine (map view values.now)) }
+    ensures { IsReading (λ commands. commands.items) result (commands_reading version
+        (map plain_device devices.now.texts.items) routine (map view values.now)) }
 {
     if values.is_empty() {
         return Err(ReadFault::Shape(Part::Routine.at(routine)));
@@ -80,8 +84,8 @@ fn read_commands(
     read_each_command(alloc, version, devices, routine, values)
 }
 
-/// Reads the routine with this number of a script of this version, after routines with these names, and adds its name to
-/// them.
+/// Reads the routine with this number of a script of this version, after routines with these names,
+/// and adds its name to them.
 #[tactic(auto, unfolding(crate::specs::Routines::routine_reading))]
 fn read_routine<'a>(
     alloc: Global,
@@ -92,8 +96,8 @@ fn read_routine<'a>(
     value: &'a Json,
 ) -> Result<RoutineText, ReadFault>
     requires { AreDevices devices.now }
-    ensures reading { IsReading plain_routine result
-        (routine_reading version (map plain_device devices.now.texts.items) number names.old (view value.now)) }
+    ensures reading { IsReading plain_routine result (routine_reading version
+        (map plain_device devices.now.texts.items) number names.old (view value.now)) }
     ensures named { IfOk result (λ routine. names.new ≡ names.old ++ routine.name ∷ []) }
 {
     let spot = Part::Routine.at(number);
@@ -126,8 +130,10 @@ pub fn read_routines<'a>(
     requires devices { AreDevices devices.now }
     requires few { length values.now ≤ most_routines }
     ensures reading { IsReading (λ routines. map plain_routine routines.texts.items) result
-        (read_each (next_routine version (map plain_device devices.now.texts.items)) [] (map view values.now)) }
-    ensures names { IfOk result (λ routines. routines.names ≡ routine_names (map plain_routine routines.texts.items)) }
+        (read_each (next_routine version (map plain_device devices.now.texts.items)) []
+        (map view values.now)) }
+    ensures names { IfOk result
+        (λ routines. routines.names ≡ routine_names (map plain_routine routines.texts.items)) }
     ensures few { IfOk result (λ routines. length routines.texts.items ≤ most_routines) }
 {
     let mut names = Names::new(alloc);

@@ -34,7 +34,13 @@ struct WindowMembers<'a> {
 }
 
 fn window_members(value: &Json) -> Option<WindowMembers<'_>>
-    ensures { option_map (λ members. record { at = members.at.now; seed = members.seed; probes = members.probes; turns = map view members.turns.now; runs = map view members.runs.now }) result ≡ window_members (view value.now) }
+    ensures { option_map (λ members. record {
+      at = members.at.now;
+      seed = members.seed;
+      probes = members.probes;
+      turns = map view members.turns.now;
+      runs = map view members.runs.now;
+    }) result ≡ window_members (view value.now) }
 {
     if !has_form(Form::Window, value) {
         return None;
@@ -88,7 +94,8 @@ fn read_each_turn(
     values: &[Json],
 ) -> Result<List<u32>, ReadFault>
     requires { length values.now ≤ most_turns }
-    ensures { IsReading (λ turns. turns.items) result (read_each (next_turn window runs) [] (map view values.now)) }
+    ensures { IsReading (λ turns. turns.items) result
+        (read_each (next_turn window runs) [] (map view values.now)) }
 {
     let mut turns = List::new(alloc);
     turns.reserve(values.len() as u64)?;
@@ -108,7 +115,9 @@ struct RunMembers<'a> {
 }
 
 fn run_members(value: &Json) -> Option<RunMembers<'_>>
-    ensures { option_map (λ members. record { routine = members.routine.now; follows = members.follows }) result ≡ run_members (view value.now) }
+    ensures { option_map
+        (λ members. record { routine = members.routine.now; follows = members.follows }) result
+        ≡ run_members (view value.now) }
 {
     if !has_form(Form::Run, value) {
         return None;
@@ -163,7 +172,8 @@ fn read_each_run(
 ) -> Result<List<RunText>, ReadFault>
     requires routines { length routines.now ≤ most_routines }
     requires few { length values.now ≤ most_runs }
-    ensures { IsReading (λ runs. runs.items) result (read_each (next_run_read routines.now window) [] (map view values.now)) }
+    ensures { IsReading (λ runs. runs.items) result
+        (read_each (next_run_read routines.now window) [] (map view values.now)) }
 {
     let mut runs = List::new(alloc);
     runs.reserve(values.len() as u64)?;
@@ -185,7 +195,8 @@ fn read_window(
     value: &Json,
 ) -> Result<WindowText, ReadFault>
     requires { length routines.now ≤ most_routines }
-    ensures reading { IsReading plain_window result (window_reading routines.now number before (view value.now)) }
+    ensures reading { IsReading plain_window result
+        (window_reading routines.now number before (view value.now)) }
     ensures in_range { IfOk result (λ window. IsCivilTime window.at) }
 {
     let spot = Part::Window.at(number);
@@ -218,7 +229,8 @@ pub fn read_windows(
     requires few { length values.now ≤ most_windows }
     ensures reading { IsReading (λ windows. map plain_window windows.items) result
         (read_each (next_window_read routines.now) [] (map view values.now)) }
-    ensures in_range { IfOk result (λ windows. All (λ window. IsCivilTime window.at) windows.items) }
+    ensures in_range { IfOk result
+        (λ windows. All (λ window. IsCivilTime window.at) windows.items) }
 {
     let mut windows = List::new(alloc);
     windows.reserve(values.len() as u64)?;

@@ -1,5 +1,6 @@
-//! Values are dropped once each, a list keeps its order, and a refused `reserve` leaves it as it was. Each `reserve` here
-//! may be refused: `tools/refused_memory.py --tests` refuses one request for memory after the other.
+//! Values are dropped once each, a list keeps its order, and a refused `reserve` leaves it as it
+//! was. Each `reserve` here may be refused: `tools/refused_memory.py --tests` refuses one request
+//! for memory after the other.
 use chain_arena::{Chain, Knot};
 use std::alloc::Global;
 use std::process::Abort;
@@ -31,7 +32,8 @@ fn told(chain: &Chain<Arc<u64>>) -> u64 {
     sum
 }
 
-/// Makes room for `n` more values. Where memory for it is refused the list is as before, and the call is made once more.
+/// Makes room for `n` more values. Where memory for it is refused the list is as before, and the
+/// call is made once more.
 fn make_room(chain: &mut Chain<Arc<u64>>, n: u32) -> bool {
     let (sum, spare) = (told(chain), chain.spare());
     if chain.reserve(n).is_ok() {
@@ -40,7 +42,8 @@ fn make_room(chain: &mut Chain<Arc<u64>>, n: u32) -> bool {
     told(chain) == sum && chain.spare() == spare && chain.reserve(n).is_ok()
 }
 
-/// Pushes ten values, with a block that grows each time, and keeps each, and its knot. False where there is no room.
+/// Pushes ten values, with a block that grows each time, and keeps each, and its knot. False where
+/// there is no room.
 fn push_ten(
     alloc: Global,
     values: &mut Vec<Arc<u64>>,
@@ -58,7 +61,8 @@ fn push_ten(
     Ok(true)
 }
 
-/// Takes three of the ten out, and drops those to the left of another. What is left is counted by its owners.
+/// Takes three of the ten out, and drops those to the left of another. What is left is counted by
+/// its owners.
 fn drop_eight(rt: &impl Abort, values: &[Arc<u64>], knots: &[Knot], chain: &mut Chain<Arc<u64>>) {
     // no block has so many places
     let sum = told(chain);

@@ -1,4 +1,5 @@
-//! A lamp fails at a run's first access and comes back, and a fan fails between two accesses of the run, which is lost.
+//! A lamp fails at a run's first access and comes back, and a fan fails between two accesses of the
+//! run, which is lost.
 ghost use Rattle.std.specs.Prelude.{◌≡◌, ◌<◌, IfOk, IsTrue, Some, false, length};
 ghost use Rattle.command_rules.specs.Footprints.{FitsIndex};
 ghost use Rattle.command_rules.specs.Rosters.{is_run, runs_of};

@@ -1,5 +1,6 @@
-//! A journal on a disk that fails, on bytes that were torn, at its greatest size, and in the file of the system. The stored
-//! bytes and outcomes are those of `reference/journal.py`, which checks them here.
+//! A journal on a disk that fails, on bytes that were torn, at its greatest size, and in the file
+//! of the system. The stored bytes and outcomes are those of `reference/journal.py`, which checks
+//! them here.
 ghost use Rattle.home_journal.specs.Journals.{IsStateOf};
 ghost use Rattle.home_types.specs.Limits.{most_devices, most_windows};
 ghost use Rattle.std.specs.Prelude.{◌≡◌, ◌≤◌, [], ◌∷◌, IfOk, length};
@@ -14,15 +15,15 @@ use std::rt::Files;
 /// A file that keeps one state of a home with a lamp, which is on.
 const ONE_LAMP: [u8; 13] = [1, 1, 0, 0, 0, 1, 0, 1, 0, 0, 0, 1, 0];
 
-/// A file that keeps two states of a home with a lamp and a heater from 10 to 30: off and 18, then on and 25, where the
-/// heater is down.
+/// A file that keeps two states of a home with a lamp and a heater from 10 to 30: off and 18, then
+/// on and 25, where the heater is down.
 const TWO_DEVICES: [u8; 35] = [
     1, 1, 0, 0, 0, 2, 0, 0, 0, 0, 0, 1, 18, 0, 0, 0, 1, 1, 2, 0, 0, 0, 2, 0, 1, 0, 0, 0, 1, 25, 0,
     0, 0, 0, 0,
 ];
 
-/// How many states the second file keeps, or a letter for the place of the first slot that is not good, with each of its
-/// bytes in turn set to 0, to 1, to 2 and to 255.
+/// How many states the second file keeps, or a letter for the place of the first slot that is not
+/// good, with each of its bytes in turn set to 0, to 1, to 2 and to 255.
 const TORN: [(u8, &str); 4] = [
     (0, "0a222a222222a22221b222b222222b22222"),
     (1, "22aaaaa2aaa2aaaa22bbbbbb2bbb2bbbb22"),
@@ -61,7 +62,8 @@ fn disk_of(alloc: Global, bytes: &[u8], fails_from: Option<u64>) -> Result<Memor
     MemoryDisk::new(alloc, Bytes::of(alloc, bytes)?, ROOM, fails_from)
 }
 
-/// A digit for how many states are kept on the disk, or a letter for the place of the first slot that is not good.
+/// A digit for how many states are kept on the disk, or a letter for the place of the first slot
+/// that is not good.
 fn outcome(alloc: Global, disk: MemoryDisk, kinds: &List<Kind>, most: u32) -> u8
     requires devices { length kinds.now.items ≤ most_devices }
     requires windows { most ≤ most_windows }
@@ -82,8 +84,8 @@ fn outcome(alloc: Global, disk: MemoryDisk, kinds: &List<Kind>, most: u32) -> u8
     }
 }
 
-/// Opens a journal for one window of a home with a lamp, on an empty disk that fails from this call on, and keeps a state.
-/// Answers the disk, and whether all went well.
+/// Opens a journal for one window of a home with a lamp, on an empty disk that fails from this call
+/// on, and keeps a state. Answers the disk, and whether all went well.
 fn kept_one(rt: &impl Abort, alloc: Global, fails_from: u64) -> (MemoryDisk, bool) {
     let kinds = one_lamp(alloc).expect(rt, "memory");
     let home = lamp_on(alloc).expect(rt, "memory");
@@ -154,7 +156,8 @@ fn a_file_that_is_cut(rt: HostRuntime) {
     }
 }
 
-/// The last state of a journal that is opened by three calls of its disk; none where it needs more or is damaged.
+/// The last state of a journal that is opened by three calls of its disk; none where it needs more
+/// or is damaged.
 fn last_by_three_calls(
     alloc: Global,
     bytes: &[u8],
@@ -230,8 +233,8 @@ fn the_greatest_journal_is_read_by_one_call(rt: HostRuntime) {
     );
 }
 
-/// Opens the journal of a home with a lamp in the file of the system, and keeps a state where none is kept. Answers how
-/// many were, and whether the lamp was on in the last one.
+/// Opens the journal of a home with a lamp in the file of the system, and keeps a state where none
+/// is kept. Answers how many were, and whether the lamp was on in the last one.
 fn kept_in_the_file<R: Files + Drop>(alloc: Global, files: R) -> Result<(u32, bool), OpenFault> {
     let (Ok(kinds), Ok(home)) = (one_lamp(alloc), lamp_on(alloc)) else {
         return Err(OpenFault::NoMemory);

@@ -1,5 +1,5 @@
-//! How often the labels of a line are given anew, into which one item after another comes at the same place; and which
-//! neighbours of a line are apart, so that they may be exchanged.
+//! How often the labels of a line are given anew, into which one item after another comes at the
+//! same place; and which neighbours of a line are apart, so that they may be exchanged.
 ghost use Rattle.std.specs.Prelude.{◌≡◌, ◌∷◌, [], IfOk, IsTrue};
 ghost use Rattle.command_rules.specs.Footprints.{FitsIndex};
 ghost use Rattle.command_rules.specs.Rosters.{is_run, runs_of};
@@ -70,7 +70,8 @@ fn open_line(alloc: Global, follows: Option<RunNo>) -> Result<Line, NoMemory>
     Ok(line)
 }
 
-/// Puts an item into the line. Refuses one that is there, and a place behind the end or before an item that is sealed.
+/// Puts an item into the line. Refuses one that is there, and a place behind the end or before an
+/// item that is sealed.
 fn put(line: &mut Line, at: u32, item: Item) -> Result<(), NoMemory>
     requires { IsTrue (is_known line.old.runs item) }
     ensures { line.new.runs ≡ line.old.runs }
@@ -86,9 +87,9 @@ fn put(line: &mut Line, at: u32, item: Item) -> Result<(), NoMemory>
     Ok(())
 }
 
-/// The first item is sealed, and each failure comes right behind it, before the others. Between two labels a label is
-/// found at most 64 times in a row, so those of the items that are not sealed are given anew, again and again; the sealed
-/// one keeps its own, and all rise.
+/// The first item is sealed, and each failure comes right behind it, before the others. Between two
+/// labels a label is found at most 64 times in a row, so those of the items that are not sealed are
+/// given anew, again and again; the sealed one keeps its own, and all rise.
 #[test]
 fn labels_are_given_anew_behind_what_is_sealed(rt: HostRuntime) {
     let mut line = open_line(rt.alloc(), None).expect(&rt, "a line");

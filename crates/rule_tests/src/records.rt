@@ -1,4 +1,5 @@
-//! A record of two windows, and what an independent program says of it and of records that differ from it in one place.
+//! A record of two windows, and what an independent program says of it and of records that differ
+//! from it in one place.
 
 use home_types::{DeviceNo, RunNo};
 use order_checker::{Place, Verdict, check_record};
@@ -6,14 +7,18 @@ use routine_reader::read_script;
 use std::alloc::Global;
 use std::process::Abort;
 
-const SCRIPT: &str =
-    "{\"safehome\":1,\"devices\":[{\"name\":\"lamp\",\"states\":[\"off\",\"on\"],\"start\":\"off\"},\
+const SCRIPT: &str = "{\"safehome\":1,\"devices\":[{\"name\":\"lamp\",\"states\":[\"off\",\"on\"],\
+    \"start\":\"off\"},\
     {\"name\":\"fan\",\"states\":[\"off\",\"low\",\"high\"],\"start\":\"off\"},\
     {\"name\":\"heat\",\"low\":10,\"high\":30,\"start\":18}],\"routines\":[\
-    {\"name\":\"light\",\"commands\":[{\"on\":\"lamp\",\"do\":\"set\",\"to\":\"on\"},{\"on\":\"fan\",\"do\":\"set\",\"to\":\"high\",\"must\":false}]},\
-    {\"name\":\"warm\",\"commands\":[{\"on\":\"heat\",\"do\":\"load\"},{\"on\":\"lamp\",\"do\":\"check\",\"to\":\"on\"},{\"on\":\"heat\",\"do\":\"set\",\"to\":21}]},\
-    {\"name\":\"dark\",\"commands\":[{\"on\":\"lamp\",\"do\":\"set\",\"to\":\"off\"}]}],\"windows\":[\
-    {\"at\":\"2021-04-26T07:00:00\",\"runs\":[{\"routine\":\"light\"},{\"routine\":\"warm\",\"follows\":1},{\"routine\":\"dark\"},{\"routine\":\"dark\"}]},\
+    {\"name\":\"light\",\"commands\":[{\"on\":\"lamp\",\"do\":\"set\",\"to\":\"on\"},\
+    {\"on\":\"fan\",\"do\":\"set\",\"to\":\"high\",\"must\":false}]},\
+    {\"name\":\"warm\",\"commands\":[{\"on\":\"heat\",\"do\":\"load\"},\
+    {\"on\":\"lamp\",\"do\":\"check\",\"to\":\"on\"},{\"on\":\"heat\",\"do\":\"set\",\"to\":21}]},\
+    {\"name\":\"dark\",\"commands\":[{\"on\":\"lamp\",\"do\":\"set\",\"to\":\"off\"}]}],\
+    \"windows\":[\
+    {\"at\":\"2021-04-26T07:00:00\",\"runs\":[{\"routine\":\"light\"},\
+    {\"routine\":\"warm\",\"follows\":1},{\"routine\":\"dark\"},{\"routine\":\"dark\"}]},\
     {\"at\":\"2021-04-26T08:05:09\",\"runs\":[{\"routine\":\"dark\"}]}]}";
 
 const RECORD: &str = "safehome day\n\
@@ -194,8 +199,16 @@ fn judges_the_order(rt: HostRuntime) {
 #[test]
 fn lets_a_run_stand_that_follows_an_aborted_one(rt: HostRuntime) {
     let cases = [(
-        "run 1 light committed . -\nrun 2 warm committed 18 on .\nrun 3 dark aborted lost fan\nrun 4 dark aborted must 1\norder fail(fan) 1 2 back(fan)",
-        "run 1 light aborted lost fan\nrun 2 warm committed 18 on .\nrun 3 dark aborted lost fan\nrun 4 dark aborted must 1\norder fail(fan) 2 back(fan)",
+        "run 1 light committed . -\n\
+        run 2 warm committed 18 on .\n\
+        run 3 dark aborted lost fan\n\
+        run 4 dark aborted must 1\n\
+        order fail(fan) 1 2 back(fan)",
+        "run 1 light aborted lost fan\n\
+        run 2 warm committed 18 on .\n\
+        run 3 dark aborted lost fan\n\
+        run 4 dark aborted must 1\n\
+        order fail(fan) 2 back(fan)",
         at(1, answer(2, 1)),
     )];
     try_all(&rt, rt.alloc(), &cases);
@@ -235,8 +248,14 @@ fn refuses_another_value_than_the_printed(rt: HostRuntime) {
 #[test]
 fn refuses_a_must_command_that_fails(rt: HostRuntime) {
     let cases = [(
-        "run 2 warm committed 18 on .\nrun 3 dark aborted lost fan\nrun 4 dark aborted must 1\norder fail(fan) 1 2 back(fan)",
-        "run 2 warm committed 18 off .\nrun 3 dark committed .\nrun 4 dark aborted must 1\norder fail(fan) 1 3 2 back(fan)",
+        "run 2 warm committed 18 on .\n\
+        run 3 dark aborted lost fan\n\
+        run 4 dark aborted must 1\n\
+        order fail(fan) 1 2 back(fan)",
+        "run 2 warm committed 18 off .\n\
+        run 3 dark committed .\n\
+        run 4 dark aborted must 1\n\
+        order fail(fan) 1 3 2 back(fan)",
         at(1, answer(2, 1)),
     )];
     try_all(&rt, rt.alloc(), &cases);

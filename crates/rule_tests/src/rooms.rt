@@ -1,5 +1,5 @@
-//! A home of three rooms: which they are, what each has of a window, and which windows are refused. What is expected was
-//! found by an independent program.
+//! A home of three rooms: which they are, what each has of a window, and which windows are refused.
+//! What is expected was found by an independent program.
 ghost use Rattle.routine_reader.specs.Scripts.{plain_script};
 ghost use Rattle.routine_reader.specs.Sound.{IsSound};
 ghost use Rattle.std.specs.Prelude.{IfOk};
@@ -10,16 +10,22 @@ use routine_reader::{ReadFault, Script, read_script};
 use std::alloc::Global;
 
 const SCRIPT: &str =
-    "{\"safehome\":1,\"devices\":[{\"name\":\"hall_lamp\",\"states\":[\"off\",\"on\"],\"start\":\"off\"},\
+    "{\"safehome\":1,\"devices\":[{\"name\":\"hall_lamp\",\"states\":[\"off\",\"on\"],\
+    \"start\":\"off\"},\
     {\"name\":\"bed_lamp\",\"states\":[\"off\",\"on\"],\"start\":\"off\"},\
     {\"name\":\"hall_fan_top\",\"states\":[\"off\",\"on\"],\"start\":\"off\"},\
     {\"name\":\"den\",\"low\":0,\"high\":9,\"start\":3}],\"routines\":[\
     {\"name\":\"sleep\",\"commands\":[{\"on\":\"bed_lamp\",\"do\":\"set\",\"to\":\"on\"}]},\
-    {\"name\":\"air\",\"commands\":[{\"on\":\"hall_fan_top\",\"do\":\"set\",\"to\":\"on\"},{\"on\":\"hall_lamp\",\"do\":\"load\"}]},\
-    {\"name\":\"leave\",\"commands\":[{\"on\":\"hall_lamp\",\"do\":\"set\",\"to\":\"off\"},{\"on\":\"den\",\"do\":\"set\",\"to\":9}]}],\"windows\":[\
-    {\"at\":\"2021-04-26T07:00:00\",\"runs\":[{\"routine\":\"sleep\"},{\"routine\":\"air\"},{\"routine\":\"air\",\"follows\":2}]},\
-    {\"at\":\"2021-04-26T08:00:00\",\"runs\":[{\"routine\":\"sleep\"},{\"routine\":\"air\",\"follows\":1},{\"routine\":\"leave\"}]},\
-    {\"at\":\"2021-04-26T09:00:00\",\"runs\":[{\"routine\":\"sleep\"},{\"routine\":\"leave\",\"follows\":1}]}]}";
+    {\"name\":\"air\",\"commands\":[{\"on\":\"hall_fan_top\",\"do\":\"set\",\"to\":\"on\"},\
+    {\"on\":\"hall_lamp\",\"do\":\"load\"}]},\
+    {\"name\":\"leave\",\"commands\":[{\"on\":\"hall_lamp\",\"do\":\"set\",\"to\":\"off\"},\
+    {\"on\":\"den\",\"do\":\"set\",\"to\":9}]}],\"windows\":[\
+    {\"at\":\"2021-04-26T07:00:00\",\"runs\":[{\"routine\":\"sleep\"},{\"routine\":\"air\"},\
+    {\"routine\":\"air\",\"follows\":2}]},\
+    {\"at\":\"2021-04-26T08:00:00\",\"runs\":[{\"routine\":\"sleep\"},\
+    {\"routine\":\"air\",\"follows\":1},{\"routine\":\"leave\"}]},\
+    {\"at\":\"2021-04-26T09:00:00\",\"runs\":[{\"routine\":\"sleep\"},\
+    {\"routine\":\"leave\",\"follows\":1}]}]}";
 
 fn script(alloc: Global) -> Result<Script, ReadFault>
     ensures { IfOk result (λ script. IsSound (plain_script script)) }

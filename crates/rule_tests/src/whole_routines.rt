@@ -75,7 +75,8 @@ fn world(alloc: Global) -> Result<World, NoMemory>
     })
 }
 
-/// Loads the heater and stores to the lamp, beside a check that may find another value, and two commands with a guard.
+/// Loads the heater and stores to the lamp, beside a check that may find another value, and two
+/// commands with a guard.
 fn first_routine(alloc: Global) -> Result<Routine, NoMemory>
     ensures { IfOk result (λ routine. All (λ c. c.device.0 < 3) routine.commands.items) }
 {

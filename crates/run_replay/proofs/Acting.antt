@@ -110,7 +110,9 @@ given_stepped s t a acts grip done entries by =
     (two.1 ∙ ap (λ c. after_give c grip.slip.device.0 (record { maker = a; purpose = purpose_at s grip }) done.stage.told) (ap (at_moment (configuration_of s.hub)) (sym (now_is s t a grip done entries by)) ∙ sym (met_run (configuration_of s.hub) a t.hub.moment by.is.run))) by.place by.moves
 
 -- a run's grip is for a command or an undo
-pub runs_purpose : {D : Type 0} (s : PlayerState D) (a d : ℕ) (purpose : Purpose) → 0 < a → GripsFit s.hub.setting (read_of (configuration_of s.hub)) (configuration_of s.hub).grips → (configuration_of s.hub).grips d ≡ Some (record { maker = a; purpose = purpose }) → (is_command purpose || is_undo purpose) ≡ true
+pub runs_purpose : {D : Type 0} (s : PlayerState D) (a d : ℕ) (purpose : Purpose) → 0 < a
+    → GripsFit s.hub.setting (read_of (configuration_of s.hub)) (configuration_of s.hub).grips
+    → (configuration_of s.hub).grips d ≡ Some (record { maker = a; purpose = purpose }) → (is_command purpose || is_undo purpose) ≡ true
 runs_purpose s a d (Commands k) run fit out = refl
 runs_purpose s a d (Undoes v) run fit out = refl
 runs_purpose s a d (Probes v) run fit out = absurd (let no = fit.probes d a v out in omega (arith, run, no))
@@ -142,7 +144,8 @@ given_keeps s t a grip done entries by = gives_keeps s t a grip done.device (giv
 pub given_stepped_now : {D : Type 0} (now s t : PlayerState D) (a : ℕ) (grip : Gripped D Ready) (done : Gripped D Done) (entries : List Entry) → s ≡ now → IsGivenBack s t a grip done entries → (acts : ℕ) → (later : ℕ) × IsStepped now.rounds a (play_of now acts) (Made entries) (play_of t later)
 given_stepped_now {D = D} now s t a grip done entries same by acts = (acts + 1, subst (λ (x : PlayerState D). IsStepped x.rounds a (play_of x acts) (Made entries) (play_of t (acts + 1))) same (given_stepped s t a acts grip done entries by))
 
-pub given_plans_now : {D P : Type 0} (plan : D → P) (now s t : PlayerState D) (a : ℕ) (grip : Gripped D Ready) (done : Gripped D Done) (entries : List Entry) → s ≡ now → IsGivenBack s t a grip done entries → plan done.device ≡ plan grip.device → (plans : ℕ → P) → HavePlans plan plans now → HavePlans plan plans t
+pub given_plans_now : {D P : Type 0} (plan : D → P) (now s t : PlayerState D) (a : ℕ) (grip : Gripped D Ready) (done : Gripped D Done) (entries : List Entry)
+    → s ≡ now → IsGivenBack s t a grip done entries → plan done.device ≡ plan grip.device → (plans : ℕ → P) → HavePlans plan plans now → HavePlans plan plans t
 given_plans_now {D = D} plan now s t a grip done entries same by own plans have = gives_plans plan plans s t a grip done.device (gives_of s t a grip done entries by) by.is.kept own (subst (λ (x : PlayerState D). HavePlans plan plans x) (sym same) have)
 
 pub given_fewer_now : {D : Type 0} (now s t : PlayerState D) (a : ℕ) (grip : Gripped D Ready) (done : Gripped D Done) (entries : List Entry) → s ≡ now → IsGivenBack s t a grip done entries → length t.hub.history ≤ most_made t → steps_left t < steps_left now
@@ -163,5 +166,8 @@ hand_never {D = D} s a now full value is = let held = full_is s a full in absurd
 pub full_now : {D : Type 0} (now s : PlayerState D) (a : ℕ) → s ≡ now → is_full now a ≡ true → is_full s a ≡ true
 full_now {D = D} now s a same full = subst (λ (x : PlayerState D). is_full x a ≡ true) (sym same) full
 
-pub done_of : {D : Type 0} (now s : PlayerState D) (a : ℕ) (grip : Gripped D Ready) (done : Gripped D Done) → s ≡ now → PlayerIsKept s → 0 < a → is_ended now a ≡ false → slice_get s.grips a ≡ Some (Some grip) → length s.hub.places ≡ length s.hub.setting.first → GripsFit s.hub.setting (read_of (configuration_of s.hub)) (configuration_of s.hub).grips → done.slip ≡ grip.slip → done.task ≡ grip.task → IsDone s a grip done
+pub done_of : {D : Type 0} (now s : PlayerState D) (a : ℕ) (grip : Gripped D Ready) (done : Gripped D Done) → s ≡ now → PlayerIsKept s → 0 < a
+    → is_ended now a ≡ false → slice_get s.grips a ≡ Some (Some grip) → length s.hub.places ≡ length s.hub.setting.first
+    → GripsFit s.hub.setting (read_of (configuration_of s.hub)) (configuration_of s.hub).grips → done.slip ≡ grip.slip → done.task ≡ grip.task
+    → IsDone s a grip done
 done_of {D = D} now s a grip done same kept run going hand size fit slip task = record { kept = kept; run = run; going = subst (λ (x : PlayerState D). is_ended x a ≡ false) (sym same) going; hand = hand; size = size; fit = fit; slip = slip; task = task }

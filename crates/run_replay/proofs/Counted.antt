@@ -48,7 +48,10 @@ pub few_after : {D : Type 0} (now mid new : PlayerState D) (picked : Picked) →
     → new ≡ with_moves (moves_after picked mid.moves) mid → MovesAreFew now → MovesAreFew new
 few_after {D = D} now mid new picked window rounds moves fewer same is few =
     subst (λ (x : PlayerState D). MovesAreFew x) (sym is)
-    (still_few now.moves mid.moves (steps_left now) (steps_left mid) (most_moves (length now.hub.setting.runs) (length now.hub.setting.first) now.hub.rounds now.rounds) (most_moves (length mid.hub.setting.runs) (length mid.hub.setting.first) mid.hub.rounds mid.rounds) picked moves fewer same (same_bound now mid window rounds) few)
+    (still_few now.moves mid.moves (steps_left now) (steps_left mid)
+    (most_moves (length now.hub.setting.runs) (length now.hub.setting.first) now.hub.rounds now.rounds)
+    (most_moves (length mid.hub.setting.runs) (length mid.hub.setting.first) mid.hub.rounds mid.rounds) picked moves fewer same
+    (same_bound now mid window rounds) few)
 
 low_sum : (moves most made empty all place full runs : ℕ) → moves + (2 * (most - made) + empty + 2 * (all - place) + full) ≤ 2 * most + runs + 2 * all → made ≤ most → place ≤ all → made ≤ 59904 → runs ≤ 64 → all ≤ 4294967296 * 256 → moves < 2 ^ 63
 low_sum moves most made empty all place full runs few less within entries low far = omega (arith, few, less, within, entries, low, far)

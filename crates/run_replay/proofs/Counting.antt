@@ -36,7 +36,9 @@ of_filter p from (suc n) i a e = step (λ j found. of_filter p (from + 1) n j a 
     later : (a < from + 1 + n) × (p a ≡ true) → (a < from + suc n) × (p a ≡ true)
     later h = let low = h.0 in (omega (arith, low), h.1)
 
-    step : ((j : ℕ) → slice_get (filter p (range_with_len (from + 1) n)) j ≡ Some a → (a < from + 1 + n) × (p a ≡ true)) → (b : Bool) → p from ≡ b → (i : ℕ) → slice_get (if b then from ∷ filter p (range_with_len (from + 1) n) else filter p (range_with_len (from + 1) n)) i ≡ Some a → (a < from + suc n) × (p a ≡ true)
+    step : ((j : ℕ) → slice_get (filter p (range_with_len (from + 1) n)) j ≡ Some a → (a < from + 1 + n) × (p a ≡ true)) → (b : Bool) → p from ≡ b
+        → (i : ℕ) → slice_get (if b then from ∷ filter p (range_with_len (from + 1) n) else filter p (range_with_len (from + 1) n)) i ≡ Some a
+        → (a < from + suc n) × (p a ≡ true)
     step rest true is zero e = let same : from ≡ a = cc in (omega (arith, same), ap p (sym same) ∙ is)
     step rest true is (suc i) e = later (rest i e)
     step rest false is i e = later (rest i e)

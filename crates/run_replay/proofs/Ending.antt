@@ -25,7 +25,9 @@ use Rattle.std.specs.Prelude.{Bool, IsTrue, None, Option, Some, [], false, filte
 -- each run has ended and no device is out
 pub quiet_where : (s : Configuration) → ((r : ℕ) → is_run s.setting.runs r ≡ true → is_some ((read_of s).run r).ended ≡ true) → ((d : ℕ) → s.grips d ≡ None) → not_quiet s ≡ None
 quiet_where s ended home =
-    let live : find (λ r. is_none ((read_of s).run r).ended) (range_with_len 1 (length s.setting.runs)) ≡ None = find_none (λ r. is_none ((read_of s).run r).ended) 1 (length s.setting.runs) (λ r low high. not_none ((read_of s).run r).ended (ended r (run_there s.setting.runs r (omega (arith, low)) (omega (arith, high))))) in
+    let live : find (λ r. is_none ((read_of s).run r).ended) (range_with_len 1 (length s.setting.runs))
+    ≡ None = find_none (λ r. is_none ((read_of s).run r).ended) 1 (length s.setting.runs)
+    (λ r low high. not_none ((read_of s).run r).ended (ended r (run_there s.setting.runs r (omega (arith, low)) (omega (arith, high))))) in
     let out : find (is_out s.grips) (range_with_len 0 (length s.setting.first)) ≡ None = find_none (is_out s.grips) 0 (length s.setting.first) (λ d low high. ap is_some (home d)) in
     rw (live, out) refl
 

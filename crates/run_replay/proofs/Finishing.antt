@@ -30,7 +30,8 @@ draws_on old now next seed state after count left place before stands rounds som
       let was = before.drawn acts in
       let on = picks was.1 in
       let here : place ≡ below (drawn state) (length (are_live now)) = at ∙ ap (λ x. below x count) moved ∙ ap (below (drawn state)) before.live in
-      let goes = subst (λ k. GoesOn old.rounds (λ course p. pick_first course p (from_place k (are_live now))) (play_of now was.1) (play_of next on.0)) here (subst (λ n. GoesOn n (λ course p. pick_first course p (from_place place (are_live now))) (play_of now was.1) (play_of next on.0)) before.rounds on.1) in
+      let goes = subst (λ k. GoesOn old.rounds (λ course p. pick_first course p (from_place k (are_live now))) (play_of now was.1) (play_of next on.0)) here
+      (subst (λ n. GoesOn n (λ course p. pick_first course p (from_place place (are_live now))) (play_of now was.1) (play_of next on.0)) before.rounds on.1) in
       let size = before.live in (
         suc was.0,
         on.0,

@@ -48,7 +48,9 @@ cut : (p : ℕ → Bool) (from n i a : ℕ) → slice_get (filter p (range_with_
 cut p from zero i a e = absurd (cc)
 cut p from (suc n) i a e = step (λ j found. cut p (from + 1) n j a found) (p from) refl i e
   where
-    step : ((j : ℕ) → slice_get (filter p (range_with_len (from + 1) n)) j ≡ Some a → IsCut p (from + 1) n a (take j (filter p (range_with_len (from + 1) n))) (drop j (filter p (range_with_len (from + 1) n)))) → (b : Bool) → p from ≡ b → (i : ℕ) → slice_get (if b then from ∷ filter p (range_with_len (from + 1) n) else filter p (range_with_len (from + 1) n)) i ≡ Some a
+    step : ((j : ℕ) → slice_get (filter p (range_with_len (from + 1) n)) j ≡ Some a
+        → IsCut p (from + 1) n a (take j (filter p (range_with_len (from + 1) n))) (drop j (filter p (range_with_len (from + 1) n)))) → (b : Bool) → p from ≡ b
+        → (i : ℕ) → slice_get (if b then from ∷ filter p (range_with_len (from + 1) n) else filter p (range_with_len (from + 1) n)) i ≡ Some a
         → IsCut p from (suc n) a (take i (if b then from ∷ filter p (range_with_len (from + 1) n) else filter p (range_with_len (from + 1) n))) (drop i (if b then from ∷ filter p (range_with_len (from + 1) n) else filter p (range_with_len (from + 1) n)))
     step rest true is zero e = cut_here p from n a is (cc)
     step rest true is (suc i) e = cut_later p from n a true _ _ is (rest i e)
@@ -140,7 +142,8 @@ module _ {D : Type 0} (old now : PlayerState D) (all behind : List ℕ) (end : �
   next_at k tried low on = of_drop all (those old (k + 1) end ++ behind) tried.step k (tried.rest ∙ ap (λ xs. xs ++ behind) (next_live old k end low (sym (tried.waited.ends k) ∙ on)))
 
   -- .. it was picked, and waited
-  pub number_waits : (next : PlayerState D) (k : ℕ) (picked : Picked) → HaveTried old now all (those old k end ++ behind) → k < end → is_ended now k ≡ false → PlayerStands next → next.rounds ≡ now.rounds → next.hub.rounds ≡ now.hub.rounds → PickedNext now k picked next → is_waiting_pick picked ≡ true
+  pub number_waits : (next : PlayerState D) (k : ℕ) (picked : Picked) → HaveTried old now all (those old k end ++ behind) → k < end → is_ended now k ≡ false
+      → PlayerStands next → next.rounds ≡ now.rounds → next.hub.rounds ≡ now.hub.rounds → PickedNext now k picked next → is_waiting_pick picked ≡ true
       → HaveTried old next all (those old (k + 1) end ++ behind)
   number_waits next k picked tried low on stands rounds probes picks wait =
       let two = next_at k tried low on in

@@ -176,8 +176,15 @@ rest_live course p none = rw none refl
 abbrev pub next_device : {D : Type 0} → PlayerState D → ℕ
 next_device s = s.place % length s.hub.setting.first
 
-by_probe : (p : Play) (b : Bool) → may_probe p.configuration (p.place % length p.configuration.setting.first) ≡ b → detector_takes p ≡ (if b then record { picked = Took (p.place % length p.configuration.setting.first); next = record p { configuration = after_take_probe p.configuration (p.place % length p.configuration.setting.first); place = p.place + 1 } } else passes (record p { place = p.place + 1 }))
-by_probe p b is = ap (λ (x : Bool). if x then record { picked = Took (p.place % length p.configuration.setting.first); next = record p { configuration = after_take_probe p.configuration (p.place % length p.configuration.setting.first); place = p.place + 1 } } else passes (record p { place = p.place + 1 })) is
+by_probe : (p : Play) (b : Bool) → may_probe p.configuration (p.place % length p.configuration.setting.first) ≡ b → detector_takes p ≡ (if b then record {
+  picked = Took (p.place % length p.configuration.setting.first);
+  next = record p { configuration = after_take_probe p.configuration (p.place % length p.configuration.setting.first); place = p.place + 1 };
+} else passes (record p { place = p.place + 1 }))
+by_probe p b is =
+    ap (λ (x : Bool). if x then record {
+      picked = Took (p.place % length p.configuration.setting.first);
+      next = record p { configuration = after_take_probe p.configuration (p.place % length p.configuration.setting.first); place = p.place + 1 };
+    } else passes (record p { place = p.place + 1 })) is
 
 pub detector_passed : {D : Type 0} (s t : PlayerState D) (acts : ℕ) → PlayerIsKept s → slice_get s.grips 0 ≡ Some None
     → may_probe (configuration_of s.hub) (next_device s) ≡ false → configuration_of t.hub ≡ configuration_of s.hub → t.place ≡ s.place + 1 → t.moves ≡ s.moves → IsStepped s.rounds 0 (play_of s acts) Passed (play_of t acts)

@@ -29,5 +29,7 @@ take_whole (y ∷ xs) zero low = absurd (omega (arith, low))
 take_whole (y ∷ xs) (suc i) low = ap (λ zs. y ∷ zs) (take_whole xs i (omega (arith, low)))
 
 -- the list is played
-pub played_whole : {D : Type 0} (start s : PlayerState D) (rounds i : ℕ) (picks : List ℕ) → length picks ≤ i → ((acts : ℕ) → (later : ℕ) × ArePicked rounds (take i picks) (play_of start acts) (play_of s later)) → (acts : ℕ) → (later : ℕ) × ArePicked rounds picks (play_of start acts) (play_of s later)
+pub played_whole : {D : Type 0} (start s : PlayerState D) (rounds i : ℕ) (picks : List ℕ) → length picks ≤ i
+    → ((acts : ℕ) → (later : ℕ) × ArePicked rounds (take i picks) (play_of start acts) (play_of s later))
+    → (acts : ℕ) → (later : ℕ) × ArePicked rounds picks (play_of start acts) (play_of s later)
 played_whole start s rounds i picks low before acts = let first = before acts in (first.0, subst (λ xs. ArePicked rounds xs (play_of start acts) (play_of s first.0)) (take_whole picks i low) first.1)

@@ -82,7 +82,11 @@ pub record GoesToDetector {D : Type 0} (s t : PlayerState D) (d : ℕ) (grip : G
 taken : {D : Type 0} (s t : PlayerState D) (d : ℕ) (grip : Gripped D Ready) → GoesToDetector s t d grip → (may_probe (configuration_of s.hub) d ≡ true) × (configuration_of t.hub ≡ after_take_probe (configuration_of s.hub) d) × IsSlipOf 0 d grip.slip
 taken s t d grip is = took_probe (hub_state_of s.hub) (hub_state_of t.hub) d grip.slip grip.task is.probed.0
 
-after : {D : Type 0} (s t : PlayerState D) (d : ℕ) (grip : Gripped D Ready) → GoesToDetector s t d grip → configuration_of t.hub ≡ record (configuration_of s.hub) { probes = put (configuration_of s.hub).probes d ((configuration_of s.hub).probes d - 1); grips = put (configuration_of s.hub).grips d (Some (probe_grip (configuration_of s.hub) d)) }
+after : {D : Type 0} (s t : PlayerState D) (d : ℕ) (grip : Gripped D Ready) → GoesToDetector s t d grip
+    → configuration_of t.hub ≡ record (configuration_of s.hub) {
+      probes = put (configuration_of s.hub).probes d ((configuration_of s.hub).probes d - 1);
+      grips = put (configuration_of s.hub).grips d (Some (probe_grip (configuration_of s.hub) d));
+    }
 after s t d grip is = let three = taken s t d grip is in three.1 ∙ probed_so (configuration_of s.hub) d three.0
 
 same_history : {D : Type 0} (s t : PlayerState D) (d : ℕ) (grip : Gripped D Ready) → GoesToDetector s t d grip → t.hub.history ≡ s.hub.history
@@ -160,7 +164,9 @@ holds {D = D} now s hand grip same kept size going full value is = record {
 }
 
 -- the grip that was done is the one with which its device is out, so it is not refused
-pub probe_not_refused : {D : Type 0} (s : PlayerState D) (t : OpenHub D) (grip : Gripped D Ready) (done : Gripped D Done) (x : Stranger) → IsHeld s grip → done.slip ≡ grip.slip → done.task ≡ grip.task → HubStep (hub_state_of s.hub) (GiveProbe (carried_by done) done.stage.told) (Returned (Refused x)) (hub_state_of t) → ⊥
+pub probe_not_refused : {D : Type 0} (s : PlayerState D) (t : OpenHub D) (grip : Gripped D Ready) (done : Gripped D Done) (x : Stranger) → IsHeld s grip
+    → done.slip ≡ grip.slip → done.task ≡ grip.task
+    → HubStep (hub_state_of s.hub) (GiveProbe (carried_by done) done.stage.told) (Returned (Refused x)) (hub_state_of t) → ⊥
 probe_not_refused {D = D} s t grip done x is slip task step = probe_never_refused (hub_state_of s.hub) (hub_state_of t) (carried_by done) done.stage.told x carried (ap (λ (y : Slip). y.maker) slip ∙ is.kept.makers 0 grip is.hand) step
   where
     carried : carried_in (slice_get s.hub.places done.slip.device.0) ≡ Some (carried_by done)
@@ -204,7 +210,9 @@ back_stepped : {D : Type 0} (s t : PlayerState D) (acts : ℕ) (grip : Gripped D
 back_stepped s t acts grip done entries is =
     let two = came_back s t grip done entries is in
     let none = no_time s acts (purpose_at s grip) in
-    acted_is_stepped s t 0 acts grip (purpose_at s grip) done.stage.told entries is.held.kept is.held.size is.held.hand (its_grip s grip is.held) (later s.hub.moment t.hub.moment (takes_of (play_of s acts) (record { maker = 0; purpose = purpose_at s grip })) (untouched s t grip done entries is) none) two.0 two.1 is.place is.moves
+    acted_is_stepped s t 0 acts grip (purpose_at s grip) done.stage.told entries is.held.kept is.held.size is.held.hand (its_grip s grip is.held)
+    (later s.hub.moment t.hub.moment (takes_of (play_of s acts) (record { maker = 0; purpose = purpose_at s grip })) (untouched s t grip done entries is) none)
+    two.0 two.1 is.place is.moves
   where
     later : (before after time : ℕ) → after ≡ before → time ≡ 0 → after ≡ before + time
     later before after time same none = omega (arith, same, none)
@@ -258,7 +266,8 @@ passed_others {D = D} now s t d same is q other = same_ends s t q is.window (λ 
 pub back_stepped_now : {D : Type 0} (now s t : PlayerState D) (grip : Gripped D Ready) (done : Gripped D Done) (entries : List Entry) → s ≡ now → ProbeIsBack s t grip done entries → (acts : ℕ) → (later : ℕ) × IsStepped now.rounds 0 (play_of now acts) (Made entries) (play_of t later)
 back_stepped_now {D = D} now s t grip done entries same is acts = (acts + 1, subst (λ (x : PlayerState D). IsStepped x.rounds 0 (play_of x acts) (Made entries) (play_of t (acts + 1))) same (back_stepped s t acts grip done entries is))
 
-pub back_plans_now : {D P : Type 0} (plan : D → P) (now s t : PlayerState D) (grip : Gripped D Ready) (done : Gripped D Done) (entries : List Entry) → s ≡ now → ProbeIsBack s t grip done entries → plan done.device ≡ plan grip.device → (plans : ℕ → P) → HavePlans plan plans now → HavePlans plan plans t
+pub back_plans_now : {D P : Type 0} (plan : D → P) (now s t : PlayerState D) (grip : Gripped D Ready) (done : Gripped D Done) (entries : List Entry) → s ≡ now
+    → ProbeIsBack s t grip done entries → plan done.device ≡ plan grip.device → (plans : ℕ → P) → HavePlans plan plans now → HavePlans plan plans t
 back_plans_now {D = D} plan now s t grip done entries same is own plans have = gives_plans plan plans s t 0 grip done.device (gives_it s t grip done entries is) is.held.kept own (subst (λ (x : PlayerState D). HavePlans plan plans x) (sym same) have)
 
 pub back_fewer_now : {D : Type 0} (now s t : PlayerState D) (grip : Gripped D Ready) (done : Gripped D Done) (entries : List Entry) → s ≡ now → ProbeIsBack s t grip done entries → steps_left t < steps_left now

@@ -49,7 +49,9 @@ is_replay hub picks seed rounds first played last went =
     between = (went.plays 0).0
 
 -- the hub is quiet then
-pub quiet_then : {D : Type 0} (tag stands turns probes faults : D → ℕ) (hub : OpenHub D) (picks : List ℕ) (seed rounds : ℕ) (first played last : PlayerState D) → Went hub picks seed rounds first played last → PlayerIsKept last → HubStands tag stands turns probes faults last.hub → not_quiet (configuration_of last.hub) ≡ None
+pub quiet_then : {D : Type 0} (tag stands turns probes faults : D → ℕ) (hub : OpenHub D) (picks : List ℕ) (seed rounds : ℕ) (first played last : PlayerState D)
+    → Went hub picks seed rounds first played last → PlayerIsKept last → HubStands tag stands turns probes faults last.hub
+    → not_quiet (configuration_of last.hub) ≡ None
 quiet_then tag stands turns probes faults hub picks seed rounds first played last went kept stand =
     quiet_at_end last kept stand.grips (sym (actors_are course last later kept stand.size (sym went.rounds_last)) ∙ (went.finishes between).1.over course refl)
   where

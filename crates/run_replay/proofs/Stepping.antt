@@ -42,10 +42,13 @@ fewer : (bound h h' e e' c c' f f' : ℕ) → h < h' → h' ≤ bound → e' ≤
 fewer bound h h' e e' c c' f f' more low most same full = omega (arith, more, low, most, same, full)
 
 -- entries were made, and at most one run gave its grip back
-made_by : {D : Type 0} (s t : PlayerState D) → StaysBy s t → empty_places (drop 1 t.grips) ≤ empty_places (drop 1 s.grips) + 1 → first_is_full t.grips ≡ first_is_full s.grips → t.place ≡ s.place → length s.hub.history < length t.hub.history → length t.hub.history ≤ most_made t → steps_left t < steps_left s
+made_by : {D : Type 0} (s t : PlayerState D) → StaysBy s t → empty_places (drop 1 t.grips) ≤ empty_places (drop 1 s.grips) + 1 → first_is_full t.grips
+    ≡ first_is_full s.grips → t.place ≡ s.place → length s.hub.history < length t.hub.history → length t.hub.history ≤ most_made t → steps_left t < steps_left s
 made_by s t same most full place more bound =
     let runs = same_most s t same.runs same.devices same.probes in
-    let left = fewer (most_made t) (length s.hub.history) (length t.hub.history) (empty_places (drop 1 s.grips)) (empty_places (drop 1 t.grips)) (s.rounds * length s.hub.setting.first - s.place) (t.rounds * length t.hub.setting.first - t.place) (first_is_full s.grips) (first_is_full t.grips) more bound most (rounds_left s t same place) full in
+    let left = fewer (most_made t) (length s.hub.history) (length t.hub.history) (empty_places (drop 1 s.grips)) (empty_places (drop 1 t.grips))
+    (s.rounds * length s.hub.setting.first - s.place) (t.rounds * length t.hub.setting.first - t.place) (first_is_full s.grips)
+    (first_is_full t.grips) more bound most (rounds_left s t same place) full in
     subst (λ n. steps_left t < 2 * (n - length s.hub.history) + empty_places (drop 1 s.grips) + 2 * (s.rounds * length s.hub.setting.first - s.place) + first_is_full s.grips) runs left
 
 -- entries were made

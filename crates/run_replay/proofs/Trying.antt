@@ -158,7 +158,9 @@ stays_by_wait s t a picked before after rounds probes picks wait = record { befo
         let later : pick.0 ≡ acts = ap (λ (x : Play). x.acts) same in
         ap (play_of t) (sym later) ∙ same ∙ same_play s acts
 
-pub one_more_waits : {D : Type 0} (old now next : PlayerState D) (all : List ℕ) (step after a : ℕ) (picked : Picked) → HaveWaited old now all step → PlayerStands next → next.rounds ≡ now.rounds → next.hub.rounds ≡ now.hub.rounds → slice_get all step ≡ Some a → PickedNext now a picked next → is_waiting_pick picked ≡ true → after ≡ step + 1 → HaveWaited old next all after
+pub one_more_waits : {D : Type 0} (old now next : PlayerState D) (all : List ℕ) (step after a : ℕ) (picked : Picked) → HaveWaited old now all step
+    → PlayerStands next → next.rounds ≡ now.rounds → next.hub.rounds ≡ now.hub.rounds → slice_get all step ≡ Some a → PickedNext now a picked next
+    → is_waiting_pick picked ≡ true → after ≡ step + 1 → HaveWaited old next all after
 one_more_waits old now next all step after a picked before stands rounds probes at picks wait is = record {
   stands = stands;
   rounds = rounds ∙ before.rounds;
@@ -216,7 +218,10 @@ first_of [] some = absurd (omega (arith, some))
 first_of (x ∷ xs) some = (x, refl)
 
 pub never_all : {D : Type 0} (old now : PlayerState D) (place step : ℕ) → HaveWaited old now (from_place place (are_live old)) step → length (are_live old) ≤ step → 0 < length (are_live old) → ⊥
-never_all {D = D} old now place step wait all some = not_all_wait course now 0 wait.stands.kept wait.stands.size wait.stands.grips (λ r going home. let q = wait.stands.progress r going.0 going.1 home in (q.0, (q.1, q.2), q.3)) each one.0 within (ended_is course now 0 one.0 wait.stands.kept wait.stands.size refl ∙ on.1)
+never_all {D = D} old now place step wait all some =
+    not_all_wait course now 0 wait.stands.kept wait.stands.size wait.stands.grips
+    (λ r going home. let q = wait.stands.progress r going.0 going.1 home in (q.0, (q.1, q.2), q.3)) each one.0 within
+    (ended_is course now 0 one.0 wait.stands.kept wait.stands.size refl ∙ on.1)
   where
     course : Course
     course = record { rounds = now.rounds; told = λ k. Worked }

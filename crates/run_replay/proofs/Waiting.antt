@@ -21,7 +21,11 @@ take_waits : (p : Play) (r : ℕ) → is_waiting_pick (run_takes p r).picked ≡
 take_waits p r e = ap (λ c. record p { configuration = c }) (wait_changes_nothing (at_moment p.configuration p.moment) r (choice_of p.configuration r p.moment) e)
 
 pub detector_never_waits : (p : Play) → is_waiting_pick (detector_takes p).picked ≡ false
-detector_never_waits p = elim (may_probe p.configuration (p.place % length p.configuration.setting.first)) as (λ b. is_waiting_pick (if b then record { picked = Took (p.place % length p.configuration.setting.first); next = record p { configuration = after_take_probe p.configuration (p.place % length p.configuration.setting.first); place = p.place + 1 } } else passes (record p { place = p.place + 1 })).picked ≡ false) [ true ↦ refl | false ↦ refl ]
+detector_never_waits p =
+    elim (may_probe p.configuration (p.place % length p.configuration.setting.first)) as (λ b. is_waiting_pick (if b then record {
+      picked = Took (p.place % length p.configuration.setting.first);
+      next = record p { configuration = after_take_probe p.configuration (p.place % length p.configuration.setting.first); place = p.place + 1 };
+    } else passes (record p { place = p.place + 1 })).picked ≡ false) [ true ↦ refl | false ↦ refl ]
 
 pub act_never_waits : (course : Course) (p : Play) (d : ℕ) (o : Option Grip) → is_waiting_pick (unwrap_or (option_map (act_on course p d) o) (passes p)).picked ≡ false
 act_never_waits course p d None = refl

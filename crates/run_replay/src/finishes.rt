@@ -13,13 +13,16 @@ use device_states::Device;
 use seeded_draws::Draws;
 
 impl<D: Device> Player<D> {
-    /// Picks actors until every one has ended: each time a place in the list of those that have not is drawn by the
-    /// generator with this seed, and from there on they are picked in cyclic order until one does not wait.
+    /// Picks actors until every one has ended: each time a place in the list of those that have not
+    /// is drawn by the generator with this seed, and from there on they are picked in cyclic order
+    /// until one does not wait.
     pub fn finish(&mut self, seed: u64)
-        ensures finished { (acts : ℕ) → (later : ℕ) × IsFinished self.old.rounds seed (play_of self.old acts) (play_of self.new later) }
+        ensures finished { (acts : ℕ) → (later : ℕ)
+            × IsFinished self.old.rounds seed (play_of self.old acts) (play_of self.new later) }
         ensures window { SameWindow self.old.hub self.new.hub }
         ensures rounds { self.new.rounds ≡ self.old.rounds }
-        ensures plans { (plans : ℕ → _) → HavePlans D.plan plans self.old → HavePlans D.plan plans self.new }
+        ensures plans { (plans : ℕ → _) → HavePlans D.plan plans self.old
+            → HavePlans D.plan plans self.new }
     {
         let mut draws = Draws::new(seed);
         let mut live = self.live_count();
@@ -47,11 +50,13 @@ impl<D: Device> Player<D> {
         self.actors[place as usize]
     }
 
-    /// The first actor from this number on that has not ended and is not known to wait; 65 where there is none.
+    /// The first actor from this number on that has not ended and is not known to wait; 65 where
+    /// there is none.
     fn next_free(&self, from: u32) -> u32
         requires low { from ≤ 65 }
         ensures ahead { from ≤ result }
-        ensures passed { (a : ℕ) → from ≤ a → a < result → (is_ended self.now a ≡ true) ⊎ IsBlocked (configuration_of self.now.hub) a }
+        ensures passed { (a : ℕ) → from ≤ a → a < result
+            → (is_ended self.now a ≡ true) ⊎ IsBlocked (configuration_of self.now.hub) a }
         ensures live { result < 65 → is_ended self.now result ≡ false }
     {
         let blocked = self.hands.blocked_runs();
@@ -65,15 +70,18 @@ impl<D: Device> Player<D> {
         }
     }
 
-    /// Picks the actors that have not ended, from this place of their list on and in cyclic order, until one does not
-    /// wait: there is always one. A run that is known to wait is passed over.
+    /// Picks the actors that have not ended, from this place of their list on and in cyclic order,
+    /// until one does not wait: there is always one. A run that is known to wait is passed over.
     fn pick_from(&mut self, place: u64, live: u64)
         requires live { live ≡ length (are_live self.old) }
         requires place { place < live }
-        ensures picked { (acts : ℕ) → (later : ℕ) × GoesOn self.old.rounds (λ course p. pick_first course p (from_place place (are_live self.old))) (play_of self.old acts) (play_of self.new later) }
+        ensures picked { (acts : ℕ) → (later : ℕ) × GoesOn self.old.rounds
+            (λ course p. pick_first course p (from_place place (are_live self.old)))
+            (play_of self.old acts) (play_of self.new later) }
         ensures window { SameWindow self.old.hub self.new.hub }
         ensures rounds { self.new.rounds ≡ self.old.rounds }
-        ensures plans { (plans : ℕ → _) → HavePlans D.plan plans self.old → HavePlans D.plan plans self.new }
+        ensures plans { (plans : ℕ → _) → HavePlans D.plan plans self.old
+            → HavePlans D.plan plans self.new }
         ensures fewer { steps_left self.new < steps_left self.old }
     {
         self.kept();

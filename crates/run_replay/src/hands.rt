@@ -20,7 +20,8 @@ use std::mem;
 
 /// A hub with the grips that its actors hold: its runs, and the detector, which is the actor 0.
 ///
-/// An actor is stepped where it is picked: one that holds a grip acts and gives it back, any other one takes.
+/// An actor is stepped where it is picked: one that holds a grip acts and gives it back, any other
+/// one takes.
 pub(crate) struct Hands<D: Device> {
     hub: Hub<D>,
     /// The grip of each actor that holds one.
@@ -38,13 +39,26 @@ impl<D: Device> Model for Hands<D> {
 
     ghost Value = { PlayerState D };
 
-    ghost view = { λ p. record { hub = p.hub; grips = p.grips.items; rounds = p.rounds; place = p.place; moves = p.moves } };
+    ghost view = { λ p. record {
+      hub = p.hub;
+      grips = p.grips.items;
+      rounds = p.rounds;
+      place = p.place;
+      moves = p.moves;
+    } };
 
-    ghost invariant = { λ p. PlayerIsKept (record { hub = p.hub; grips = p.grips.items; rounds = p.rounds; place = p.place; moves = p.moves }) };
+    ghost invariant = { λ p. PlayerIsKept (record {
+      hub = p.hub;
+      grips = p.grips.items;
+      rounds = p.rounds;
+      place = p.place;
+      moves = p.moves;
+    }) };
 }
 
 impl<D: Device> Hands<D> {
-    /// The hands of a hub in which nothing was done yet, whose detector comes so often to each device: all are empty.
+    /// The hands of a hub in which nothing was done yet, whose detector comes so often to each
+    /// device: all are empty.
     ///
     /// Answers `NoMemory` where there is none to be had, and gives the hub back.
     pub(crate) fn open(
@@ -53,7 +67,8 @@ impl<D: Device> Hands<D> {
         rounds: u32,
     ) -> Result<Hands<D>, (Hub<D>, NoMemory)>
         requires fresh { configuration_of hub ≡ opened hub.setting hub.rounds }
-        requires rounds { (d : ℕ) → d < length hub.setting.first → rounds ≤ (configuration_of hub).probes d }
+        requires rounds { (d : ℕ) → d < length hub.setting.first
+            → rounds ≤ (configuration_of hub).probes d }
         ensures opened { IfOk result (λ player. PlayerIsOpened hub rounds player) }
         ensures refused { IfErr result (λ refused. refused.0 ≡ hub) }
     {
@@ -74,18 +89,22 @@ impl<D: Device> Hands<D> {
     #[inline(always)]
     pub(crate) fn pick(&mut self, actor: u32) -> Picked
         requires few { MovesAreFew self.old }
-        ensures picked { (acts : ℕ) → (later : ℕ) × IsPicked self.old.rounds actor (play_of self.old acts) (picked_of result) (play_of self.new later) }
+        ensures picked { (acts : ℕ) → (later : ℕ) × IsPicked self.old.rounds actor
+            (play_of self.old acts) (picked_of result) (play_of self.new later) }
         ensures packed { PickIsPacked result }
         ensures window { SameWindow self.old.hub self.new.hub }
         ensures rounds { self.new.rounds ≡ self.old.rounds }
-        ensures plans { (plans : ℕ → _) → HavePlans D.plan plans self.old → HavePlans D.plan plans self.new }
+        ensures plans { (plans : ℕ → _) → HavePlans D.plan plans self.old
+            → HavePlans D.plan plans self.new }
         ensures moves { self.new.moves ≡ moves_after (picked_of result) self.old.moves }
-        ensures fewer { is_waiting_pick (picked_of result) ≡ false → is_ended self.old actor ≡ false → steps_left self.new < steps_left self.old }
+        ensures fewer { is_waiting_pick (picked_of result) ≡ false → is_ended self.old actor ≡ false
+            → steps_left self.new < steps_left self.old }
         ensures few { MovesAreFew self.new }
         ensures hands { length self.new.grips ≡ length self.old.grips }
         ensures others { (q : ℕ) → q ≢ actor → is_ended self.new q ≡ is_ended self.old q }
         ensures over { is_ended self.old actor ≡ true → is_ended self.new actor ≡ true }
-        ensures waiting { is_waiting_pick (picked_of result) ≡ true → is_ended self.new actor ≡ is_ended self.old actor }
+        ensures waiting { is_waiting_pick (picked_of result) ≡ true
+            → is_ended self.new actor ≡ is_ended self.old actor }
     {
         self.kept();
         if self.has_ended(actor) {
@@ -111,17 +130,22 @@ impl<D: Device> Hands<D> {
     #[inline(always)]
     fn step(&mut self, actor: u32) -> Picked
         requires going { is_ended self.old actor ≡ false }
-        ensures stepped { (acts : ℕ) → (later : ℕ) × IsStepped self.old.rounds actor (play_of self.old acts) (picked_of result) (play_of self.new later) }
+        ensures stepped { (acts : ℕ) → (later : ℕ) × IsStepped self.old.rounds actor
+            (play_of self.old acts) (picked_of result) (play_of self.new later) }
         ensures packed { PickIsPacked result }
         ensures window { SameWindow self.old.hub self.new.hub }
         ensures rounds { self.new.rounds ≡ self.old.rounds }
         ensures moves { self.new.moves ≡ self.old.moves }
-        ensures plans { (plans : ℕ → _) → HavePlans D.plan plans self.old → HavePlans D.plan plans self.new }
-        ensures fewer { is_waiting_pick (picked_of result) ≡ false → steps_left self.new < steps_left self.old }
-        ensures left { is_waiting_pick (picked_of result) ≡ true → steps_left self.new ≡ steps_left self.old }
+        ensures plans { (plans : ℕ → _) → HavePlans D.plan plans self.old
+            → HavePlans D.plan plans self.new }
+        ensures fewer { is_waiting_pick (picked_of result) ≡ false
+            → steps_left self.new < steps_left self.old }
+        ensures left { is_waiting_pick (picked_of result) ≡ true
+            → steps_left self.new ≡ steps_left self.old }
         ensures hands { length self.new.grips ≡ length self.old.grips }
         ensures others { (q : ℕ) → q ≢ actor → is_ended self.new q ≡ is_ended self.old q }
-        ensures waiting { is_waiting_pick (picked_of result) ≡ true → is_ended self.new actor ≡ is_ended self.old actor }
+        ensures waiting { is_waiting_pick (picked_of result) ≡ true
+            → is_ended self.new actor ≡ is_ended self.old actor }
     {
         if actor == 0 {
             return self.probe();
@@ -147,8 +171,8 @@ impl<D: Device> Hands<D> {
         matches!(self.grips.get(actor as usize), Some(Some(_)))
     }
 
-    /// Whether the actor has ended: the detector when its rounds are over and it holds no grip, a run when it has its
-    /// end, and where it is none of the window.
+    /// Whether the actor has ended: the detector when its rounds are over and it holds no grip, a
+    /// run when it has its end, and where it is none of the window.
     #[inline(always)]
     pub(crate) fn has_ended(&self, actor: u32) -> bool
         ensures { result ≡ is_ended self.now actor }
@@ -161,7 +185,8 @@ impl<D: Device> Hands<D> {
         self.hub.is_over(RunNo(actor))
     }
 
-    /// Whether the actor is a run that is known to wait, so that it need not be picked. The detector never is.
+    /// Whether the actor is a run that is known to wait, so that it need not be picked. The
+    /// detector never is.
     pub(crate) fn is_blocked(&self, actor: u32) -> bool
         ensures { IsTrue result → IsBlocked (configuration_of self.now.hub) actor }
     {
@@ -175,19 +200,21 @@ impl<D: Device> Hands<D> {
         self.hub.blocked_runs()
     }
 
-    /// Makes the call of the grip that the run holds, and gives the grip back. The hub's moment rises by the time that a
-    /// command takes.
+    /// Makes the call of the grip that the run holds, and gives the grip back. The hub's moment
+    /// rises by the time that a command takes.
     #[inline(always)]
     fn act(&mut self, actor: u32) -> Made
         requires run { 0 < actor }
         requires going { is_ended self.old actor ≡ false }
         requires holds { is_full self.old actor ≡ true }
-        ensures stepped { (acts : ℕ) → (later : ℕ) × IsStepped self.old.rounds actor (play_of self.old acts) (picked_of (Picked.Made result)) (play_of self.new later) }
+        ensures stepped { (acts : ℕ) → (later : ℕ) × IsStepped self.old.rounds actor
+            (play_of self.old acts) (picked_of (Picked.Made result)) (play_of self.new later) }
         ensures packed { IsPacked result }
         ensures window { SameWindow self.old.hub self.new.hub }
         ensures rounds { self.new.rounds ≡ self.old.rounds }
         ensures moves { self.new.moves ≡ self.old.moves }
-        ensures plans { (plans : ℕ → _) → HavePlans D.plan plans self.old → HavePlans D.plan plans self.new }
+        ensures plans { (plans : ℕ → _) → HavePlans D.plan plans self.old
+            → HavePlans D.plan plans self.new }
         ensures fewer { steps_left self.new < steps_left self.old }
         ensures hands { length self.new.grips ≡ length self.old.grips }
         ensures ended { (q : ℕ) → is_ended self.new q ≡ is_ended self.old q }
@@ -215,17 +242,22 @@ impl<D: Device> Hands<D> {
         requires run { 0 < r.0 }
         requires going { is_ended self.old r.0 ≡ false }
         requires empty { is_full self.old r.0 ≡ false }
-        ensures stepped { (acts : ℕ) → (later : ℕ) × IsStepped self.old.rounds r.0 (play_of self.old acts) (picked_of result) (play_of self.new later) }
+        ensures stepped { (acts : ℕ) → (later : ℕ) × IsStepped self.old.rounds r.0
+            (play_of self.old acts) (picked_of result) (play_of self.new later) }
         ensures packed { PickIsPacked result }
         ensures window { SameWindow self.old.hub self.new.hub }
         ensures rounds { self.new.rounds ≡ self.old.rounds }
         ensures moves { self.new.moves ≡ self.old.moves }
-        ensures plans { (plans : ℕ → _) → HavePlans D.plan plans self.old → HavePlans D.plan plans self.new }
-        ensures fewer { is_waiting_pick (picked_of result) ≡ false → steps_left self.new < steps_left self.old }
+        ensures plans { (plans : ℕ → _) → HavePlans D.plan plans self.old
+            → HavePlans D.plan plans self.new }
+        ensures fewer { is_waiting_pick (picked_of result) ≡ false
+            → steps_left self.new < steps_left self.old }
         ensures hands { length self.new.grips ≡ length self.old.grips }
         ensures others { (q : ℕ) → q ≢ r.0 → is_ended self.new q ≡ is_ended self.old q }
-        ensures waiting { is_waiting_pick (picked_of result) ≡ true → is_ended self.new r.0 ≡ is_ended self.old r.0 }
-        ensures left { is_waiting_pick (picked_of result) ≡ true → steps_left self.new ≡ steps_left self.old }
+        ensures waiting { is_waiting_pick (picked_of result) ≡ true
+            → is_ended self.new r.0 ≡ is_ended self.old r.0 }
+        ensures left { is_waiting_pick (picked_of result) ≡ true
+            → steps_left self.new ≡ steps_left self.old }
     {
         let now = self.hub.moment();
         let turn = self.hub.take(r, now);
@@ -245,16 +277,19 @@ impl<D: Device> Hands<D> {
         }
     }
 
-    /// Steps the detector: where it holds a grip it gives it back, and else it comes to its next device.
+    /// Steps the detector: where it holds a grip it gives it back, and else it comes to its next
+    /// device.
     #[inline(always)]
     fn probe(&mut self) -> Picked
         requires going { is_ended self.old 0 ≡ false }
-        ensures stepped { (acts : ℕ) → (later : ℕ) × IsStepped self.old.rounds 0 (play_of self.old acts) (picked_of result) (play_of self.new later) }
+        ensures stepped { (acts : ℕ) → (later : ℕ) × IsStepped self.old.rounds 0
+            (play_of self.old acts) (picked_of result) (play_of self.new later) }
         ensures packed { PickIsPacked result }
         ensures window { SameWindow self.old.hub self.new.hub }
         ensures rounds { self.new.rounds ≡ self.old.rounds }
         ensures moves { self.new.moves ≡ self.old.moves }
-        ensures plans { (plans : ℕ → _) → HavePlans D.plan plans self.old → HavePlans D.plan plans self.new }
+        ensures plans { (plans : ℕ → _) → HavePlans D.plan plans self.old
+            → HavePlans D.plan plans self.new }
         ensures fewer { steps_left self.new < steps_left self.old }
         ensures hands { length self.new.grips ≡ length self.old.grips }
         ensures others { (q : ℕ) → q ≢ 0 → is_ended self.new q ≡ is_ended self.old q }
@@ -267,16 +302,19 @@ impl<D: Device> Hands<D> {
         }
     }
 
-    /// Makes the call of the grip that the detector holds, and gives the grip back. A probe takes no time.
+    /// Makes the call of the grip that the detector holds, and gives the grip back. A probe takes
+    /// no time.
     fn detector_acts(&mut self) -> Made
         requires going { is_ended self.old 0 ≡ false }
         requires holds { is_full self.old 0 ≡ true }
-        ensures stepped { (acts : ℕ) → (later : ℕ) × IsStepped self.old.rounds 0 (play_of self.old acts) (picked_of (Picked.Made result)) (play_of self.new later) }
+        ensures stepped { (acts : ℕ) → (later : ℕ) × IsStepped self.old.rounds 0
+            (play_of self.old acts) (picked_of (Picked.Made result)) (play_of self.new later) }
         ensures packed { IsPacked result }
         ensures window { SameWindow self.old.hub self.new.hub }
         ensures rounds { self.new.rounds ≡ self.old.rounds }
         ensures moves { self.new.moves ≡ self.old.moves }
-        ensures plans { (plans : ℕ → _) → HavePlans D.plan plans self.old → HavePlans D.plan plans self.new }
+        ensures plans { (plans : ℕ → _) → HavePlans D.plan plans self.old
+            → HavePlans D.plan plans self.new }
         ensures fewer { steps_left self.new < steps_left self.old }
         ensures hands { length self.new.grips ≡ length self.old.grips }
         ensures others { (q : ℕ) → q ≢ 0 → is_ended self.new q ≡ is_ended self.old q }
@@ -294,16 +332,19 @@ impl<D: Device> Hands<D> {
         }
     }
 
-    /// Comes to the next device of the detector's round: takes a probe of it, or passes it over where none may be taken.
+    /// Comes to the next device of the detector's round: takes a probe of it, or passes it over
+    /// where none may be taken.
     fn detector_takes(&mut self) -> Picked
         requires going { is_ended self.old 0 ≡ false }
         requires empty { is_full self.old 0 ≡ false }
-        ensures stepped { (acts : ℕ) → (later : ℕ) × IsStepped self.old.rounds 0 (play_of self.old acts) (picked_of result) (play_of self.new later) }
+        ensures stepped { (acts : ℕ) → (later : ℕ) × IsStepped self.old.rounds 0
+            (play_of self.old acts) (picked_of result) (play_of self.new later) }
         ensures packed { PickIsPacked result }
         ensures window { SameWindow self.old.hub self.new.hub }
         ensures rounds { self.new.rounds ≡ self.old.rounds }
         ensures moves { self.new.moves ≡ self.old.moves }
-        ensures plans { (plans : ℕ → _) → HavePlans D.plan plans self.old → HavePlans D.plan plans self.new }
+        ensures plans { (plans : ℕ → _) → HavePlans D.plan plans self.old
+            → HavePlans D.plan plans self.new }
         ensures fewer { steps_left self.new < steps_left self.old }
         ensures hands { length self.new.grips ≡ length self.old.grips }
         ensures others { (q : ℕ) → q ≢ 0 → is_ended self.new q ≡ is_ended self.old q }
@@ -322,7 +363,8 @@ impl<D: Device> Hands<D> {
         }
     }
 
-    /// Does nothing. Its contract is what is kept of every player and of its hub, and that its window is never stuck.
+    /// Does nothing. Its contract is what is kept of every player and of its hub, and that its
+    /// window is never stuck.
     pub(crate) fn kept(&self)
         ensures player { PlayerStands self.now }
         ensures hub { HubStands D.tag D.stands D.turns D.probes D.faults self.now.hub }
@@ -336,10 +378,12 @@ impl<D: Device> Hands<D> {
     ///
     /// Refused, and the hands are given back, where a run has not ended or a device is out.
     pub(crate) fn close(self) -> Result<(Home<D>, WindowRecord), (Hands<D>, NotQuiet)>
-        ensures closed { IfOk result (λ closed. WindowIsClosed D.turns D.probes D.faults self.hub closed.0 closed.1) }
+        ensures closed { IfOk result
+            (λ closed. WindowIsClosed D.turns D.probes D.faults self.hub closed.0 closed.1) }
         ensures quiet { IfOk result (λ closed. not_quiet (configuration_of self.hub) ≡ None) }
         ensures same { IfErr result (λ refused. refused.0 ≡ self) }
-        ensures refused { IfErr result (λ refused. not_quiet (configuration_of self.hub) ≡ Some refused.1) }
+        ensures refused { IfErr result
+            (λ refused. not_quiet (configuration_of self.hub) ≡ Some refused.1) }
     {
         let Hands {
             hub,

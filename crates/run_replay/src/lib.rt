@@ -1,4 +1,5 @@
-// The replay of a window: its runs and the detector, stepped one after another by a list of picks and by a generator.
+// The replay of a window: its runs and the detector, stepped one after another by a list of picks
+// and by a generator.
 #![tactic(auto)]
 
 mod finishes;

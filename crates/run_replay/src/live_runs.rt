@@ -46,12 +46,14 @@ fn first_from(word: u64, from: u32) -> u32
     from + rest.trailing_zeros()
 }
 
-/// The first run from this one on that is one of the first word and none of the second; 65 where there is none.
+/// The first run from this one on that is one of the first word and none of the second; 65 where
+/// there is none.
 pub(crate) fn next_run(live: u64, blocked: u64, from: u32) -> u32
     requires run { 0 < from }
     requires low { from ≤ 65 }
     ensures ahead { from ≤ result }
-    ensures passed { (q : ℕ) → from ≤ q → q < result → has_run live q ≡ true → has_run blocked q ≡ true }
+    ensures passed { (q : ℕ) → from ≤ q → q < result → has_run live q ≡ true
+        → has_run blocked q ≡ true }
     ensures live { result < 65 → has_run live result ≡ true }
 {
     first_from(live & !blocked, from)

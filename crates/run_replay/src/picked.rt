@@ -10,7 +10,8 @@ use hub_core::Why;
 /// What a pick of an actor did.
 #[derive(Clone, Copy, Debug, PartialEq, Eq)]
 pub enum Picked {
-    /// Nothing: the actor has ended or is none of the window, or the detector came to a device that is out.
+    /// Nothing: the actor has ended or is none of the window, or the detector came to a device that
+    /// is out.
     Passed,
     /// The actor made these entries.
     Made(Made),

@@ -28,7 +28,8 @@ impl<D: Device> Model for Player<D> {
 
     ghost view = { λ p. p.hands };
 
-    ghost invariant = { λ p. (p.actors.items ≡ are_live p.hands) × MovesAreFew p.hands × AreLiveRuns p.runs p.hands };
+    ghost invariant = { λ p. (p.actors.items ≡ are_live p.hands) × MovesAreFew p.hands
+        × AreLiveRuns p.runs p.hands };
 }
 
 /// Takes an actor out of a list, where it stands there.
@@ -42,13 +43,16 @@ impl<D: Device> Player<D> {
     /// Steps the actor, a run or 0 for the detector.
     #[inline(always)]
     pub fn pick(&mut self, actor: u32) -> Picked
-        ensures picked { (acts : ℕ) → (later : ℕ) × IsPicked self.old.rounds actor (play_of self.old acts) (picked_of result) (play_of self.new later) }
+        ensures picked { (acts : ℕ) → (later : ℕ) × IsPicked self.old.rounds actor
+            (play_of self.old acts) (picked_of result) (play_of self.new later) }
         ensures packed { PickIsPacked result }
         ensures window { SameWindow self.old.hub self.new.hub }
         ensures rounds { self.new.rounds ≡ self.old.rounds }
-        ensures plans { (plans : ℕ → _) → HavePlans D.plan plans self.old → HavePlans D.plan plans self.new }
+        ensures plans { (plans : ℕ → _) → HavePlans D.plan plans self.old
+            → HavePlans D.plan plans self.new }
         ensures moves { self.new.moves ≡ moves_after (picked_of result) self.old.moves }
-        ensures fewer { is_waiting_pick (picked_of result) ≡ false → is_ended self.old actor ≡ false → steps_left self.new < steps_left self.old }
+        ensures fewer { is_waiting_pick (picked_of result) ≡ false → is_ended self.old actor ≡ false
+            → steps_left self.new < steps_left self.old }
     {
         let picked = self.hands.pick(actor);
         if has_waited(picked) {
@@ -64,23 +68,28 @@ impl<D: Device> Player<D> {
 
     /// Steps the actor as `pick` does, and tells whether it waits.
     pub(crate) fn waits_at(&mut self, actor: u32) -> bool
-        ensures picked { HasPicked self.old.rounds actor (play_of self.old) result (play_of self.new) }
+        ensures picked { HasPicked self.old.rounds actor (play_of self.old) result
+            (play_of self.new) }
         ensures window { SameWindow self.old.hub self.new.hub }
         ensures rounds { self.new.rounds ≡ self.old.rounds }
-        ensures plans { (plans : ℕ → _) → HavePlans D.plan plans self.old → HavePlans D.plan plans self.new }
-        ensures fewer { result ≡ false → is_ended self.old actor ≡ false → steps_left self.new < steps_left self.old }
+        ensures plans { (plans : ℕ → _) → HavePlans D.plan plans self.old
+            → HavePlans D.plan plans self.new }
+        ensures fewer { result ≡ false → is_ended self.old actor ≡ false
+            → steps_left self.new < steps_left self.old }
     {
         let picked = self.pick(actor);
         has_waited(picked)
     }
 
-    /// Steps each of these actors, one after another. A run that is known to wait is passed over: its step would change
-    /// nothing.
+    /// Steps each of these actors, one after another. A run that is known to wait is passed over:
+    /// its step would change nothing.
     pub fn play(&mut self, picks: &[u32])
-        ensures played { (acts : ℕ) → (later : ℕ) × ArePicked self.old.rounds picks.now (play_of self.old acts) (play_of self.new later) }
+        ensures played { (acts : ℕ) → (later : ℕ)
+            × ArePicked self.old.rounds picks.now (play_of self.old acts) (play_of self.new later) }
         ensures window { SameWindow self.old.hub self.new.hub }
         ensures rounds { self.new.rounds ≡ self.old.rounds }
-        ensures plans { (plans : ℕ → _) → HavePlans D.plan plans self.old → HavePlans D.plan plans self.new }
+        ensures plans { (plans : ℕ → _) → HavePlans D.plan plans self.old
+            → HavePlans D.plan plans self.new }
     {
         'picks: for actor in picks {
             if self.hands.is_blocked(*actor) {
@@ -93,12 +102,14 @@ impl<D: Device> Player<D> {
     /// How many picks so far took a device, gave one back or made entries. It takes no memory.
     pub fn moves(&self) -> u64
         ensures count { result ≡ self.now.moves }
-        ensures bounded { result ≤ most_moves (length self.now.hub.setting.runs) (length self.now.hub.setting.first) self.now.hub.rounds self.now.rounds }
+        ensures bounded { result ≤ most_moves (length self.now.hub.setting.runs)
+            (length self.now.hub.setting.first) self.now.hub.rounds self.now.rounds }
     {
         self.hands.moves()
     }
 
-    /// Does nothing. Its contract is what is kept of every player and of its hub, and that its window is never stuck.
+    /// Does nothing. Its contract is what is kept of every player and of its hub, and that its
+    /// window is never stuck.
     pub(crate) fn kept(&self)
         ensures player { PlayerStands self.now }
         ensures hub { HubStands D.tag D.stands D.turns D.probes D.faults self.now.hub }

@@ -16,12 +16,15 @@ use hub_core::{Home, Hub, NotQuiet};
 use std::alloc::Global;
 
 impl<D: Device> Player<D> {
-    /// Makes a player of a hub in which nothing was done yet, whose detector comes so often to each device.
+    /// Makes a player of a hub in which nothing was done yet, whose detector comes so often to each
+    /// device.
     ///
-    /// Takes all memory of the replay. Answers `NoMemory` where there is none to be had, and gives the hub back.
+    /// Takes all memory of the replay. Answers `NoMemory` where there is none to be had, and gives
+    /// the hub back.
     pub fn open(alloc: Global, hub: Hub<D>, rounds: u32) -> Result<Player<D>, (Hub<D>, NoMemory)>
         requires fresh { configuration_of hub ≡ opened hub.setting hub.rounds }
-        requires rounds { (d : ℕ) → d < length hub.setting.first → rounds ≤ (configuration_of hub).probes d }
+        requires rounds { (d : ℕ) → d < length hub.setting.first
+            → rounds ≤ (configuration_of hub).probes d }
         ensures opened { IfOk result (λ player. PlayerIsOpened hub rounds player) }
         ensures refused { IfErr result (λ refused. refused.0 ≡ hub) }
     {
@@ -56,10 +59,12 @@ impl<D: Device> Player<D> {
     ///
     /// Refused, and the player is given back, where a run has not ended or a device is out.
     pub fn close(self) -> Result<(Home<D>, WindowRecord), (Player<D>, NotQuiet)>
-        ensures closed { IfOk result (λ closed. WindowIsClosed D.turns D.probes D.faults self.hub closed.0 closed.1) }
+        ensures closed { IfOk result
+            (λ closed. WindowIsClosed D.turns D.probes D.faults self.hub closed.0 closed.1) }
         ensures quiet { IfOk result (λ closed. not_quiet (configuration_of self.hub) ≡ None) }
         ensures same { IfErr result (λ refused. refused.0 ≡ self) }
-        ensures refused { IfErr result (λ refused. not_quiet (configuration_of self.hub) ≡ Some refused.1) }
+        ensures refused { IfErr result
+            (λ refused. not_quiet (configuration_of self.hub) ≡ Some refused.1) }
     {
         let Player {
             hands,
@@ -80,7 +85,8 @@ impl<D: Device> Player<D> {
     }
 }
 
-/// Replays a window: plays these turns, goes on by draws from the seed until every actor has ended, and closes it.
+/// Replays a window: plays these turns, goes on by draws from the seed until every actor has ended,
+/// and closes it.
 ///
 /// Answers `NoMemory` where there is none to be had, and gives the hub back.
 pub fn replay_window<D: Device>(
@@ -91,8 +97,10 @@ pub fn replay_window<D: Device>(
     rounds: u32,
 ) -> Result<(Home<D>, WindowRecord), (Hub<D>, NoMemory)>
     requires fresh { configuration_of hub ≡ opened hub.setting hub.rounds }
-    requires rounds { (d : ℕ) → d < length hub.setting.first → rounds ≤ (configuration_of hub).probes d }
-    ensures replayed { IfOk result (λ closed. IsReplayed D.tag D.plan D.turns D.probes D.faults hub turns.now seed rounds closed.0 closed.1) }
+    requires rounds { (d : ℕ) → d < length hub.setting.first
+        → rounds ≤ (configuration_of hub).probes d }
+    ensures replayed { IfOk result (λ closed. IsReplayed D.tag D.plan D.turns D.probes D.faults hub
+        turns.now seed rounds closed.0 closed.1) }
     ensures refused { IfErr result (λ refused. refused.0 ≡ hub) }
 {
     hub.kept();

@@ -1,5 +1,5 @@
-// Reads each line of the input as a script, and writes what it says or why it is refused; at the end it writes the text of
-// the one refusal that no script has, want of memory.
+// Reads each line of the input as a script, and writes what it says or why it is refused; at the
+// end it writes the text of the one refusal that no script has, want of memory.
 #![tactic(auto)]
 
 mod shown;

@@ -10,10 +10,12 @@ const INCREMENT: u128 = 1_442_695_040_888_963_407;
 
 const STATES: u128 = 1 << 64;
 
-/// How many states give the same number: a draw leaves out the low 33 bits, which are the least random.
+/// How many states give the same number: a draw leaves out the low 33 bits, which are the least
+/// random.
 const STATES_OF_A_NUMBER: u64 = 1 << 33;
 
-/// The generator by which a replay draws its picks, and a trial its script. The same state draws the same numbers, on every machine.
+/// The generator by which a replay draws its picks, and a trial its script. The same state draws
+/// the same numbers, on every machine.
 #[derive(Drop)]
 pub struct Draws {
     state: u64,

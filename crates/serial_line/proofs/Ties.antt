@@ -36,7 +36,8 @@ items_inserted marks at x =
     map-append (λ m. m.item) (take at marks) (untouched x ∷ drop at marks)
     ∙ (λ i. sym (take-map (λ m. m.item) at marks) i ++ x ∷ sym (drop-map (λ m. m.item) at marks) i)
 
-pub line_inserted : {line : List Item} {touched : Item → ℕ → Bool} {ended : ℕ → Bool} {marks : List Mark} (at : ℕ) (x : Item) → IsLineOf line touched ended marks → TouchesAs touched (untouched x) → of_run ended x ≡ false → IsLineOf (take at line ++ x ∷ drop at line) touched ended (with_item at x marks)
+pub line_inserted : {line : List Item} {touched : Item → ℕ → Bool} {ended : ℕ → Bool} {marks : List Mark} (at : ℕ) (x : Item) → IsLineOf line touched ended
+    marks → TouchesAs touched (untouched x) → of_run ended x ≡ false → IsLineOf (take at line ++ x ∷ drop at line) touched ended (with_item at x marks)
 line_inserted {marks} at x old new lives = record {
   items = items_inserted marks at x ∙ ap (λ is. take at is ++ x ∷ drop at is) old.items;
   touches = each_inserted _ marks at (untouched x) old.touches new;
@@ -168,7 +169,9 @@ item_itself (Ran r) = grind (arith, common_steps)
 item_itself (Failed d k) = grind (arith, common_steps)
 item_itself (Back d k) = grind (arith, common_steps)
 
-pub line_retold : {line : List Item} {before after : Item → ℕ → Bool} {old_ends new_ends : ℕ → Bool} {marks : List Mark} → IsLineOf line before old_ends marks → ((i : Item) (d : ℕ) → list_any (is_item i) line ≡ true → before i d ≡ after i d) → ((q : ℕ) → list_any (is_ran q) line ≡ true → old_ends q ≡ new_ends q) → IsLineOf line after new_ends marks
+pub line_retold : {line : List Item} {before after : Item → ℕ → Bool} {old_ends new_ends : ℕ → Bool} {marks : List Mark} → IsLineOf line before old_ends marks
+    → ((i : Item) (d : ℕ) → list_any (is_item i) line ≡ true → before i d ≡ after i d) → ((q : ℕ) → list_any (is_ran q) line ≡ true → old_ends q ≡ new_ends q)
+    → IsLineOf line after new_ends marks
 line_retold {line} {before} {after} {old_ends} {new_ends} {marks} old same ends = record { items = old.items; touches = each marks inside old.touches; ends = each_end marks inside old.ends }
   where
     inside : (i : Item) → list_any (is_item i) (items_of marks) ≡ true → list_any (is_item i) line ≡ true

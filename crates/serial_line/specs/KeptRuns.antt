@@ -14,7 +14,11 @@ use Rattle.std.specs.Prelude.{Bool, List, Option, map, refl, true, ◌==◌, ◌
 
 -- a run is stored as the tuple of its fields
 abbrev pub run_code : Coded Run
-run_code = code_by (List Command × Option RunNo) (coded× (coded_list the_command.the_row.coded) (coded_option the_number.the_row.coded)) (λ run. (run.commands, run.follows)) (λ p. record { commands = p.0; follows = p.1 }) (λ run. refl)
+run_code =
+    code_by (List Command × Option RunNo)
+    (coded× (coded_list the_command.the_row.coded) (coded_option the_number.the_row.coded))
+    (λ run. (run.commands, run.follows))
+    (λ p. record { commands = p.0; follows = p.1 }) (λ run. refl)
 
 -- some command on the device
 abbrev pub on_device : DeviceId → Command

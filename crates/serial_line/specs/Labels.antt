@@ -1,4 +1,5 @@
--- The labels of a line, one for each item: they rise along it, so that two items are compared by their labels.
+-- The labels of a line, one for each item: they rise along it, so that two items are compared by
+-- their labels.
 use Rattle.home_types.specs.Numbers.{LinePlace}
 use Rattle.home_types.specs.declared.items.Item.{Item}
 use Rattle.serial_line.specs.Marks.{Marked, place_of, stands}
@@ -44,7 +45,8 @@ LastLeavesRoom at [] = ⊤
 LastLeavesRoom at (x ∷ []) = x + 2 ^ 32 ≤ 2 ^ 64 + at
 LastLeavesRoom at (x ∷ y ∷ ys) = LastLeavesRoom (at + 1) (y ∷ ys)
 
--- a label is free between the neighbours of this place, where this one stands before the first; at the end there always is one
+-- a label is free between the neighbours of this place, where this one stands before the first; at
+-- the end there always is one
 abbrev pub has_free : ℕ → LinePlace → List ℕ → Bool
 has_free left at [] = true
 has_free left zero (x ∷ xs) = nat_lt (left + 1) x
@@ -56,7 +58,10 @@ label_of item line = option_and_then (slice_get line.labels) (place_of item line
 
 -- of two items of the line the earlier one has the smaller label
 abbrev pub LabelsAreInOrder : Marked → Type 0
-LabelsAreInOrder line = (x y : Item) (i j : LinePlace) (a b : ℕ) → place_of x line.marks ≡ Some i → place_of y line.marks ≡ Some j → label_of x line ≡ Some a → label_of y line ≡ Some b → nat_lt i j ≡ nat_lt a b
+LabelsAreInOrder line =
+    (x y : Item) (i j : LinePlace) (a b : ℕ) → place_of x line.marks ≡ Some i
+    → place_of y line.marks ≡ Some j → label_of x line ≡ Some a → label_of y line ≡ Some b
+    → nat_lt i j ≡ nat_lt a b
 
 -- the item is one of those that are sealed
 abbrev pub is_sealed : Item → Marked → Bool

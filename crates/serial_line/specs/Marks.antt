@@ -1,4 +1,5 @@
--- The items of a line, each with the devices that it has touched, and the runs with whether they have ended.
+-- The items of a line, each with the devices that it has touched, and the runs with whether they
+-- have ended.
 use Rattle.command_rules.specs.Apart.{meet}
 use Rattle.command_rules.specs.Items.{is_ran, of_run}
 use Rattle.command_rules.specs.Rosters.{Run}
@@ -14,13 +15,16 @@ use Rattle.std.specs.FinSet as set
 use Rattle.std.specs.List.{list_any}
 use Rattle.std.specs.Prelude.{Bool, List, Option, [], false, filter, if◌then◌else◌, insert, map, not, position, refl, true, ℕ, ◌&&◌, ◌+◌, ◌==◌, ◌∷◌}
 
--- an item of the line, the set of devices that it has touched, and whether it is a run that has ended
+-- an item of the line, the set of devices that it has touched, and whether it is a run that has
+-- ended
 pub record Mark : Type 0 where
   pub item : Item
   pub touched : Devices
   pub ended : Bool
 
--- the line, the labels of its items in their order, how many more items it takes with no memory, how many of its first items are sealed, and the runs of its window, with one command for each of their devices
+-- the line, the labels of its items in their order, how many more items it takes with no memory,
+-- how many of its first items are sealed, and the runs of its window, with one command for each of
+-- their devices
 pub record Marked : Type 0 where
   pub marks : List Mark
   pub labels : List ℕ
@@ -30,10 +34,23 @@ pub record Marked : Type 0 where
 
 -- a mark is stored as the tuple of its fields, and a line too
 abbrev pub mark_code : Coded Mark
-mark_code = code_by (Item × (Devices × Bool)) (coded× the_item.the_row.coded (coded× (set.code coded_ℕ) coded_bool)) (λ m. (m.item, (m.touched, m.ended))) (λ p. record { item = p.0; touched = p.1.0; ended = p.1.1 }) (λ m. refl)
+mark_code =
+    code_by (Item × (Devices × Bool))
+    (coded× the_item.the_row.coded (coded× (set.code coded_ℕ) coded_bool))
+    (λ m. (m.item, (m.touched, m.ended)))
+    (λ p. record { item = p.0; touched = p.1.0; ended = p.1.1 }) (λ m. refl)
 
 abbrev pub marked_code : Coded Marked
-marked_code = code_by (List Mark × (List ℕ × (ℕ × (ℕ × List Run)))) (coded× (coded_list mark_code) (coded× (coded_list coded_ℕ) (coded× coded_ℕ (coded× coded_ℕ (coded_list run_code))))) (λ l. (l.marks, (l.labels, (l.spare, (l.sealed, l.runs))))) (λ p. record { marks = p.0; labels = p.1.0; spare = p.1.1.0; sealed = p.1.1.1.0; runs = p.1.1.1.1 }) (λ l. refl)
+marked_code =
+    code_by (List Mark × (List ℕ × (ℕ × (ℕ × List Run)))) (coded× (coded_list mark_code)
+    (coded× (coded_list coded_ℕ) (coded× coded_ℕ (coded× coded_ℕ (coded_list run_code)))))
+    (λ l. (l.marks, (l.labels, (l.spare, (l.sealed, l.runs))))) (λ p. record {
+      marks = p.0;
+      labels = p.1.0;
+      spare = p.1.1.0;
+      sealed = p.1.1.1.0;
+      runs = p.1.1.1.1;
+    }) (λ l. refl)
 
 abbrev pub items_of : List Mark → List Item
 items_of marks = map (λ m. m.item) marks
@@ -71,7 +88,8 @@ touched_by (Ran r) devices = devices
 touched_by (Failed d k) devices = set.insert set.empty d.0
 touched_by (Back d k) devices = set.insert set.empty d.0
 
--- an item as it comes into the line: a run has touched nothing and not ended, an event has touched its device
+-- an item as it comes into the line: a run has touched nothing and not ended, an event has touched
+-- its device
 abbrev pub untouched : Item → Mark
 untouched item = record { item = item; touched = touched_by item set.empty; ended = false }
 

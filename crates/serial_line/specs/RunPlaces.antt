@@ -12,7 +12,8 @@ run_place r marks = position (is_ran r) (items_of marks)
 
 -- the places are, by the numbers of the runs, those at which they stand
 abbrev pub AreRunPlaces : List Mark → List (Option LinePlace) → Type 0
-AreRunPlaces marks places = (r : RunId) → r < length places → slice_index_or places r None ≡ run_place r marks
+AreRunPlaces marks places =
+    (r : RunId) → r < length places → slice_index_or places r None ≡ run_place r marks
 
 -- it is before this place, or none
 abbrev pub is_before_place : LinePlace → Option LinePlace → Bool
@@ -21,10 +22,13 @@ is_before_place from (Some k) = nat_lt k from
 
 -- the same of the runs that stand before this place, and of those that are not in the line
 abbrev pub ArePlacesBefore : LinePlace → List Mark → List (Option LinePlace) → Type 0
-ArePlacesBefore from marks places = (r : RunId) → r < length places → is_before_place from (run_place r marks) ≡ true → slice_index_or places r None ≡ run_place r marks
+ArePlacesBefore from marks places =
+    (r : RunId) → r < length places → is_before_place from (run_place r marks) ≡ true
+    → slice_index_or places r None ≡ run_place r marks
 
 -- the run that the item is has this place, where one is kept of it
 abbrev pub with_place : Item → Option LinePlace → List (Option LinePlace) → List (Option LinePlace)
-with_place (Ran r) place places = if nat_lt r.0 (length places) then slice_set places r.0 place else places
+with_place (Ran r) place places =
+    if nat_lt r.0 (length places) then slice_set places r.0 place else places
 with_place (Failed d k) place places = places
 with_place (Back d k) place places = places

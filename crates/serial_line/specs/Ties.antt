@@ -1,4 +1,5 @@
--- What a layer above keeps of a line: that it is the line which a history says, with the touches and the ends that it says.
+-- What a layer above keeps of a line: that it is the line which a history says, with the touches
+-- and the ends that it says.
 use Rattle.command_rules.specs.Items.{of_run}
 use Rattle.home_types.specs.Numbers.{DeviceId, RunId}
 use Rattle.home_types.specs.declared.items.Item.{Item}
@@ -19,8 +20,10 @@ TouchesAs touched m = (d : DeviceId) → set.contains m.touched d ≡ touched m.
 abbrev pub EndsAs : (RunId → Bool) → Mark → Type 0
 EndsAs ended m = m.ended ≡ of_run ended m.item
 
--- these are the items, and each has touched the devices, and has ended where it is a run, as the tests tell
-pub record IsLineOf (line : List Item) (touched : Item → DeviceId → Bool) (ended : RunId → Bool) (marks : List Mark) : Type 0 where
+-- these are the items, and each has touched the devices, and has ended where it is a run, as the
+-- tests tell
+pub record IsLineOf (line : List Item) (touched : Item → DeviceId → Bool) (ended : RunId → Bool)
+    (marks : List Mark) : Type 0 where
   pub items : items_of marks ≡ line
   pub touches : Each (TouchesAs touched) marks
   pub ends : Each (EndsAs ended) marks

@@ -8,7 +8,8 @@ ghost use Rattle.serial_line.specs.Marks.{is_item, is_open_run, meets, untouched
 use home_types::{DeviceNo, DeviceSet, Item, RunNo};
 use std::marker::Model;
 
-/// An item of the line, with the devices that it has touched, and whether it is a run that has ended.
+/// An item of the line, with the devices that it has touched, and whether it is a run that has
+/// ended.
 #[derive(Drop)]
 pub(crate) struct MarkedItem {
     item: Item,
@@ -24,7 +25,11 @@ impl Model for MarkedItem {
 
     ghost coded = { mark_code };
 
-    ghost view = { λ e. record { item = e.item; touched = touched_by e.item e.touches; ended = e.ended } };
+    ghost view = { λ e. record {
+      item = e.item;
+      touched = touched_by e.item e.touches;
+      ended = e.ended;
+    } };
 }
 
 impl MarkedItem {

@@ -142,7 +142,8 @@ impl KeptRuns {
 
 /// The devices of the commands.
 fn devices_of(commands: &[Command]) -> DeviceSet
-    requires { (k : ℕ) (c : Command) → slice_get commands.now k ≡ Some c → c.device.0 < most_devices }
+    requires { (k : ℕ) (c : Command) → slice_get commands.now k ≡ Some c
+        → c.device.0 < most_devices }
     ensures { (d : ℕ) → set.contains result d ≡ list_any (is_on d) commands.now }
 {
     let mut devices = DeviceSet::none();

@@ -21,15 +21,17 @@ use std::marker::Model;
 /// The places that are kept: one for each run that a window may have, by its number.
 const PLACES: usize = limits::RUNS as usize + 1;
 
-/// The line of a window: its items in their order, each with a label, by which two of them are compared. The first items
-/// may be sealed: no item comes between them any more, and none of them leaves.
+/// The line of a window: its items in their order, each with a label, by which two of them are
+/// compared. The first items may be sealed: no item comes between them any more, and none of them
+/// leaves.
 ///
-/// The line keeps the devices of each run of its window, and whom it follows. So it tells of two neighbours whether they are
-/// apart: they share no device, and neither follows the other. These may be exchanged.
+/// The line keeps the devices of each run of its window, and whom it follows. So it tells of two
+/// neighbours whether they are apart: they share no device, and neither follows the other. These
+/// may be exchanged.
 ///
-/// Contracts see each item with the devices that it has touched and whether it is a run that has ended, the labels in the
-/// same order, how many more items the line takes with no memory, how many are sealed, and the runs of the window, with one
-/// command for each of their devices.
+/// Contracts see each item with the devices that it has touched and whether it is a run that has
+/// ended, the labels in the same order, how many more items the line takes with no memory, how many
+/// are sealed, and the runs of the window, with one command for each of their devices.
 #[derive(Drop)]
 pub struct Line {
     entries: Vec<MarkedItem>,
@@ -54,17 +56,23 @@ impl Model for Line {
 
     ghost use Rattle.serial_line.specs.Lines.{LineIsSound};
 
-    ghost view = { λ l. record { marks = l.entries.items; labels = l.labels.items; spare = l.spare; sealed = l.sealed; runs = l.runs } };
+    ghost view = { λ l. record {
+      marks = l.entries.items;
+      labels = l.labels.items;
+      spare = l.spare;
+      sealed = l.sealed;
+      runs = l.runs;
+    } };
 
     ghost invariant = { LineIsSound };
 }
 
 impl Line {
-    /// Makes an empty line for the runs of this roster, and keeps their devices and whom they follow. Answers `NoMemory`
-    /// where there is none to be had.
+    /// Makes an empty line for the runs of this roster, and keeps their devices and whom they
+    /// follow. Answers `NoMemory` where there is none to be had.
     ///
-    /// Asks that each command is on one of the 256 devices that a home may have, and that there are no more of a run than
-    /// a routine may have.
+    /// Asks that each command is on one of the 256 devices that a home may have, and that there are
+    /// no more of a run than a routine may have.
     pub fn open(alloc: Global, roster: &Roster) -> Result<Line, NoMemory>
         requires { FitsIndex (runs_of roster.now) }
         ensures empty { IfOk result (λ line. line.marks ≡ []) }
@@ -85,8 +93,8 @@ impl Line {
         })
     }
 
-    /// Makes room for `n` more items and for no more than these, or answers `NoMemory`. The items and their labels stay in
-    /// both cases, and so does the room that there was.
+    /// Makes room for `n` more items and for no more than these, or answers `NoMemory`. The items
+    /// and their labels stay in both cases, and so does the room that there was.
     ///
     /// Asks that the items and the `n` together are below 2^32.
     pub fn reserve(&mut self, n: u64) -> Result<(), NoMemory>
@@ -114,11 +122,12 @@ impl Line {
     }
 
     /// Puts an item at the place `at`, counted from 0: a run that has touched nothing, or an event.
-    /// The others stay in their order, with their touches, and with their labels where one is free for the item; else those
-    /// of the items that are not sealed are given anew. Takes no memory, and uses one place of the room.
+    /// The others stay in their order, with their touches, and with their labels where one is free
+    /// for the item; else those of the items that are not sealed are given anew. Takes no memory,
+    /// and uses one place of the room.
     ///
-    /// Asks for room, for a place up to the end and behind the items that are sealed, and for an item that is not in the
-    /// line; a run is one of the window.
+    /// Asks for room, for a place up to the end and behind the items that are sealed, and for an
+    /// item that is not in the line; a run is one of the window.
     pub fn insert(&mut self, at: u32, item: Item)
         requires room { 0 < self.old.spare }
         requires place { at ≤ length self.old.marks }
@@ -129,8 +138,10 @@ impl Line {
         ensures spare { self.new.spare + 1 ≡ self.old.spare }
         ensures sealed { self.new.sealed ≡ self.old.sealed }
         ensures runs { self.new.runs ≡ self.old.runs }
-        ensures final_labels { take self.old.sealed self.new.labels ≡ take self.old.sealed self.old.labels }
-        ensures labels { has_free 0 at self.old.labels ≡ true → remove self.new.labels at ≡ self.old.labels }
+        ensures final_labels { take self.old.sealed self.new.labels
+            ≡ take self.old.sealed self.old.labels }
+        ensures labels { has_free 0 at self.old.labels ≡ true
+            → remove self.new.labels at ≡ self.old.labels }
     {
         let inserted = self.entries.insert(at as usize, MarkedItem::new(item));
         inserted.unwrap();
@@ -152,7 +163,8 @@ impl Line {
         ensures spare { self.new.spare ≡ (if result then self.old.spare + 1 else self.old.spare) }
         ensures sealed { self.new.sealed ≡ self.old.sealed }
         ensures runs { self.new.runs ≡ self.old.runs }
-        ensures final_labels { take self.old.sealed self.new.labels ≡ take self.old.sealed self.old.labels }
+        ensures final_labels { take self.old.sealed self.new.labels
+            ≡ take self.old.sealed self.old.labels }
     {
         match self.place_of(Item::Ran(run)) {
             Some(at) => {
@@ -199,8 +211,8 @@ impl Line {
         }
     }
 
-    /// Whether items stand at this place, counted from 0, and the next one, and are apart: they share no device, and neither
-    /// is a run that follows the other.
+    /// Whether items stand at this place, counted from 0, and the next one, and are apart: they
+    /// share no device, and neither is a run that follows the other.
     pub fn apart(&self, at: u32) -> bool
         ensures { result ≡ are_apart (meet self.now.runs) at (items_of self.now.marks) }
     {
@@ -212,8 +224,8 @@ impl Line {
         }
     }
 
-    /// Exchanges the item at this place, counted from 0, and the next one, each with its touches. All else stays, and so do
-    /// the labels in their places. Takes no memory.
+    /// Exchanges the item at this place, counted from 0, and the next one, each with its touches.
+    /// All else stays, and so do the labels in their places. Takes no memory.
     ///
     /// Asks that the two are there and apart, and that neither is sealed.
     pub fn swap(&mut self, at: u32)
@@ -236,12 +248,14 @@ impl Line {
         self.front = front_from(entries, self.front.min(at));
     }
 
-    /// The item at the place `from` comes to the place `to`, which is not behind it; those between stand behind it.
+    /// The item at the place `from` comes to the place `to`, which is not behind it; those between
+    /// stand behind it.
     fn bring(&mut self, to: u32, from: u32)
         requires order { to ≤ from }
         requires apart { IsTrue (may_pass (meet_marks self.old.runs) to from self.old.marks) }
         requires unsealed { to < from → self.old.sealed ≤ to }
-        ensures marks { self.new.marks ≡ take to self.old.marks ++ brought (from - to) (drop to self.old.marks) }
+        ensures marks { self.new.marks
+            ≡ take to self.old.marks ++ brought (from - to) (drop to self.old.marks) }
         ensures labels { self.new.labels ≡ self.old.labels }
         ensures spare { self.new.spare ≡ self.old.spare }
         ensures sealed { self.new.sealed ≡ self.old.sealed }
@@ -254,11 +268,11 @@ impl Line {
         }
     }
 
-    /// The items with a flag stand before the others, each part in its order, with their touches. The labels stay in their
-    /// places. Takes no memory.
+    /// The items with a flag stand before the others, each part in its order, with their touches.
+    /// The labels stay in their places. Takes no memory.
     ///
-    /// Asks for a flag for each item. Each item that is sealed has one, and with each item that has one also each item before
-    /// it that is not apart from it.
+    /// Asks for a flag for each item. Each item that is sealed has one, and with each item that has
+    /// one also each item before it that is not apart from it.
     pub fn rearrange(&mut self, before: &[bool])
         requires size { length before.now ≡ length self.old.marks }
         requires closed { IsClosed (meet self.old.runs) before.now (items_of self.old.marks) }
@@ -278,7 +292,8 @@ impl Line {
         }
     }
 
-    /// How many items stand before the first run that has not ended: all where there is none. Looks at no item.
+    /// How many items stand before the first run that has not ended: all where there is none. Looks
+    /// at no item.
     pub fn front(&self) -> u32
         ensures front { result ≡ front_of self.now.marks }
         ensures within { result ≤ length self.now.marks }
@@ -305,8 +320,8 @@ impl Line {
         self.sealed = upto;
     }
 
-    /// The label of an item: of two items of the line the earlier one has the smaller label. `None` where the item is not in
-    /// the line.
+    /// The label of an item: of two items of the line the earlier one has the smaller label. `None`
+    /// where the item is not in the line.
     pub fn label(&self, item: Item) -> Option<u64>
         ensures label { result ≡ label_of item self.now }
         ensures there { is_some result ≡ stands item self.now.marks }
@@ -319,7 +334,8 @@ impl Line {
         }
     }
 
-    /// The place of an item, counted from 0; no item stands twice. `None` where it is not in the line.
+    /// The place of an item, counted from 0; no item stands twice. `None` where it is not in the
+    /// line.
     pub fn place_of(&self, item: Item) -> Option<u32>
         ensures place { result ≡ place_of item self.now.marks }
         ensures there { is_some result ≡ stands item self.now.marks }
@@ -332,7 +348,8 @@ impl Line {
         }
     }
 
-    /// The place that is kept of the item, `None` where none is: it is no run, or one of a number that no window has.
+    /// The place that is kept of the item, `None` where none is: it is no run, or one of a number
+    /// that no window has.
     fn kept_place(&self, item: Item) -> Option<Option<u32>>
         ensures { IfSome result (λ place. place ≡ place_of item self.now.marks) }
     {
@@ -372,7 +389,8 @@ impl Line {
         self.entries.len() as u32
     }
 
-    /// The last place of an item that has touched one of the devices, counted from 0. `None` where no item has.
+    /// The last place of an item that has touched one of the devices, counted from 0. `None` where
+    /// no item has.
     pub fn last_meeting(&self, devices: &DeviceSet) -> Option<u32>
         ensures { result ≡ last_meeting devices.now self.now.marks }
     {
@@ -386,10 +404,11 @@ impl Line {
         None
     }
 
-    /// Whether the item at the place `at`, counted from 0, has touched one of the devices. From the end of the line on none
-    /// has.
+    /// Whether the item at the place `at`, counted from 0, has touched one of the devices. From the
+    /// end of the line on none has.
     pub fn meets(&self, at: u32, devices: &DeviceSet) -> bool
-        ensures { result ≡ unwrap_or (option_map (meets devices.now) (slice_get self.now.marks at)) false }
+        ensures { result
+            ≡ unwrap_or (option_map (meets devices.now) (slice_get self.now.marks at)) false }
     {
         match self.entries.get(at as usize) {
             Some(entry) => entry.meets(devices),
@@ -424,7 +443,8 @@ fn front_from(entries: &[MarkedItem], from: u32) -> u32
     count
 }
 
-/// Each run from this place on is told its place; those before it have theirs, and those that are not in the line none.
+/// Each run from this place on is told its place; those before it have theirs, and those that are
+/// not in the line none.
 fn tell_places(places: &mut [Option<u32>], entries: &[MarkedItem], from: u32)
     requires once { all_differ (items_of entries.now) ≡ true }
     requires few { length entries.now < 2 ^ 32 }

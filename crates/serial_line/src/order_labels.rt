@@ -8,8 +8,8 @@ const APART: u64 = 1 << 32;
 /// The greatest label of the first item; that of each further one is by one greater.
 const GREATEST: u64 = u64::MAX - APART + 1;
 
-/// An item at the place `at` has a label from now on, and the others have theirs. Where none is free between those of its
-/// neighbours, all labels from the place `sealed` on are given anew.
+/// An item at the place `at` has a label from now on, and the others have theirs. Where none is
+/// free between those of its neighbours, all labels from the place `sealed` on are given anew.
 pub(crate) fn insert_label(labels: &mut Vec<u64>, at: u32, sealed: u32)
     requires room { vec_len labels.old < vec_capacity labels.old }
     requires few { vec_len labels.old + 1 < 2 ^ 32 }
@@ -20,7 +20,8 @@ pub(crate) fn insert_label(labels: &mut Vec<u64>, at: u32, sealed: u32)
     ensures count { vec_len labels.new ≡ vec_len labels.old + 1 }
     ensures capacity { vec_capacity labels.new ≡ vec_capacity labels.old }
     ensures kept { take sealed labels.new.items ≡ take sealed labels.old.items }
-    ensures others { has_free 0 at labels.old.items ≡ true → remove labels.new.items at ≡ labels.old.items }
+    ensures others { has_free 0 at labels.old.items ≡ true
+        → remove labels.new.items at ≡ labels.old.items }
 {
     let given = free_label(labels.as_slice(), at);
     let label = given.unwrap_or(0);
@@ -31,8 +32,8 @@ pub(crate) fn insert_label(labels: &mut Vec<u64>, at: u32, sealed: u32)
     }
 }
 
-/// The item at the place `at` leaves with its label, and the others keep theirs. Where these would leave too little room,
-/// all labels from the place `sealed` on are given anew.
+/// The item at the place `at` leaves with its label, and the others keep theirs. Where these would
+/// leave too little room, all labels from the place `sealed` on are given anew.
 pub(crate) fn remove_label(labels: &mut Vec<u64>, at: u32, sealed: u32)
     requires few { vec_len labels.old < 2 ^ 32 }
     requires place { at < vec_len labels.old }
@@ -49,8 +50,8 @@ pub(crate) fn remove_label(labels: &mut Vec<u64>, at: u32, sealed: u32)
     }
 }
 
-/// A label for an item at this place, between those of its neighbours, none where none is free; at the end as far from the
-/// last one as labels are given apart.
+/// A label for an item at this place, between those of its neighbours, none where none is free; at
+/// the end as far from the last one as labels are given apart.
 fn free_label(labels: &[u64], at: u32) -> Option<u64>
     requires few { length labels.now < 2 ^ 32 }
     requires place { at ≤ length labels.now }

@@ -18,9 +18,11 @@ HasDevices home commands = All (λ c. c.device.0 < length home) commands
 
 -- each command of each run of the roster is on a device of the home
 abbrev pub HasRosterDevices : List Stand → Roster → Type 0
-HasRosterDevices home roster = All (λ run. HasDevices home run.routine.commands.items) roster.runs.items
+HasRosterDevices home roster =
+    All (λ run. HasDevices home run.routine.commands.items) roster.runs.items
 
--- an item is of the roster and the home: its run is one of the roster's, its device one of the home's
+-- an item is of the roster and the home: its run is one of the roster's, its device one of the
+-- home's
 abbrev pub IsItemOf : List Stand → Roster → Item → Type 0
 IsItemOf home roster (Ran r) = IsTrue (is_run (runs_of roster) r.0)
 IsItemOf home roster (Failed d k) = d.0 < length home

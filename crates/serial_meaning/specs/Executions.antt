@@ -14,11 +14,13 @@ use Rattle.std.specs.Prelude.{List, None, Option, Some, if◌then◌else◌, map
 
 -- the execution of the whole routine in the world
 abbrev pub routine_in : World → Routine → Listed Kind → Execution
-routine_in world routine kinds = routine_execution kinds.items routine.commands.items world.devices.items
+routine_in world routine kinds =
+    routine_execution kinds.items routine.commands.items world.devices.items
 
 -- the serial execution of the items in the world
 abbrev pub order_in : World → Listed Item → Roster → Listed Kind → SerialRun
-order_in world items roster kinds = serial_execution (runs_of roster) kinds.items world.devices.items items.items
+order_in world items roster kinds =
+    serial_execution (runs_of roster) kinds.items world.devices.items items.items
 
 -- the answers of a routine, where its execution is not refused
 abbrev pub routine_answers : Execution → Option (List Answer)

@@ -13,8 +13,8 @@ pub struct Outcome {
     pub stand: Stand,
 }
 
-/// The outcome of a command with this guard, job and register, on a device of this kind that stands so. Where the guard
-/// does not hold it is skipped, on a device that is up or down.
+/// The outcome of a command with this guard, job and register, on a device of this kind that stands
+/// so. Where the guard does not hold it is skipped, on a device that is up or down.
 pub fn outcome_of(kind: Kind, guard: Guard, job: Job, register: Value, stand: Stand) -> Outcome
     ensures { effect_of result ≡ command_effect kind guard job register stand }
 {

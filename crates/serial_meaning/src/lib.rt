@@ -1,4 +1,5 @@
-// The serial meaning as calls: what a whole routine does, and what the items of an order do one after another.
+// The serial meaning as calls: what a whole routine does, and what the items of an order do one
+// after another.
 #![tactic(auto)]
 
 mod effects;

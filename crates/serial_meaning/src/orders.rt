@@ -39,7 +39,8 @@ impl OrderProgress {
         requires devices { HasRosterDevices self.home.items roster.now }
         requires item { IsItemOf self.home.items roster.now item }
         ensures done { IfOk result (DoesItem (runs_of roster.now) kinds.now.items self item) }
-        ensures kept { IfOk result (λ next. IfSome next (λ order. length order.home.items ≡ length self.home.items)) }
+        ensures kept { IfOk result
+            (λ next. IfSome next (λ order. length order.home.items ≡ length self.home.items)) }
     {
         match item {
             Item::Ran(r) => self.run(alloc, r, roster, kinds),
@@ -60,7 +61,8 @@ impl OrderProgress {
         requires devices { HasRosterDevices self.home.items roster.now }
         requires run { IsTrue (is_run (runs_of roster.now) r.0) }
         ensures done { IfOk result (DoesItem (runs_of roster.now) kinds.now.items self (Ran r)) }
-        ensures kept { IfOk result (λ next. IfSome next (λ order. length order.home.items ≡ length self.home.items)) }
+        ensures kept { IfOk result
+            (λ next. IfSome next (λ order. length order.home.items ≡ length self.home.items)) }
     {
         let OrderProgress { home, mut answers } = self;
         match execute_commands(alloc, home, roster.commands(r), kinds)? {
@@ -119,15 +121,15 @@ impl OrderProgress {
     }
 }
 
-/// Does the items one after another in the world and gives the answers of each run, in order. `None` exactly where an
-/// item does not apply: a run with a must command that fails, a failure of a device that is down, or a restart of one
-/// that is up.
+/// Does the items one after another in the world and gives the answers of each run, in order.
+/// `None` exactly where an item does not apply: a run with a must command that fails, a failure of
+/// a device that is down, or a restart of one that is up.
 ///
-/// Asks for a kind for each device of the world, that each command of the roster is on one of these devices, and that
-/// each item is a run of the roster or an event of one of these devices.
+/// Asks for a kind for each device of the world, that each command of the roster is on one of these
+/// devices, and that each item is a run of the roster or an event of one of these devices.
 ///
-/// Answers `NoMemory` where there is none for a copy of the world and for the answers. The world is unchanged after
-/// that and after `None`.
+/// Answers `NoMemory` where there is none for a copy of the world and for the answers. The world is
+/// unchanged after that and after `None`.
 pub fn run_order(
     alloc: Global,
     world: &mut World,

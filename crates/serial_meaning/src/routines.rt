@@ -27,7 +27,8 @@ impl RoutineProgress {
         requires kinds { HasKinds self.home.items kinds.now.items }
         requires device { command.device.0 < length self.home.items }
         ensures done { IfOk result (DoesCommand kinds.now.items self command) }
-        ensures kept { IfOk result (λ next. IfSome next (λ run. length run.home.items ≡ length self.home.items)) }
+        ensures kept { IfOk result
+            (λ next. IfSome next (λ run. length run.home.items ≡ length self.home.items)) }
     {
         let device = command.device.0 as usize;
         let kind = kinds.as_slice()[device];
@@ -53,7 +54,8 @@ pub(crate) fn execute_commands(
     requires kinds { HasKinds home.items kinds.now.items }
     requires devices { HasDevices home.items commands.now }
     ensures done { IfOk result (DoesCommands kinds.now.items home.items commands.now) }
-    ensures kept { IfOk result (λ run. IfSome run (λ whole. length whole.home.items ≡ length home.items)) }
+    ensures kept { IfOk result
+        (λ run. IfSome run (λ whole. length whole.home.items ≡ length home.items)) }
 {
     let mut run = RoutineProgress {
         home,
@@ -69,12 +71,13 @@ pub(crate) fn execute_commands(
     Ok(Some(run))
 }
 
-/// Runs a whole routine in the world and gives its answers. `None` exactly where a must command fails.
+/// Runs a whole routine in the world and gives its answers. `None` exactly where a must command
+/// fails.
 ///
 /// Asks for a kind for each device of the world, and that each command is on one of these devices.
 ///
-/// Answers `NoMemory` where there is none for a copy of the world and for the answers. The world is unchanged after
-/// that and after `None`.
+/// Answers `NoMemory` where there is none for a copy of the world and for the answers. The world is
+/// unchanged after that and after `None`.
 pub fn run_whole(
     alloc: Global,
     world: &mut World,

@@ -17,7 +17,9 @@ last_of list = last_from nothing list
 
 -- no number of the second is smaller
 abbrev pub IsNotBelow : Counts → Counts → Type 0
-IsNotBelow c d = (c.windows ≤ d.windows) × (c.runs ≤ d.runs) × (c.committed ≤ d.committed) × (c.aborted ≤ d.aborted)
+IsNotBelow c d =
+    (c.windows ≤ d.windows) × (c.runs ≤ d.runs) × (c.committed ≤ d.committed)
+    × (c.aborted ≤ d.aborted)
 
 -- the numbers never fall in the list, and its first are not below c
 abbrev pub RisesFrom : Counts → List Counts → Type 0

@@ -37,7 +37,8 @@ pub record ViewsAreKept (x : Counts) (views : List PassView) : Type 0 where
 abbrev pub HasPublished : PassView → Counts → Counts → PassView → Type 0
 HasPublished v x y w = w ≡ publishing (v.seen ++ y ∷ [])
 
--- what is found is the last entry of a list that begins with what was seen before and with what was taken in; who publishes had seen it all
+-- what is found is the last entry of a list that begins with what was seen before and with what was
+-- taken in; who publishes had seen it all
 pub record HasLooked (v : PassView) (x y : Counts) (w : PassView) : Type 0 where
   pub plain : w ≡ record { publishes = v.publishes; seen = w.seen; met = [] }
   pub grows : StartsWith w.seen v.seen

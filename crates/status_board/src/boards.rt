@@ -54,7 +54,8 @@ impl Model for Publisher {
 
     ghost view = { λ p. record { board = p.pass.table_id; list = (cell_view p.pass).seen } };
 
-    ghost invariant = { λ p. (cell_view p.pass ≡ publishing (cell_view p.pass).seen) × Rises (cell_view p.pass).seen };
+    ghost invariant = { λ p. (cell_view p.pass ≡ publishing (cell_view p.pass).seen)
+        × Rises (cell_view p.pass).seen };
 }
 
 impl Model for Watcher {
@@ -68,7 +69,8 @@ impl Model for Watcher {
 
     ghost view = { λ w. record { board = w.pass.table_id; list = (cell_view w.pass).seen } };
 
-    ghost invariant = { λ w. (cell_view w.pass ≡ watching (cell_view w.pass).seen) × Rises (cell_view w.pass).seen };
+    ghost invariant = { λ w. (cell_view w.pass ≡ watching (cell_view w.pass).seen)
+        × Rises (cell_view w.pass).seen };
 }
 
 impl Board {
@@ -87,7 +89,8 @@ impl Board {
         }
     }
 
-    /// Publishes these counts, of which no number is smaller than in those before. Nothing follows counts that are over.
+    /// Publishes these counts, of which no number is smaller than in those before. Nothing follows
+    /// counts that are over.
     pub fn publish<R: Wait>(&self, rt: &R, p: &mut Publisher, c: Counts)
         requires board { p.old.board ≡ self.now }
         requires rises { IsNotBelow (last_of p.old.list) c }
@@ -116,8 +119,8 @@ impl Board {
 
     /// The counts that were published last: zeros, and not over, where none were.
     ///
-    /// No number of them is smaller than in those that the watcher has read before, or in those that were published when
-    /// it was made.
+    /// No number of them is smaller than in those that the watcher has read before, or in those
+    /// that were published when it was made.
     pub fn read<R: Wait>(&self, rt: &R, w: &mut Watcher) -> Counts
         requires { w.old.board ≡ self.now }
         ensures board { w.new.board ≡ w.old.board }

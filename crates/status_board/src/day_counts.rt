@@ -37,7 +37,8 @@ impl Counts {
 impl Words<5> for Counts {
     ghost use Rattle.std.specs.Prelude.{[], if◌then◌else◌, ◌∷◌};
 
-    ghost words = { λ c. c.windows ∷ c.runs ∷ c.committed ∷ c.aborted ∷ (if c.over then 1 else 0) ∷ [] };
+    ghost words = { λ c. c.windows ∷ c.runs ∷ c.committed ∷ c.aborted
+        ∷ (if c.over then 1 else 0) ∷ [] };
 
     fn to_words(self) -> [u64; 5] {
         [

@@ -1,20 +1,21 @@
-//! The rule of the board's cell: it holds the last publishing, and each pass knows a beginning of the list of publishings.
+//! The rule of the board's cell: it holds the last publishing, and each pass knows a beginning of
+//! the list of publishings.
 use crate::day_counts::Counts;
 use atomic_table::{Join, Split};
 use crossbeam_utils::atomic::seq_cell::{Pass, RuledSeqCell};
 use crossbeam_utils::rule::{Outcome, Protocol};
 use std::collections::LinkedList;
 
-/// What a pass knows: whether it publishes, the publishings that it has seen, and those that a pass which it took in has
-/// seen and that it has not compared yet. No value of it is made.
+/// What a pass knows: whether it publishes, the publishings that it has seen, and those that a pass
+/// which it took in has seen and that it has not compared yet. No value of it is made.
 pub struct PassView {
     pub publishes: bool,
     pub seen: LinkedList<Counts>,
     pub met: LinkedList<Counts>,
 }
 
-/// There is one list of publishings, whose numbers never fall; one pass at most adds to it, and each pass has seen a
-/// beginning of it.
+/// There is one list of publishings, whose numbers never fall; one pass at most adds to it, and
+/// each pass has seen a beginning of it.
 pub struct OneList;
 
 impl Protocol<Counts, PassView> for OneList {

@@ -1,7 +1,8 @@
 //! Who is told what a watcher reads.
 use crate::day_counts::Counts;
 
-/// Who is told what a watcher reads while the day runs. Nothing is asked of it, and no promise rests on it.
+/// Who is told what a watcher reads while the day runs. Nothing is asked of it, and no promise
+/// rests on it.
 pub trait Teller {
     /// A day of so many windows begins.
     fn begin(&mut self, windows: u64);

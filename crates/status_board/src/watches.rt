@@ -7,7 +7,8 @@ use crate::day_counts::Counts;
 use crate::tellers::{Silent, Teller};
 use std::sync::Wait;
 
-/// Reads again and again, until the counts are over. It may wait: what is said of its answer holds if it returns.
+/// Reads again and again, until the counts are over. It may wait: what is said of its answer holds
+/// if it returns.
 pub fn watch<R: Wait>(rt: &R, board: &Board, w: Watcher) -> (Watcher, Counts)
     requires { w.board ≡ board.now }
     ensures board { result.0.board ≡ w.board }
@@ -22,10 +23,11 @@ pub fn watch<R: Wait>(rt: &R, board: &Board, w: Watcher) -> (Watcher, Counts)
     (w, counts)
 }
 
-/// Does the same with a watcher that is lent, and tells each reading that is another one than the reading before it.
+/// Does the same with a watcher that is lent, and tells each reading that is another one than the
+/// reading before it.
 ///
-/// Between two readings it sleeps, for some hundredths of a second at most, so not each publishing is read; that the
-/// day is over wakes it.
+/// Between two readings it sleeps, for some hundredths of a second at most, so not each publishing
+/// is read; that the day is over wakes it.
 pub fn watch_telling<R: Wait, T: Teller>(
     rt: &R,
     board: &Board,

@@ -1,4 +1,5 @@
--- What is tested before an order is done: that it is of a roster and of a home with so many devices.
+-- What is tested before an order is done: that it is of a roster and of a home with so many
+-- devices.
 use Rattle.command_rules.specs.declared.rosters.RosterRun.{RosterRun}
 use Rattle.home_types.specs.declared.commands.Command.{Command}
 use Rattle.home_types.specs.declared.items.Item.TheVariants.{Back, Failed, Ran}

@@ -23,8 +23,8 @@ pub fn push_made(text: &mut String, made: Made) -> Result<(), AllocError> {
     text.push_str("\n")
 }
 
-/// Appends the text of a closed window with its trace, the turns and faults of its devices, how many windows were opened
-/// on the home, and the judgement.
+/// Appends the text of a closed window with its trace, the turns and faults of its devices, how
+/// many windows were opened on the home, and the judgement.
 pub fn push_closed(
     alloc: Global,
     text: &mut String,
@@ -50,7 +50,8 @@ pub fn push_closed(
     push_judgement(alloc, text, script, mode, closed)
 }
 
-/// Appends whether the order, done from the first state, agrees with the record. The weak model claims no order.
+/// Appends whether the order, done from the first state, agrees with the record. The weak model
+/// claims no order.
 pub fn push_judgement(
     alloc: Global,
     text: &mut String,

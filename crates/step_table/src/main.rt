@@ -1,4 +1,5 @@
-// Reads each line of the input as a window and what is to be done in it, and writes what the hub or the player answers.
+// Reads each line of the input as a window and what is to be done in it, and writes what the hub or
+// the player answers.
 #![tactic(auto)]
 
 mod answers;

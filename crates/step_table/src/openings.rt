@@ -22,12 +22,14 @@ pub struct Opened {
     pub rounds: u32,
 }
 
-/// Opens the first window of the script on a new home. None where there is no window, and where the model does not go
-/// with the scheduler.
+/// Opens the first window of the script on a new home. None where there is no window, and where the
+/// model does not go with the scheduler.
 pub fn open_first(alloc: Global, script: &Script, mode: Mode) -> Result<Option<Opened>, AllocError>
     requires sound { IsSound (plain_script script.now) }
-    ensures fresh { IfOk result (λ there. IfSome there (λ first. configuration_of first.hub ≡ opened first.hub.setting first.hub.rounds)) }
-    ensures rounds { IfOk result (λ there. IfSome there (λ first. first.hub.rounds ≡ first.rounds)) }
+    ensures fresh { IfOk result (λ there. IfSome there
+        (λ first. configuration_of first.hub ≡ opened first.hub.setting first.hub.rounds)) }
+    ensures rounds { IfOk result
+        (λ there. IfSome there (λ first. first.hub.rounds ≡ first.rounds)) }
 {
     if script.windows.len() == 0 || !is_mode(mode) {
         return Ok(None);
@@ -50,7 +52,8 @@ fn open_window(alloc: Global, script: &Script, mode: Mode) -> Result<Opened, All
     requires sound { IsSound (plain_script script.now) }
     requires goes { IsTrue (is_mode mode) }
     requires there { 0 < length script.now.windows.items }
-    ensures fresh { IfOk result (λ first. configuration_of first.hub ≡ opened first.hub.setting first.hub.rounds) }
+    ensures fresh { IfOk result
+        (λ first. configuration_of first.hub ≡ opened first.hub.setting first.hub.rounds) }
     ensures rounds { IfOk result (λ first. first.hub.rounds ≡ first.rounds) }
 {
     let window = &script.windows.as_slice()[0];

@@ -42,7 +42,8 @@ pub fn push_replay(
     }
 }
 
-/// Picks the turns of the window and tells what each did; then finishes it by its seed where it does not close.
+/// Picks the turns of the window and tells what each did; then finishes it by its seed where it
+/// does not close.
 pub fn push_play<R: Wait>(
     rt: &R,
     alloc: Global,

@@ -26,7 +26,8 @@ enum Task<'a> {
         state: u64,
         bounds: &'a str,
     },
-    /// `play`, `replay`, `run`, or steps with commas between them, in the first window of the script.
+    /// `play`, `replay`, `run`, or steps with commas between them, in the first window of the
+    /// script.
     Window {
         mode: Mode,
         calls: &'a str,

@@ -14,8 +14,8 @@ use std::fmt::Write;
 use std::sync::Wait;
 use std::thread::Threads;
 
-/// Works the window with threads. Which of them steps first is free, so of the record only this is told: how many runs
-/// it says have ended, and the judgement.
+/// Works the window with threads. Which of them steps first is free, so of the record only this is
+/// told: how many runs it says have ended, and the judgement.
 pub fn push_run<R: Threads + Wait + Sync, C: Clock + Sync>(
     rt: &R,
     alloc: Global,

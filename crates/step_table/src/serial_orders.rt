@@ -19,8 +19,8 @@ struct Redone {
     runs: List<RunAnswers>,
 }
 
-/// Whether the items of the record's order, done one after another from its first state, give its answers and its last
-/// state.
+/// Whether the items of the record's order, done one after another from its first state, give its
+/// answers and its last state.
 pub fn is_serial(alloc: Global, script: &Script, closed: &WindowRecord) -> Result<bool, NoMemory>
     requires sound { IsSound (plain_script script.now) }
 {
@@ -43,7 +43,8 @@ fn script_kinds(alloc: Global, script: &Script) -> Result<List<Kind>, NoMemory> 
     Ok(kinds)
 }
 
-/// Does the items of the record's order. `None` where they are not of the roster and the home, or one does not apply.
+/// Does the items of the record's order. `None` where they are not of the roster and the home, or
+/// one does not apply.
 fn redo(
     alloc: Global,
     roster: &Roster,

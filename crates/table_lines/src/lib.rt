@@ -1,4 +1,5 @@
-// What the programs of stored tables share: the table read whole, its lines, each with a verb, and the cases that they make.
+// What the programs of stored tables share: the table read whole, its lines, each with a verb, and
+// the cases that they make.
 #![tactic(auto)]
 
 mod cases;

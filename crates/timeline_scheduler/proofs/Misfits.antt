@@ -41,7 +41,10 @@ use Rattle.timeline_scheduler.specs.declared.slots.Slot.{Slot}
 plan_alike : (a b : ℕ → ℕ) (cs : List Command) (p : Planning) → ((d : ℕ) → list_any (is_on d) cs ≡ true → a d ≡ b d) → fold (plan_more a) p cs ≡ fold (plan_more b) p cs
 plan_alike a b [] p same = refl
 plan_alike a b (c ∷ cs) p same =
-    ap (λ k. fold (plan_more a) (record { clock = min (max p.clock k + c.ms) greatest; planned = p.planned ++ record { device = c.device.0; from = max p.clock k; to = min (max p.clock k + c.ms) greatest } ∷ [] }) cs) (same c.device.0 (or_left (c.device.0 == c.device.0) (list_any (is_on c.device.0) cs) (eq-eqb c.device.0 c.device.0 refl)))
+    ap (λ k. fold (plan_more a) (record {
+      clock = min (max p.clock k + c.ms) greatest;
+      planned = p.planned ++ record { device = c.device.0; from = max p.clock k; to = min (max p.clock k + c.ms) greatest } ∷ [];
+    }) cs) (same c.device.0 (or_left (c.device.0 == c.device.0) (list_any (is_on c.device.0) cs) (eq-eqb c.device.0 c.device.0 refl)))
     ∙ plan_alike a b cs (plan_more b p c) (λ d on. same d (or_right (c.device.0 == d) (list_any (is_on d) cs) on))
 
 -- the devices that are planned are those of the commands

@@ -210,7 +210,9 @@ each_behind : (P : Item → List Item → Type 0) (front is : List Item) → Eac
 each_behind P [] is all = all
 each_behind P (i ∷ front) is all = each_behind P front is all.1
 
-module _ (w : Setting) (n : Reading) (g : Grips) (f : Facts w n g) (r : ℕ) (table : List LineageState) (history : List Kept) (size : length table ≡ length w.first) (lines : (d : ℕ) → d < length w.first → AreOfLine w n g d (accesses_at table d)) (dooms : (q : ℕ) → is_some (doom_of history q) ≡ is_doomed n q) where
+module _ (w : Setting) (n : Reading) (g : Grips) (f : Facts w n g) (r : ℕ) (table : List LineageState) (history : List Kept)
+    (size : length table ≡ length w.first) (lines : (d : ℕ) → d < length w.first → AreOfLine w n g d (accesses_at table d))
+    (dooms : (q : ℕ) → is_some (doom_of history q) ≡ is_doomed n q) where
   -- each device that is followed is free behind these items when its slot says so
   abbrev pub AllFree : List Item → List Slot → Type 0
   AllFree items slots = (d : ℕ) → d < length w.first → is_followed w.runs r d ≡ true → (slot_at slots d).free ≡ free w n r items d

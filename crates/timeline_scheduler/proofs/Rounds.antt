@@ -176,7 +176,10 @@ module _ (table : List LineageState) (line : List Mark) (history : List Kept) (r
   closed_flags seeded closed closed_is = ap (λ (s : ScratchRoom). length s.before) closed_is ∙ closure_size (meet runs) seeded.before (items_of line) ∙ items_length
 
   -- .. and each further one
-  module _ (was taken closed planned : ScratchRoom) (round : IsRound was.before was.slots) (taken_is : taken ≡ record was { before = either_of was.before (misfits was.slots) }) (closed_is : closed ≡ record taken { before = closure (meet runs) taken.before (items_of line) }) (planned_is : planned ≡ record closed { slots = planned.slots }) where
+  module _ (was taken closed planned : ScratchRoom) (round : IsRound was.before was.slots)
+      (taken_is : taken ≡ record was { before = either_of was.before (misfits was.slots) })
+      (closed_is : closed ≡ record taken { before = closure (meet runs) taken.before (items_of line) })
+      (planned_is : planned ≡ record closed { slots = planned.slots }) where
     pub next_of : length planned.slots ≡ length closed.slots → Times closed.before closed.slots planned.slots → IsRound planned.before planned.slots
     next_of long holds =
         next_round was.before taken.before planned.before was.slots planned.slots round (ap (λ (s : ScratchRoom). s.before) taken_is) (ap (λ (s : ScratchRoom). s.before) planned_is ∙ ap (λ (s : ScratchRoom). s.before) closed_is)
@@ -190,7 +193,9 @@ module _ (table : List LineageState) (line : List Mark) (history : List Kept) (r
     pub next_fewer : count_by not taken.before < count_by not was.before → count_by not planned.before < count_by not was.before
     next_fewer less =
         let most : count_by not planned.before ≤ count_by not taken.before = subst (λ bs. count_by not bs ≤ count_by not taken.before) (sym (ap (λ (s : ScratchRoom). s.before) planned_is ∙ ap (λ (s : ScratchRoom). s.before) closed_is))
-        (outside_part taken.before (closure (meet runs) taken.before (items_of line)) (closure_holds (meet runs) taken.before (items_of line) (ap (λ (s : ScratchRoom). length s.before) taken_is ∙ either_size was.before (misfits was.slots) (barred_length was.before was.slots round) ∙ round.flags ∙ sym items_length))) in
+        (outside_part taken.before (closure (meet runs) taken.before (items_of line))
+        (closure_holds (meet runs) taken.before (items_of line) (ap (λ (s : ScratchRoom). length s.before) taken_is
+        ∙ either_size was.before (misfits was.slots) (barred_length was.before was.slots round) ∙ round.flags ∙ sym items_length))) in
         omega (arith, less, most)
 
   -- The last one: none does not fit

@@ -6,7 +6,8 @@ use Rattle.std.specs.List.{list_any}
 use Rattle.std.specs.Prelude.{Bool, List, None, Option, Some, if◌then◌else◌, option_and_then, slice_get, ℕ, ◌==◌, ◌≡◌}
 use Rattle.timeline_scheduler.specs.declared.slots.Slot.{Slot}
 
--- for each device when it is free and what is planned there, for each item whether it stands before the run, and for how many items there is room
+-- for each device when it is free and what is planned there, for each item whether it stands before
+-- the run, and for how many items there is room
 pub record ScratchRoom : Type 0 where
   pub slots : List Slot
   pub before : List Bool
@@ -16,9 +17,12 @@ pub record ScratchRoom : Type 0 where
 abbrev pub planned_in : List Slot → DeviceId → Option (Moment × Moment)
 planned_in slots d = option_and_then (λ (s : Slot). s.planned) (slice_get slots d)
 
--- from when and to when a run that is planned so uses the device: from the start of its first command there to the end of its last one
+-- from when and to when a run that is planned so uses the device: from the start of its first
+-- command there to the end of its last one
 abbrev pub planned_span : List Planned → DeviceId → Option (Moment × Moment)
-planned_span planned d = if list_any (λ p. p.device == d) planned then Some (planned_start planned d, planned_end planned d) else None
+planned_span planned d =
+    if list_any (λ p. p.device == d) planned
+    then Some (planned_start planned d, planned_end planned d) else None
 
 -- the scratch holds the times of this plan
 abbrev pub HoldsTimes : List Slot → List Planned → Type 0

@@ -1,4 +1,5 @@
--- What the slots of a scratch become as items of the line are passed, and as a run is planned behind them; which runs outside do not fit.
+-- What the slots of a scratch become as items of the line are passed, and as a run is planned
+-- behind them; which runs outside do not fit.
 use Rattle.command_rules.specs.Rosters.{Run, commands_of, reads_first, touches, writes_on}
 use Rattle.history_book.specs.Books.{doom_of}
 use Rattle.history_book.specs.Plans.{plan_more}
@@ -44,7 +45,8 @@ devices_among runs r devices = filter (touches runs r) (range_with_len 0 devices
 
 -- the run begins on some device with a read
 abbrev pub reads_some : List Run → RunId → Bool
-reads_some runs r = list_any (λ c. reads c.job && reads_first runs r c.device.0) (commands_of runs r)
+reads_some runs r =
+    list_any (λ c. reads c.job && reads_first runs r c.device.0) (commands_of runs r)
 
 -- the plan of r needs to know of the device: it is of its footprint, or r waits for whole runs
 abbrev pub is_followed : List Run → RunId → DeviceId → Bool
@@ -73,10 +75,14 @@ devices_passed table runs r x = filter (is_passed table runs r x) (range_with_le
 
 -- An item is passed
 
--- behind this access the device is free at its planned end, unless its run is done with it, or is doomed
+-- behind this access the device is free at its planned end, unless its run is done with it, or is
+-- doomed
 abbrev pub slot_behind : Bool → Option Access → Slot → Slot
 slot_behind doomed None slot = slot
-slot_behind doomed (Some a) slot = record { free = if doomed || is_released a.status then slot.free else max slot.free a.to; planned = slot.planned }
+slot_behind doomed (Some a) slot = record {
+  free = if doomed || is_released a.status then slot.free else max slot.free a.to;
+  planned = slot.planned;
+}
 
 -- the planned end of the access, where there is one
 abbrev pub end_of_access : Option Access → Moment
@@ -87,9 +93,12 @@ end_of_access (Some a) = a.to
 abbrev pub slot_passed : List LineageState → Bool → RunId → DeviceId → Slot → Slot
 slot_passed table doomed x d slot = slot_behind doomed (access_of x (accesses_at table d)) slot
 
--- where r begins on the device with a read, and x writes it, it is free at the planned end of the whole of x
+-- where r begins on the device with a read, and x writes it, it is free at the planned end of the
+-- whole of x
 abbrev pub slot_waiting : List Run → RunId → RunId → Moment → DeviceId → Slot → Slot
-slot_waiting runs r x whole d slot = if nat_lt slot.free whole && (reads_first runs r d && writes_on runs x d) then record slot { free = whole } else slot
+slot_waiting runs r x whole d slot =
+    if nat_lt slot.free whole && (reads_first runs r d && writes_on runs x d)
+    then record slot { free = whole } else slot
 
 -- the slot of the device is changed so
 abbrev pub changed_on : (DeviceId → Slot → Slot) → List Slot → DeviceId → List Slot
@@ -101,30 +110,43 @@ changed change devices slots = fold (changed_on change) slots devices
 
 -- the planned end of the whole run, by its accesses
 abbrev pub whole_passed : List LineageState → List Run → RunId → RunId → Moment
-whole_passed table runs r x = fold (λ t d. max t (end_of_access (access_of x (accesses_at table d)))) 0 (devices_passed table runs r x)
+whole_passed table runs r x =
+    fold (λ t d. max t (end_of_access (access_of x (accesses_at table d)))) 0
+    (devices_passed table runs r x)
 
 -- the run stands before r
-abbrev pub passed_run : List LineageState → List Kept → List Run → RunId → RunId → List Slot → List Slot
-passed_run table history runs r x slots = waited (whole_passed table runs r x) (changed (slot_passed table (is_some (doom_of history x)) x) (devices_passed table runs r x) slots)
+abbrev pub passed_run : List LineageState → List Kept → List Run → RunId → RunId
+    → List Slot → List Slot
+passed_run table history runs r x slots =
+    waited (whole_passed table runs r x) (changed
+    (slot_passed table (is_some (doom_of history x)) x) (devices_passed table runs r x) slots)
   where
     waited : Moment → List Slot → List Slot
-    waited whole passed = if nat_lt 0 whole then changed (slot_waiting runs r x whole) (devices_among runs r (length passed)) passed else passed
+    waited whole passed =
+        if nat_lt 0 whole
+        then changed (slot_waiting runs r x whole) (devices_among runs r (length passed)) passed
+        else passed
 
 -- the item does
-abbrev pub passed_item : List LineageState → List Kept → List Run → RunId → Item → List Slot → List Slot
+abbrev pub passed_item : List LineageState → List Kept → List Run → RunId → Item
+    → List Slot → List Slot
 passed_item table history runs r (Ran x) slots = passed_run table history runs r x.0 slots
 passed_item table history runs r (Failed d k) slots = slots
 passed_item table history runs r (Back d k) slots = slots
 
 -- all of these items do, and no other
-abbrev pub passed_set : List LineageState → List Kept → List Run → RunId → List Item → List Slot → List Slot
-passed_set table history runs r items slots = fold (λ ss i. passed_item table history runs r i ss) (cleared slots) items
+abbrev pub passed_set : List LineageState → List Kept → List Run → RunId → List Item
+    → List Slot → List Slot
+passed_set table history runs r items slots =
+    fold (λ ss i. passed_item table history runs r i ss) (cleared slots) items
 
 -- A plan
 
 -- the commands planned behind what was passed, from this moment on
 abbrev pub plan_behind : List Slot → List Command → Moment → List Planned
-plan_behind slots commands m = (fold (plan_more (λ d. (slot_at slots d).free)) (record { clock = m; planned = [] }) commands).planned
+plan_behind slots commands m =
+    (fold (plan_more (λ d. (slot_at slots d).free))
+    (record { clock = m; planned = [] }) commands).planned
 
 -- the use of the device with one more command, planned from and to these times
 abbrev pub used_again : Option (Moment × Moment) → Moment → Moment → Moment × Moment
@@ -144,4 +166,6 @@ overlaps slot (Some a) = by_plan slot.planned
 
 -- that is so of the access of the run x on some device of r
 abbrev pub is_misfit : List LineageState → List Run → RunId → List Slot → RunId → Bool
-is_misfit table runs r slots x = list_any (λ d. overlaps (slot_at slots d) (access_of x (accesses_at table d))) (devices_among runs r (length slots))
+is_misfit table runs r slots x =
+    list_any (λ d. overlaps (slot_at slots d) (access_of x (accesses_at table d)))
+    (devices_among runs r (length slots))

@@ -10,13 +10,15 @@ use history_book::End;
 use home_types::{Item, RunNo};
 use lock_leasing::Standing;
 
-/// Whether the item at this place must stand before the run `r`: it stands before each run that has not ended, has touched
-/// a device of `r`, or is a run that must.
+/// Whether the item at this place must stand before the run `r`: it stands before each run that has
+/// not ended, has touched a device of `r`, or is a run that must.
 pub(crate) fn is_needed(s: &Standing, r: RunNo, at: u32) -> bool
     requires run { IsTrue (is_run (runs_of s.now.roster.now) r.0) }
     requires known { ItemsAreKnown (runs_of s.now.roster.now) (items_of s.now.line.now.marks) }
     requires there { at < length s.now.line.now.marks }
-    ensures { slice_get (seeds s.now.book.now.items (runs_of s.now.roster.now) r.0 s.now.line.now.marks) at ≡ Some result }
+    ensures { slice_get
+        (seeds s.now.book.now.items (runs_of s.now.roster.now) r.0 s.now.line.now.marks) at
+        ≡ Some result }
 {
     if at < s.line.front() {
         return true;
@@ -40,8 +42,9 @@ fn binds_item(s: &Standing, r: RunNo, item: Item) -> bool
     }
 }
 
-/// Whether the run `x`, which stands in the line, must stand before the run `r`, whatever it has touched: its next command
-/// is on one of the devices of `r`, or it is the committed run that `r` follows.
+/// Whether the run `x`, which stands in the line, must stand before the run `r`, whatever it has
+/// touched: its next command is on one of the devices of `r`, or it is the committed run that `r`
+/// follows.
 fn binds(s: &Standing, r: RunNo, x: RunNo) -> bool
     requires run { IsTrue (is_run (runs_of s.now.roster.now) r.0) }
     requires other { IsTrue (is_run (runs_of s.now.roster.now) x.0) }
@@ -54,7 +57,8 @@ fn binds(s: &Standing, r: RunNo, x: RunNo) -> bool
     }
 }
 
-/// Whether the first command of the run `x` without an answer is on one of the devices of the run `r`.
+/// Whether the first command of the run `x` without an answer is on one of the devices of the run
+/// `r`.
 fn goes_on(s: &Standing, r: RunNo, x: RunNo) -> bool
     requires run { IsTrue (is_run (runs_of s.now.roster.now) r.0) }
     requires other { IsTrue (is_run (runs_of s.now.roster.now) x.0) }

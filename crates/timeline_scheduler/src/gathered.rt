@@ -33,11 +33,14 @@ impl Gathered {
         }
     }
 
-    /// This item is one of them too where this flag is set, or where it meets one of them. Answers whether it is.
+    /// This item is one of them too where this flag is set, or where it meets one of them. Answers
+    /// whether it is.
     pub(crate) fn take_in(&mut self, roster: &IndexedRoster, item: Item, flag: bool) -> bool
         requires { IsKnown (runs_of roster.now) item }
-        ensures answer { (items : List Item) → IsGathered (runs_of roster.now) items self.old → result ≡ (flag || list_any (meet (runs_of roster.now) item) items) }
-        ensures gathered { (items : List Item) → IsGathered (runs_of roster.now) items self.old → IsGathered (runs_of roster.now) (if result then item ∷ items else items) self.new }
+        ensures answer { (items : List Item) → IsGathered (runs_of roster.now) items self.old
+            → result ≡ (flag || list_any (meet (runs_of roster.now) item) items) }
+        ensures gathered { (items : List Item) → IsGathered (runs_of roster.now) items self.old
+            → IsGathered (runs_of roster.now) (if result then item ∷ items else items) self.new }
     {
         if !self.wants(roster, item, flag) {
             return false;
@@ -49,7 +52,8 @@ impl Gathered {
     /// Whether this flag is set, or the item meets one of them.
     fn wants(&self, roster: &IndexedRoster, item: Item, flag: bool) -> bool
         requires { IsKnown (runs_of roster.now) item }
-        ensures { (items : List Item) → IsGathered (runs_of roster.now) items self.now → result ≡ (flag || list_any (meet (runs_of roster.now) item) items) }
+        ensures { (items : List Item) → IsGathered (runs_of roster.now) items self.now
+            → result ≡ (flag || list_any (meet (runs_of roster.now) item) items) }
     {
         flag || self.meets(roster, item)
     }
@@ -57,7 +61,8 @@ impl Gathered {
     /// Whether the item meets one of them.
     fn meets(&self, roster: &IndexedRoster, item: Item) -> bool
         requires { IsKnown (runs_of roster.now) item }
-        ensures { (items : List Item) → IsGathered (runs_of roster.now) items self.now → result ≡ list_any (meet (runs_of roster.now) item) items }
+        ensures { (items : List Item) → IsGathered (runs_of roster.now) items self.now
+            → result ≡ list_any (meet (runs_of roster.now) item) items }
     {
         match item {
             Item::Ran(x) => self.meets_run(roster, x),
@@ -69,7 +74,8 @@ impl Gathered {
     /// Whether the run shares a device with one of them, or is tied to one.
     fn meets_run(&self, roster: &IndexedRoster, x: RunNo) -> bool
         requires { IsKnown (runs_of roster.now) (Ran x) }
-        ensures { (items : List Item) → IsGathered (runs_of roster.now) items self.now → result ≡ list_any (meet (runs_of roster.now) (Ran x)) items }
+        ensures { (items : List Item) → IsGathered (runs_of roster.now) items self.now
+            → result ≡ list_any (meet (runs_of roster.now) (Ran x)) items }
     {
         if self.devices.meets(roster.devices(x)) {
             return true;
@@ -80,7 +86,8 @@ impl Gathered {
     /// Whether the run follows one of them, or one of them follows it.
     fn is_tied(&self, roster: &IndexedRoster, x: RunNo) -> bool
         requires { IsKnown (runs_of roster.now) (Ran x) }
-        ensures { (items : List Item) → IsGathered (runs_of roster.now) items self.now → result ≡ list_any (are_tied (runs_of roster.now) (Ran x)) items }
+        ensures { (items : List Item) → IsGathered (runs_of roster.now) items self.now
+            → result ≡ list_any (are_tied (runs_of roster.now) (Ran x)) items }
     {
         let leads = self.leaders[x.0 as usize];
         if leads {
@@ -95,7 +102,8 @@ impl Gathered {
     /// This item is one of them too.
     fn add(&mut self, roster: &IndexedRoster, item: Item)
         requires { IsKnown (runs_of roster.now) item }
-        ensures { (items : List Item) → IsGathered (runs_of roster.now) items self.old → IsGathered (runs_of roster.now) (item ∷ items) self.new }
+        ensures { (items : List Item) → IsGathered (runs_of roster.now) items self.old
+            → IsGathered (runs_of roster.now) (item ∷ items) self.new }
     {
         match item {
             Item::Ran(x) => self.add_run(roster, x),
@@ -107,7 +115,8 @@ impl Gathered {
     /// This run is one of them too.
     fn add_run(&mut self, roster: &IndexedRoster, x: RunNo)
         requires { IsKnown (runs_of roster.now) (Ran x) }
-        ensures { (items : List Item) → IsGathered (runs_of roster.now) items self.old → IsGathered (runs_of roster.now) (Ran x ∷ items) self.new }
+        ensures { (items : List Item) → IsGathered (runs_of roster.now) items self.old
+            → IsGathered (runs_of roster.now) (Ran x ∷ items) self.new }
     {
         let devices = roster.devices(x);
         self.devices = self.devices.either(devices);

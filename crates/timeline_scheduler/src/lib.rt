@@ -1,4 +1,5 @@
-// The set of items of the line behind which a run is placed so that its plan ends earliest, and the times of that plan.
+// The set of items of the line behind which a run is placed so that its plan ends earliest, and the
+// times of that plan.
 #![tactic(auto)]
 
 mod bases;

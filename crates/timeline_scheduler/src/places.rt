@@ -9,26 +9,34 @@ use command_rules::{IndexedRoster, reads};
 use home_types::{DeviceSet, RunNo};
 use lock_leasing::Standing;
 
-/// The place in the line, counted from 0, where `r` is placed at this moment, in ms, once the items of a set stand before
-/// the others: the number of these items. The set is the least one that holds, with each item, those before it that meet it,
-/// and every item that must stand before `r`, and with which the run fits: planned behind it, the run is off each of its
-/// devices before a live run outside of it is planned to start there. All items are always such a set. The scratch then
+/// The place in the line, counted from 0, where `r` is placed at this moment, in ms, once the items
+/// of a set stand before the others: the number of these items. The set is the least one that
+/// holds, with each item, those before it that meet it, and every item that must stand before `r`,
+/// and with which the run fits: planned behind it, the run is off each of its devices before a live
+/// run outside of it is planned to start there. All items are always such a set. The scratch then
 /// holds the set, and the times of that plan.
 ///
-/// The four parts belong to one window, whose model is not the weak one, and `r` is in its roster; the scratch was opened
-/// for the table's number of devices, and for no fewer items than the line has. Takes no memory, and goes over the line
-/// three times, and again each time that the set grows.
+/// The four parts belong to one window, whose model is not the weak one, and `r` is in its roster;
+/// the scratch was opened for the table's number of devices, and for no fewer items than the line
+/// has. Takes no memory, and goes over the line three times, and again each time that the set
+/// grows.
 pub fn place(s: &Standing, r: RunNo, moment: u64, scratch: &mut Scratch) -> u32
-    requires may { MayPlan s.now.table.now s.now.line.now.marks s.now.book.now.items (runs_of s.now.roster.now) r.0 }
+    requires may { MayPlan s.now.table.now s.now.line.now.marks s.now.book.now.items
+        (runs_of s.now.roster.now) r.0 }
     requires room { length scratch.old.slots ≡ length s.now.table.now }
     requires items { length s.now.line.now.marks ≤ scratch.old.items }
-    ensures exact { IsPlaceOf s.now.table.now s.now.line.now.marks s.now.book.now.items (runs_of s.now.roster.now) r.0 moment result }
+    ensures exact { IsPlaceOf s.now.table.now s.now.line.now.marks s.now.book.now.items
+        (runs_of s.now.roster.now) r.0 moment result }
     ensures within { result ≤ length s.now.line.now.marks }
-    ensures before { IsSetOf s.now.table.now s.now.line.now.marks s.now.book.now.items (runs_of s.now.roster.now) r.0 moment scratch.new.before }
+    ensures before { IsSetOf s.now.table.now s.now.line.now.marks s.now.book.now.items
+        (runs_of s.now.roster.now) r.0 moment scratch.new.before }
     ensures flags { length scratch.new.before ≡ length s.now.line.now.marks }
-    ensures planned { IsPlanOf s.now.table.now s.now.line.now.marks s.now.book.now.items (runs_of s.now.roster.now) r.0 moment scratch.new.slots }
-    ensures least { IsLeastOf s.now.table.now s.now.line.now.marks s.now.book.now.items (runs_of s.now.roster.now) r.0 moment scratch.new.before }
-    ensures earliest { IsEarliestOf s.now.table.now s.now.line.now.marks s.now.book.now.items (runs_of s.now.roster.now) r.0 moment scratch.new.before }
+    ensures planned { IsPlanOf s.now.table.now s.now.line.now.marks s.now.book.now.items
+        (runs_of s.now.roster.now) r.0 moment scratch.new.slots }
+    ensures least { IsLeastOf s.now.table.now s.now.line.now.marks s.now.book.now.items
+        (runs_of s.now.roster.now) r.0 moment scratch.new.before }
+    ensures earliest { IsEarliestOf s.now.table.now s.now.line.now.marks s.now.book.now.items
+        (runs_of s.now.roster.now) r.0 moment scratch.new.before }
     ensures size { length scratch.new.slots ≡ length scratch.old.slots }
     ensures room_stays { scratch.new.items ≡ scratch.old.items }
 {
@@ -43,7 +51,8 @@ pub fn place(s: &Standing, r: RunNo, moment: u64, scratch: &mut Scratch) -> u32
     scratch.count()
 }
 
-/// The devices that the plan of the run needs to know of: its own, or all, `None`, where it begins on one with a read.
+/// The devices that the plan of the run needs to know of: its own, or all, `None`, where it begins
+/// on one with a read.
 fn followed(roster: &IndexedRoster, r: RunNo) -> Option<&DeviceSet>
     requires { IsTrue (is_run (runs_of roster.now) r.0) }
     ensures { AreFollowed (runs_of roster.now) r.0 (option_map (λ b. b.now) result) }

@@ -18,8 +18,9 @@ use lock_leasing::Standing;
 use std::alloc::Global;
 use std::marker::Model;
 
-/// The room in which the timeline looks for the set of items behind which a run is placed, for the devices of one home and
-/// so many items of a line. It holds the last set, and the times of the last plan.
+/// The room in which the timeline looks for the set of items behind which a run is placed, for the
+/// devices of one home and so many items of a line. It holds the last set, and the times of the
+/// last plan.
 #[derive(Drop)]
 pub struct Scratch {
     slots: Slots,
@@ -36,7 +37,8 @@ impl Model for Scratch {
 
     ghost view = { λ s. record { slots = s.slots; before = s.before.items; items = s.items } };
 
-    ghost invariant = { λ s. (length s.before.items ≤ s.items) × (s.items ≤ vec_capacity s.before) };
+    ghost invariant = { λ s. (length s.before.items ≤ s.items)
+        × (s.items ≤ vec_capacity s.before) };
 }
 
 impl Scratch {
@@ -61,15 +63,17 @@ impl Scratch {
         }
     }
 
-    /// From when and to when the run that was placed last is planned to use the device, in ms: from the start of its first
-    /// command there to the end of its last one. `None` where it has no command there.
+    /// From when and to when the run that was placed last is planned to use the device, in ms: from
+    /// the start of its first command there to the end of its last one. `None` where it has no
+    /// command there.
     pub fn planned(&self, d: DeviceNo) -> Option<(u64, u64)>
         ensures { result ≡ planned_in self.now.slots d.0 }
     {
         self.slots.planned(d)
     }
 
-    /// Whether the item that stood at this place, counted from 0, is in the set of the run that was placed last.
+    /// Whether the item that stood at this place, counted from 0, is in the set of the run that was
+    /// placed last.
     pub fn before(&self, at: u32) -> bool
         ensures { result ≡ slice_index_or self.now.before at false }
     {
@@ -94,12 +98,15 @@ impl Scratch {
         count_set(self.before.as_slice()) as u32
     }
 
-    /// The set is that of the items of the line that must stand before the run `r` wherever it is placed.
+    /// The set is that of the items of the line that must stand before the run `r` wherever it is
+    /// placed.
     pub(crate) fn seed(&mut self, s: &Standing, r: RunNo)
         requires room { length s.now.line.now.marks ≤ self.old.items }
         requires run { IsTrue (is_run (runs_of s.now.roster.now) r.0) }
         requires known { ItemsAreKnown (runs_of s.now.roster.now) (items_of s.now.line.now.marks) }
-        ensures flags { self.new ≡ record self.old { before = seeds s.now.book.now.items (runs_of s.now.roster.now) r.0 s.now.line.now.marks } }
+        ensures flags { self.new ≡ record self.old {
+          before = seeds s.now.book.now.items (runs_of s.now.roster.now) r.0 s.now.line.now.marks;
+        } }
         ensures few { length s.now.line.now.marks < 2 ^ 32 }
     {
         self.before.clear();
@@ -112,7 +119,11 @@ impl Scratch {
     pub(crate) fn close(&mut self, s: &Standing)
         requires size { length self.old.before ≡ length s.now.line.now.marks }
         requires known { ItemsAreKnown (runs_of s.now.roster.now) (items_of s.now.line.now.marks) }
-        ensures { self.new ≡ record self.old { before = closure (meet (runs_of s.now.roster.now)) self.old.before (items_of s.now.line.now.marks) } }
+        ensures { self.new ≡ record self.old {
+          before =
+              closure (meet (runs_of s.now.roster.now)) self.old.before
+              (items_of s.now.line.now.marks);
+        } }
     {
         let mut gathered = Gathered::new();
         let mut at = s.line.len();
@@ -124,16 +135,20 @@ impl Scratch {
         }
     }
 
-    /// Plans the run `r` behind the items of the set, its first command from this moment on, in ms. These devices are
-    /// followed, all where none are named.
+    /// Plans the run `r` behind the items of the set, its first command from this moment on, in ms.
+    /// These devices are followed, all where none are named.
     pub(crate) fn plan(&mut self, s: &Standing, r: RunNo, followed: Option<&DeviceSet>, moment: u64)
         requires size { length self.old.slots ≡ length s.now.table.now }
         requires flags { length self.old.before ≡ length s.now.line.now.marks }
         requires run { IsTrue (is_run (runs_of s.now.roster.now) r.0) }
         requires known { ItemsAreKnown (runs_of s.now.roster.now) (items_of s.now.line.now.marks) }
         requires homed { RunsAreHomed (length s.now.table.now) (runs_of s.now.roster.now) }
-        requires followed { AreFollowed (runs_of s.now.roster.now) r.0 (option_map (λ b. b.now) followed) }
-        ensures times { HoldsTimes self.new.slots (plan_behind (passed_set s.now.table.now s.now.book.now.items (runs_of s.now.roster.now) r.0 (chosen self.old.before (items_of s.now.line.now.marks)) self.old.slots) (commands_of (runs_of s.now.roster.now) r.0) moment) }
+        requires followed { AreFollowed (runs_of s.now.roster.now) r.0
+            (option_map (λ b. b.now) followed) }
+        ensures times { HoldsTimes self.new.slots
+            (plan_behind (passed_set s.now.table.now s.now.book.now.items (runs_of s.now.roster.now)
+            r.0 (chosen self.old.before (items_of s.now.line.now.marks)) self.old.slots)
+            (commands_of (runs_of s.now.roster.now) r.0) moment) }
         ensures rest { self.new ≡ record self.old { slots = self.new.slots } }
         ensures size { length self.new.slots ≡ length self.old.slots }
     {
@@ -148,13 +163,18 @@ impl Scratch {
         self.slots.plan(s.roster, r, moment);
     }
 
-    /// The runs outside of the set that are planned to start on a device before the run `r`, planned so, is off it are put
-    /// in. Answers whether there are some.
+    /// The runs outside of the set that are planned to start on a device before the run `r`,
+    /// planned so, is off it are put in. Answers whether there are some.
     pub(crate) fn take_misfits(&mut self, s: &Standing, r: RunNo) -> bool
         requires size { length self.old.slots ≡ length s.now.table.now }
         requires flags { length self.old.before ≡ length s.now.line.now.marks }
         requires run { IsTrue (is_run (runs_of s.now.roster.now) r.0) }
-        ensures flags { self.new ≡ record self.old { before = either_of self.old.before (map (of_run (is_misfit s.now.table.now (runs_of s.now.roster.now) r.0 self.old.slots)) (items_of s.now.line.now.marks)) } }
+        ensures flags { self.new ≡ record self.old {
+          before =
+              either_of self.old.before (map
+              (of_run (is_misfit s.now.table.now (runs_of s.now.roster.now) r.0 self.old.slots))
+              (items_of s.now.line.now.marks));
+        } }
         ensures none { result ≡ false → self.new.before ≡ self.old.before }
         ensures more { result ≡ true → count_by not self.new.before < count_by not self.old.before }
     {

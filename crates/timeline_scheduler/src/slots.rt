@@ -1,4 +1,5 @@
-//! For each device, when it is free behind the items that stand before a run, and when the run is planned to use it.
+//! For each device, when it is free behind the items that stand before a run, and when the run is
+//! planned to use it.
 ghost use Rattle.std.specs.FinSet as set;
 ghost use Rattle.std.specs.Prelude.{◌&&◌, ◌≡◌, ◌-◌, ◌<◌, IfOk, IfSome, IsTrue, None, Some, true, ℕ, is_some, length, max, option_map};
 ghost use Rattle.command_rules.specs.Items.{of_run};
@@ -75,8 +76,8 @@ impl Slots {
         Ok(Slots { slots, nears })
     }
 
-    /// From when and to when a run is planned to use the device, in ms: from the start of its first command there to the end
-    /// of its last one. `None` where it has no command there.
+    /// From when and to when a run is planned to use the device, in ms: from the start of its first
+    /// command there to the end of its last one. `None` where it has no command there.
     pub(crate) fn planned(&self, d: DeviceNo) -> Option<(u64, u64)>
         ensures { result ≡ planned_in self.now d.0 }
     {
@@ -101,8 +102,10 @@ impl Slots {
         requires run { IsTrue (is_run (runs_of s.now.roster.now) r.0) }
         requires known { IsKnown (runs_of s.now.roster.now) item }
         requires homed { RunsAreHomed (length s.now.table.now) (runs_of s.now.roster.now) }
-        requires followed { AreFollowed (runs_of s.now.roster.now) r.0 (option_map (λ b. b.now) followed) }
-        ensures { self.new ≡ passed_item s.now.table.now s.now.book.now.items (runs_of s.now.roster.now) r.0 item self.old }
+        requires followed { AreFollowed (runs_of s.now.roster.now) r.0
+            (option_map (λ b. b.now) followed) }
+        ensures { self.new ≡ passed_item s.now.table.now s.now.book.now.items
+            (runs_of s.now.roster.now) r.0 item self.old }
     {
         let Item::Ran(x) = item else {
             return;
@@ -113,8 +116,9 @@ impl Slots {
         }
     }
 
-    /// The accesses of the run `x` to the devices that are followed are passed: each device is free at the planned end there,
-    /// unless the run is done with it, or is doomed. Answers the planned end of the run on these devices.
+    /// The accesses of the run `x` to the devices that are followed are passed: each device is free
+    /// at the planned end there, unless the run is done with it, or is doomed. Answers the planned
+    /// end of the run on these devices.
     fn pass_accesses(
         &mut self,
         s: &Standing,
@@ -123,8 +127,11 @@ impl Slots {
         x: RunNo,
     ) -> u64
         requires size { length self.old ≡ length s.now.table.now }
-        requires followed { AreFollowed (runs_of s.now.roster.now) r.0 (option_map (λ b. b.now) followed) }
-        ensures slots { self.new ≡ changed (slot_passed s.now.table.now (is_some (doom_of s.now.book.now.items x.0)) x.0) (devices_passed s.now.table.now (runs_of s.now.roster.now) r.0 x.0) self.old }
+        requires followed { AreFollowed (runs_of s.now.roster.now) r.0
+            (option_map (λ b. b.now) followed) }
+        ensures slots { self.new
+            ≡ changed (slot_passed s.now.table.now (is_some (doom_of s.now.book.now.items x.0)) x.0)
+            (devices_passed s.now.table.now (runs_of s.now.roster.now) r.0 x.0) self.old }
         ensures whole { result ≡ whole_passed s.now.table.now (runs_of s.now.roster.now) r.0 x.0 }
     {
         s.table.kept();
@@ -141,13 +148,14 @@ impl Slots {
         whole
     }
 
-    /// Where the run `r` begins with a read on a device that the run `x` writes, the device is free at the planned end of
-    /// the whole run `x`.
+    /// Where the run `r` begins with a read on a device that the run `x` writes, the device is free
+    /// at the planned end of the whole run `x`.
     fn wait_for_writer(&mut self, roster: &IndexedRoster, r: RunNo, x: RunNo, whole: u64)
         requires run { IsTrue (is_run (runs_of roster.now) r.0) }
         requires writer { IsTrue (is_run (runs_of roster.now) x.0) }
         requires homed { RunsAreHomed (length self.old) (runs_of roster.now) }
-        ensures { self.new ≡ changed (slot_waiting (runs_of roster.now) r.0 x.0 whole) (devices_among (runs_of roster.now) r.0 (length self.old)) self.old }
+        ensures { self.new ≡ changed (slot_waiting (runs_of roster.now) r.0 x.0 whole)
+            (devices_among (runs_of roster.now) r.0 (length self.old)) self.old }
     {
         roster.kept();
         let waiting = roster.first_reads_of(r, x);
@@ -159,15 +167,17 @@ impl Slots {
         }
     }
 
-    /// Plans the commands of the run `r` behind the items that were passed: each starts when the one before it ends, the
-    /// first at this moment, in ms, and when its device is free, and takes as long as its estimate.
+    /// Plans the commands of the run `r` behind the items that were passed: each starts when the
+    /// one before it ends, the first at this moment, in ms, and when its device is free, and takes
+    /// as long as its estimate.
     ///
     /// Asks that nothing is planned yet.
     pub(crate) fn plan(&mut self, roster: &IndexedRoster, r: RunNo, moment: u64)
         requires run { IsTrue (is_run (runs_of roster.now) r.0) }
         requires homed { RunsAreHomed (length self.old) (runs_of roster.now) }
         requires none { (d : ℕ) → (slot_at self.old d).planned ≡ None }
-        ensures times { HoldsTimes self.new (plan_behind self.old (commands_of (runs_of roster.now) r.0) moment) }
+        ensures times { HoldsTimes self.new
+            (plan_behind self.old (commands_of (runs_of roster.now) r.0) moment) }
         ensures size { length self.new ≡ length self.old }
     {
         let commands = roster.commands(r);
@@ -181,11 +191,13 @@ impl Slots {
         }
     }
 
-    /// Whether the item is a run that is planned to start on a device of the run `r` before `r`, planned so, is off it.
+    /// Whether the item is a run that is planned to start on a device of the run `r` before `r`,
+    /// planned so, is off it.
     pub(crate) fn is_misfit(&mut self, s: &Standing, r: RunNo, item: Item) -> bool
         requires size { length self.old ≡ length s.now.table.now }
         requires run { IsTrue (is_run (runs_of s.now.roster.now) r.0) }
-        ensures misfit { result ≡ of_run (is_misfit s.now.table.now (runs_of s.now.roster.now) r.0 self.old) item }
+        ensures misfit { result
+            ≡ of_run (is_misfit s.now.table.now (runs_of s.now.roster.now) r.0 self.old) item }
         ensures slots { self.new ≡ self.old }
     {
         match item {
@@ -198,7 +210,8 @@ impl Slots {
     fn overlaps(&mut self, s: &Standing, r: RunNo, x: RunNo) -> bool
         requires size { length self.old ≡ length s.now.table.now }
         requires run { IsTrue (is_run (runs_of s.now.roster.now) r.0) }
-        ensures misfit { result ≡ is_misfit s.now.table.now (runs_of s.now.roster.now) r.0 self.old x.0 }
+        ensures misfit { result
+            ≡ is_misfit s.now.table.now (runs_of s.now.roster.now) r.0 self.old x.0 }
         ensures slots { self.new ≡ self.old }
     {
         let shared = s.table.devices_among(x, s.roster.devices(r));
@@ -215,7 +228,8 @@ impl Slots {
 }
 
 impl Slot {
-    /// This access is passed: the device is free at its planned end, unless its run is done with it, or is doomed.
+    /// This access is passed: the device is free at its planned end, unless its run is done with
+    /// it, or is doomed.
     fn pass(&mut self, access: Access, doomed: bool)
         ensures { self.new ≡ slot_behind doomed (Some access) self.old }
     {
@@ -224,7 +238,8 @@ impl Slot {
         }
     }
 
-    /// The slot behind a run that writes the device, whose whole plan ends at this moment: the device is free then.
+    /// The slot behind a run that writes the device, whose whole plan ends at this moment: the
+    /// device is free then.
     fn behind_writer(self, whole: u64) -> Slot
         ensures { result ≡ record self { free = max self.free whole } }
     {
@@ -245,7 +260,8 @@ impl Slot {
     }
 }
 
-/// The access of the run `x` to the device. It is looked for behind the one at `near` first, which is then where it stands.
+/// The access of the run `x` to the device. It is looked for behind the one at `near` first, which
+/// is then where it stands.
 fn find(table: &Table, d: DeviceNo, x: RunNo, near: &mut Option<Knot>) -> Access
     requires device { d.0 < length table.now }
     requires there { has_access x.0 (accesses_at table.now d.0) ≡ true }
@@ -261,8 +277,10 @@ fn find(table: &Table, d: DeviceNo, x: RunNo, near: &mut Option<Knot>) -> Access
 
 /// The devices among these to which the run has an access. `None`, for all, where none are named.
 fn devices_to_pass(table: &Table, x: RunNo, among: Option<&DeviceSet>) -> Option<DeviceSet>
-    ensures devices { (d : ℕ) → is_with_access table.now x.0 result d ≡ (has_access x.0 (accesses_at table.now d) && is_device_followed (option_map (λ b. b.now) among.entry) d) }
-    ensures homed { IfSome result (λ found. (d : ℕ) → set.contains found d ≡ true → (d < length table.now) × (d < most_devices)) }
+    ensures devices { (d : ℕ) → is_with_access table.now x.0 result d ≡ (has_access x.0
+        (accesses_at table.now d) && is_device_followed (option_map (λ b. b.now) among.entry) d) }
+    ensures homed { IfSome result (λ found. (d : ℕ) → set.contains found d ≡ true
+        → (d < length table.now) × (d < most_devices)) }
 {
     match among {
         Some(devices) => Some(table.devices_among(x, devices)),
@@ -270,15 +288,18 @@ fn devices_to_pass(table: &Table, x: RunNo, among: Option<&DeviceSet>) -> Option
     }
 }
 
-/// The smallest of these devices from `from` on, of those to which the run has an access where none are named.
+/// The smallest of these devices from `from` on, of those to which the run has an access where none
+/// are named.
 fn next_device(
     table: &Table,
     x: RunNo,
     devices: &Option<DeviceSet>,
     from: DeviceNo,
 ) -> Option<DeviceNo>
-    requires { IfSome devices.now (λ found. (d : ℕ) → set.contains found d ≡ true → (d < length table.now) × (d < most_devices)) }
-    ensures next { IsFirstFrom (is_with_access table.now x.0 devices.now) from.0 (option_map (λ d. d.0) result) }
+    requires { IfSome devices.now (λ found. (d : ℕ) → set.contains found d ≡ true
+        → (d < length table.now) × (d < most_devices)) }
+    ensures next { IsFirstFrom (is_with_access table.now x.0 devices.now) from.0
+        (option_map (λ d. d.0) result) }
     ensures homed { IfSome result (λ d. (d.0 < length table.now) × (d.0 < most_devices)) }
 {
     match devices {

@@ -6,7 +6,8 @@ pub record Drawing (A : Type 0) : Type 0 where
   pub made : A
   pub state : ℕ
 
--- so many, one after the other, each from its number, counted from 0, and from the state that those before it left
+-- so many, one after the other, each from its number, counted from 0, and from the state that those
+-- before it left
 unfoldable pub draw_each : {A : Type 0} → (ℕ → ℕ → Drawing A) → ℕ → ℕ → Drawing (List A)
 draw_each draw zero state = record { made = []; state = state }
 draw_each draw (suc n) state =

@@ -12,7 +12,13 @@ device_count = 32
 -- the device with this number: values from 0 to 999, at first 0, and never down
 abbrev pub trial_device : ℕ → PlainDevice
 trial_device number =
-    record { name = codes "d" ++ two_digit_text number; kind = Range 0 999; states = []; start = 0; downs = [] }
+    record {
+      name = codes "d" ++ two_digit_text number;
+      kind = Range 0 999;
+      states = [];
+      start = 0;
+      downs = [];
+    }
 
 -- they are numbered from 0
 abbrev pub trial_devices : List PlainDevice

@@ -37,7 +37,14 @@ is_must Store = true
 
 -- a command that takes 100 ms, as is estimated
 abbrev pub trial_command : ℕ → Job → Command
-trial_command device job = record { device = record { 0 = device }; job = job; when = Always; must = is_must job; ms = 100; takes = 100 }
+trial_command device job = record {
+  device = record { 0 = device };
+  job = job;
+  when = Always;
+  must = is_must job;
+  ms = 100;
+  takes = 100;
+}
 
 -- the device is drawn, then the job
 unfoldable pub draw_command : ℕ → Drawing Command
@@ -49,7 +56,10 @@ draw_command state =
 unfoldable pub draw_routine : ℕ → ℕ → Drawing PlainRoutine
 draw_routine number state =
     let commands = draw_each (λ _. draw_command) 4 state in
-    record { made = record { name = codes "r" ++ two_digit_text number; commands = commands.made }; state = commands.state }
+    record {
+      made = record { name = codes "r" ++ two_digit_text number; commands = commands.made };
+      state = commands.state;
+    }
 
 unfoldable pub draw_routines : ℕ → Drawing (List PlainRoutine)
 draw_routines state = draw_each draw_routine routine_count state

@@ -9,4 +9,8 @@ use Rattle.trial_scripts.specs.TrialWindows.{draw_windows}
 unfoldable pub trial_script : ℕ → PlainScript
 trial_script n =
     let routines = draw_routines n in
-    record { devices = trial_devices; routines = routines.made; windows = (draw_windows n routines.state).made }
+    record {
+      devices = trial_devices;
+      routines = routines.made;
+      windows = (draw_windows n routines.state).made;
+    }

@@ -67,7 +67,10 @@ fn draw_command(draws: &mut Draws) -> Command
 }
 
 fn draw_commands(alloc: Global, draws: &mut Draws) -> Result<List<Command>, NoMemory>
-    ensures { IfOk result (λ commands. record { made = commands.items; state = draws.new } ≡ draw_each (λ _. draw_command) 4 draws.old) }
+    ensures { IfOk result (λ commands. record {
+      made = commands.items;
+      state = draws.new;
+    } ≡ draw_each (λ _. draw_command) 4 draws.old) }
 {
     let mut commands = List::new(alloc);
     'commands: for _ in 0..COMMANDS {
@@ -80,7 +83,10 @@ fn draw_commands(alloc: Global, draws: &mut Draws) -> Result<List<Command>, NoMe
 #[tactic(auto, unfolding(crate::specs::TrialRoutines::draw_routine))]
 fn draw_routine(alloc: Global, draws: &mut Draws, number: u32) -> Result<RoutineText, NoMemory>
     requires { number < 100 }
-    ensures { IfOk result (λ routine. record { made = plain_routine routine; state = draws.new } ≡ draw_routine number draws.old) }
+    ensures { IfOk result (λ routine. record {
+      made = plain_routine routine;
+      state = draws.new;
+    } ≡ draw_routine number draws.old) }
 {
     Ok(RoutineText {
         name: numbered_name(alloc, 'r', number)?,
@@ -91,7 +97,10 @@ fn draw_routine(alloc: Global, draws: &mut Draws, number: u32) -> Result<Routine
 /// Draws the routines, one after the other, or answers `NoMemory`.
 #[tactic(auto, unfolding(crate::specs::TrialRoutines::draw_routines))]
 pub fn draw_routines(alloc: Global, draws: &mut Draws) -> Result<List<RoutineText>, NoMemory>
-    ensures { IfOk result (λ routines. record { made = map plain_routine routines.items; state = draws.new } ≡ draw_routines draws.old) }
+    ensures { IfOk result (λ routines. record {
+      made = map plain_routine routines.items;
+      state = draws.new;
+    } ≡ draw_routines draws.old) }
 {
     let mut routines = List::new(alloc);
     'routines: for number in 0..HOME_ROUTINES {

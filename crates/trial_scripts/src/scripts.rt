@@ -15,8 +15,8 @@ use std::alloc::Global;
 
 /// Makes the script of the trial of `n` windows, 1 to `limits::WINDOWS`, or answers `NoMemory`.
 ///
-/// All that is drawn is drawn by one generator that starts with the state `n`, first the routines and then the windows,
-/// so a number makes the same script on every machine.
+/// All that is drawn is drawn by one generator that starts with the state `n`, first the routines
+/// and then the windows, so a number makes the same script on every machine.
 #[tactic(auto, unfolding(crate::specs::TrialScripts::trial_script))]
 pub fn trial_script(alloc: Global, n: u32) -> Result<Script, NoMemory>
     requires least { 1 ≤ n }

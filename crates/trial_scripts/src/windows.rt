@@ -49,7 +49,10 @@ fn draw_run(draws: &mut Draws) -> RunText
 }
 
 fn draw_runs(alloc: Global, draws: &mut Draws) -> Result<List<RunText>, NoMemory>
-    ensures { IfOk result (λ runs. record { made = runs.items; state = draws.new } ≡ draw_each (λ _. draw_run) 64 draws.old) }
+    ensures { IfOk result (λ runs. record {
+      made = runs.items;
+      state = draws.new;
+    } ≡ draw_each (λ _. draw_run) 64 draws.old) }
 {
     let mut runs = List::new(alloc);
     'runs: for _ in 0..RUNS {
@@ -62,7 +65,10 @@ fn draw_runs(alloc: Global, draws: &mut Draws) -> Result<List<RunText>, NoMemory
 #[tactic(auto, unfolding(crate::specs::TrialWindows::draw_window))]
 fn draw_window(alloc: Global, draws: &mut Draws, number: u32) -> Result<WindowText, NoMemory>
     requires { number < most_windows }
-    ensures { IfOk result (λ window. record { made = plain_window window; state = draws.new } ≡ draw_window number draws.old) }
+    ensures { IfOk result (λ window. record {
+      made = plain_window window;
+      state = draws.new;
+    } ≡ draw_window number draws.old) }
 {
     Ok(WindowText {
         at: window_time(number),
@@ -77,7 +83,10 @@ fn draw_window(alloc: Global, draws: &mut Draws, number: u32) -> Result<WindowTe
 #[tactic(auto, unfolding(crate::specs::TrialWindows::draw_windows))]
 pub fn draw_windows(alloc: Global, draws: &mut Draws, n: u32) -> Result<List<WindowText>, NoMemory>
     requires { n ≤ most_windows }
-    ensures { IfOk result (λ windows. record { made = map plain_window windows.items; state = draws.new } ≡ draw_windows n draws.old) }
+    ensures { IfOk result (λ windows. record {
+      made = map plain_window windows.items;
+      state = draws.new;
+    } ≡ draw_windows n draws.old) }
 {
     let mut windows = List::new(alloc);
     'windows: for number in 0..n {

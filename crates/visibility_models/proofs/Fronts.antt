@@ -48,7 +48,10 @@ from_front : (test : ℕ → Bool) (n : Reading) (history : List Kept) (r : ℕ)
 from_front test n history r [] told lives all = refl
 from_front test n history r (m ∷ marks) told lives all = by_cases (is_open_run m) (passed test n history r m (items_of marks) told lives all.0) (from_front test n history r marks told lives all.1) refl
   where
-    by_cases : (b : Bool) → (is_open_run m ≡ false → first_unended_before test history r (m.item ∷ items_of marks) ≡ first_unended_before test history r (items_of marks)) → first_unended_before test history r (items_of marks) ≡ first_unended_before test history r (drop (front_of marks) (items_of marks)) → is_open_run m ≡ b
+    by_cases : (b : Bool)
+        → (is_open_run m ≡ false → first_unended_before test history r (m.item ∷ items_of marks) ≡ first_unended_before test history r (items_of marks))
+        → first_unended_before test history r (items_of marks) ≡ first_unended_before test history r (drop (front_of marks) (items_of marks))
+        → is_open_run m ≡ b
         → first_unended_before test history r (m.item ∷ items_of marks) ≡ first_unended_before test history r (drop (if b then 0 else front_of marks + 1) (m.item ∷ items_of marks))
     by_cases true pass rest e = refl
     by_cases false pass rest e =

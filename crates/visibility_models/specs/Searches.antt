@@ -1,4 +1,5 @@
--- What the line, the ends in the history and the table tell of the runs before a run, and of the devices that it has touched.
+-- What the line, the ends in the history and the table tell of the runs before a run, and of the
+-- devices that it has touched.
 use Rattle.command_rules.specs.Items.{is_ran}
 use Rattle.command_rules.specs.Rosters.{Run, is_run, touches}
 use Rattle.history_book.specs.Books.{end_of}
@@ -30,7 +31,9 @@ unended_run test history (Back d k) = None
 -- the first such run before r
 abbrev pub first_unended_before : (RunId → Bool) → List Kept → RunId → List Item → Option RunNo
 first_unended_before test history r [] = None
-first_unended_before test history r (i ∷ is) = if is_ran r i then None else option_or (unended_run test history i) (first_unended_before test history r is)
+first_unended_before test history r (i ∷ is) =
+    if is_ran r i then None
+    else option_or (unended_run test history i) (first_unended_before test history r is)
 
 -- where the item is a run, it is one of these
 abbrev pub IsRunOf : List Run → Item → Type 0
@@ -44,8 +47,10 @@ AreRunsOf runs items = (at : ℕ) (i : Item) → slice_get items at ≡ Some i �
 
 -- the device is counted down, and the run has it in its footprint and has touched it
 abbrev pub is_down_for : List LineageState → List Mark → List Run → RunId → DeviceId → Bool
-is_down_for table line runs r d = not (lineage_at table d).up && touches runs r d && mark_has_touched r d line
+is_down_for table line runs r d =
+    not (lineage_at table d).up && touches runs r d && mark_has_touched r d line
 
 -- the smallest such device
 abbrev pub first_down_for : List LineageState → List Mark → List Run → RunId → Option DeviceId
-first_down_for table line runs r = find (is_down_for table line runs r) (range_with_len 0 (length table))
+first_down_for table line runs r =
+    find (is_down_for table line runs r) (range_with_len 0 (length table))

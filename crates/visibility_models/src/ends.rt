@@ -10,14 +10,17 @@ use crate::models::is_strict;
 use home_types::{DeviceNo, RunNo, Visibility};
 use lock_leasing::Standing;
 
-/// The device for which `r`, all of whose commands are answered, is aborted under the model. `None` where it commits.
+/// The device for which `r`, all of whose commands are answered, is aborted under the model. `None`
+/// where it commits.
 ///
-/// Under the two strict models it is the smallest device that `r` has touched and that is counted down; there is none
-/// under the eventual and the weak model. The four parts belong to one window, and `r` is placed, neither doomed nor
-/// ended. Takes no memory, and reads nothing of the history.
+/// Under the two strict models it is the smallest device that `r` has touched and that is counted
+/// down; there is none under the eventual and the weak model. The four parts belong to one window,
+/// and `r` is placed, neither doomed nor ended. Takes no memory, and reads nothing of the history.
 pub fn down_at_end(model: Visibility, s: &Standing, r: RunNo) -> Option<DeviceNo>
-    requires { MayAskOfModel model s.now.table.now s.now.line.now.marks s.now.book.now.items (runs_of s.now.roster.now) r.0 }
-    ensures down { IsDownAtEndOf model s.now.table.now s.now.line.now.marks s.now.book.now.items (runs_of s.now.roster.now) r.0 result }
+    requires { MayAskOfModel model s.now.table.now s.now.line.now.marks s.now.book.now.items
+        (runs_of s.now.roster.now) r.0 }
+    ensures down { IsDownAtEndOf model s.now.table.now s.now.line.now.marks s.now.book.now.items
+        (runs_of s.now.roster.now) r.0 result }
     ensures weak { model ≡ Visibility.Weak → result ≡ None }
 {
     if is_strict(model) {
@@ -32,7 +35,8 @@ pub fn down_at_end(model: Visibility, s: &Standing, r: RunNo) -> Option<DeviceNo
 fn find_down(s: &Standing, r: RunNo) -> Option<DeviceNo>
     requires run { IsTrue (is_run (runs_of s.now.roster.now) r.0) }
     requires placed { stands (Ran r) s.now.line.now.marks ≡ true }
-    ensures { result ≡ option_map device_no (first_down_for s.now.table.now s.now.line.now.marks (runs_of s.now.roster.now) r.0) }
+    ensures { result ≡ option_map device_no
+        (first_down_for s.now.table.now s.now.line.now.marks (runs_of s.now.roster.now) r.0) }
 {
     'devices: for d in 0..s.table.devices() {
         let device = DeviceNo(d as u16);

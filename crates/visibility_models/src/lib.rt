@@ -1,4 +1,5 @@
-// What a model asks of a run: for which run it waits before it goes on, and for which device it is aborted at its end.
+// What a model asks of a run: for which run it waits before it goes on, and for which device it is
+// aborted at its end.
 #![tactic(auto)]
 
 mod ends;

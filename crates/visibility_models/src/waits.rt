@@ -14,13 +14,16 @@ use lock_leasing::Standing;
 
 /// The run whose end `r` waits for under the model, before it goes on. `None` where it may go on.
 ///
-/// Under the global model it is the first live run before `r` in the line, under the partitioned one the first that
-/// shares a device with `r`; there is none under the eventual and the weak model. The four parts belong to one window,
-/// and `r` is placed, neither doomed nor ended. Takes no memory, and reads of the history no more than the ends of runs.
+/// Under the global model it is the first live run before `r` in the line, under the partitioned
+/// one the first that shares a device with `r`; there is none under the eventual and the weak
+/// model. The four parts belong to one window, and `r` is placed, neither doomed nor ended. Takes
+/// no memory, and reads of the history no more than the ends of runs.
 #[inline(always)]
 pub fn may_go(model: Visibility, s: &Standing, r: RunNo) -> Option<RunNo>
-    requires { MayAskOfModel model s.now.table.now s.now.line.now.marks s.now.book.now.items (runs_of s.now.roster.now) r.0 }
-    ensures wait { IsStrictWaitOf model s.now.table.now s.now.line.now.marks s.now.book.now.items (runs_of s.now.roster.now) r.0 result }
+    requires { MayAskOfModel model s.now.table.now s.now.line.now.marks s.now.book.now.items
+        (runs_of s.now.roster.now) r.0 }
+    ensures wait { IsStrictWaitOf model s.now.table.now s.now.line.now.marks s.now.book.now.items
+        (runs_of s.now.roster.now) r.0 result }
     ensures weak { model ≡ Visibility.Weak → result ≡ None }
 {
     if is_strict(model) {
@@ -30,14 +33,18 @@ pub fn may_go(model: Visibility, s: &Standing, r: RunNo) -> Option<RunNo>
     }
 }
 
-/// The first run before `r` in the line that has not ended, and for which the model lets `r` wait. The search begins at
-/// the first run of the line that has not ended: before it there is none.
+/// The first run before `r` in the line that has not ended, and for which the model lets `r` wait.
+/// The search begins at the first run of the line that has not ended: before it there is none.
 #[tactic(auto, using(crate::proofs::Found::left_at))]
 fn find_unended(model: Visibility, s: &Standing, r: RunNo) -> Option<RunNo>
     requires run { IsTrue (is_run (runs_of s.now.roster.now) r.0) }
     requires known { AreRunsOf (runs_of s.now.roster.now) (items_of s.now.line.now.marks) }
-    requires past { first_unended_before (model_bars model (runs_of s.now.roster.now) r.0) s.now.book.now.items r.0 (items_of s.now.line.now.marks) ≡ first_unended_before (model_bars model (runs_of s.now.roster.now) r.0) s.now.book.now.items r.0 (drop (front_of s.now.line.now.marks) (items_of s.now.line.now.marks)) }
-    ensures { result ≡ first_unended_before (model_bars model (runs_of s.now.roster.now) r.0) s.now.book.now.items r.0 (items_of s.now.line.now.marks) }
+    requires past { first_unended_before (model_bars model (runs_of s.now.roster.now) r.0)
+        s.now.book.now.items r.0 (items_of s.now.line.now.marks) ≡ first_unended_before
+        (model_bars model (runs_of s.now.roster.now) r.0) s.now.book.now.items r.0
+        (drop (front_of s.now.line.now.marks) (items_of s.now.line.now.marks)) }
+    ensures { result ≡ first_unended_before (model_bars model (runs_of s.now.roster.now) r.0)
+        s.now.book.now.items r.0 (items_of s.now.line.now.marks) }
 {
     'items: for at in s.line.front()..s.line.len() {
         let item = s.line.get(at).unwrap();
@@ -65,7 +72,8 @@ fn is_ran(r: RunNo, item: Item) -> bool
 fn unended_run(model: Visibility, s: &Standing, r: RunNo, item: Item) -> Option<RunNo>
     requires run { IsTrue (is_run (runs_of s.now.roster.now) r.0) }
     requires known { IsRunOf (runs_of s.now.roster.now) item }
-    ensures { result ≡ unended_run (model_bars model (runs_of s.now.roster.now) r.0) s.now.book.now.items item }
+    ensures { result
+        ≡ unended_run (model_bars model (runs_of s.now.roster.now) r.0) s.now.book.now.items item }
 {
     match item {
         Item::Ran(x) if s.book.end_of(x).is_none() && bars(model, s.roster, r, x) => Some(x),

@@ -65,7 +65,9 @@ told_touches w n g held r c s = next_used (run_state w n g r) c (drop (next_of n
 
 -- it is open there
 pub told_open : (w : Setting) (n : Reading) (g : Grips) (held : ℕ → ℕ) (r : ℕ) (c : Command) → IsToldDown w n g held r c → stage_is_open (usage w.kinds (run_state w n g r) c.device.0).stage ≡ true
-told_open w n g held r c s = λ i. stage_is_open (stage_of (live_uncommitted n r s.live i) (is_some (s.sound i)) ((ap (uses_device c.device.0) (told_left w n g held r c s) ∙ or_left (c.device.0 == c.device.0) (uses_device c.device.0 (drop (next_of n r + 1) (commands_of w.runs r))) (eq-eqb c.device.0 c.device.0 refl)) i))
+told_open w n g held r c s =
+    λ i. stage_is_open (stage_of (live_uncommitted n r s.live i) (is_some (s.sound i)) ((ap (uses_device c.device.0) (told_left w n g held r c s)
+    ∙ or_left (c.device.0 == c.device.0) (uses_device c.device.0 (drop (next_of n r + 1) (commands_of w.runs r))) (eq-eqb c.device.0 c.device.0 refl)) i))
 
 -- the run sees the device down, or it is its first answer there and the device is home and counted down
 told_may : (w : Setting) (n : Reading) (g : Grips) (held : ℕ → ℕ) (r : ℕ) (c : Command) (cut : CutAt r n.line) → IsToldDown w n g held r c → MayAnswerDown w.kinds (window_of w n g held) c.device.0 cut.front (device_summary w.kinds (run_state w n g r) c.device.0).view

@@ -294,7 +294,9 @@ pub record HomeFrom (g h : Grips) (d r : ℕ) : Type 0 where
   pub others : (q : ℕ) → q ≢ r → SameGrip g h d q
 
 -- on its own device the access of the run changes
-pub answered_there : (w : Setting) (n : Reading) (g h : Grips) (r k : ℕ) (a : Answer) (cut : CutAt r n.line) → is_access a ≡ true → IsRead w n → k ≡ next_of n r → TouchesNow w n g (command_at w.runs r k).device.0 r cut → HomeFrom g h (command_at w.runs r k).device.0 r → (s : LineageState) → LineageIsKept w n g (command_at w.runs r k).device.0 s
+pub answered_there : (w : Setting) (n : Reading) (g h : Grips) (r k : ℕ) (a : Answer) (cut : CutAt r n.line) → is_access a ≡ true → IsRead w n → k ≡ next_of n r
+    → TouchesNow w n g (command_at w.runs r k).device.0 r cut → HomeFrom g h (command_at w.runs r k).device.0 r
+    → (s : LineageState) → LineageIsKept w n g (command_at w.runs r k).device.0 s
     → LineageIsKept w (entry w n (Did (run_no r) k a)) h (command_at w.runs r k).device.0
     (answer_noted r (not (did n r (command_at w.runs r k).device.0)) (view_when (is_told a)) (told_write w n r (command_at w.runs r k) a) (is_done_there w n r k) s)
 answered_there w n g h r k a cut access read number now home s kept = subst (LineageIsKept w m h d) (sym (noted_is r first view wrote last s)) (lineage_changed w n m g h d r (answered_access first view wrote last) s (runs_distinct n read.once) same kept changed

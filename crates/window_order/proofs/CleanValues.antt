@@ -277,7 +277,10 @@ writer_behind w n g held d r k s out at e h =
     no_write (Some v) true y p q f = absurd (cc)
 
     settled : last_some (write_of n g d) (before r n.line) ≡ Some e → is_write_settled (effective None (entries w.kinds (λ q. run_state w n g q) d (before r n.line))) ≡ true → is_committed n e.run ≡ true
-    settled f x = settled_run (is_committed n e.run) (is_doomed n e.run) (uses e.run) (sym (ap is_write_settled (effective_entries w.kinds (λ q. run_state w n g q) d None (before r n.line) ∙ ap (option_map (λ q. usage w.kinds (run_state w n g q) d)) (writer_on_line w n g d (before r n.line) s ∙ ap (option_map (λ e. e.run)) f))) ∙ x)
+    settled f x =
+        settled_run (is_committed n e.run) (is_doomed n e.run) (uses e.run)
+        (sym (ap is_write_settled (effective_entries w.kinds (λ q. run_state w n g q) d None (before r n.line)
+        ∙ ap (option_map (λ q. usage w.kinds (run_state w n g q) d)) (writer_on_line w n g d (before r n.line) s ∙ ap (option_map (λ e. e.run)) f))) ∙ x)
       where
         uses : ℕ → Bool
         uses q = uses_device d (rest (run_state w n g q))
@@ -286,7 +289,9 @@ writer_behind w n g held d r k s out at e h =
         → (list_any (is_ran e.run) (before r n.line) ≡ false) ⊎ (is_live n e.run ≡ false)
     by (Some z) y f c m = inl (once_behind e.run (before r n.line) (behind r n.line) (Ran (run_no r)) once (last_write_at n g d (behind r n.line) e (f ∙ sym (ap (λ o. option_or o (option_or (write_of n g d (Ran (run_no r))) (last_some (write_of n g d) (before r n.line)))) f) ∙ m)))
     by None (Some z) f c m = inl (subst (λ x. list_any (is_ran x) (before r n.line) ≡ false) (same (write_at n g d (Ran (run_no r)) e (c ∙ sym (ap₂ (λ o p. option_or o (option_or p (last_some (write_of n g d) (before r n.line)))) f c) ∙ m))) (not_before r n.line))
-    by None None f c m = inr (committed_over n e.run (settled (sym (ap₂ (λ o p. option_or o (option_or p (last_some (write_of n g d) (before r n.line)))) f c) ∙ m) (at.finds.settled ((s.summarized r).wrote d ∙ no_write ((n.run r).on d).wrote ((n.run r).on d).undid (grips_undo g r d) at.undid no_undo c))))
+    by None None f c m =
+        inr (committed_over n e.run (settled (sym (ap₂ (λ o p. option_or o (option_or p (last_some (write_of n g d) (before r n.line)))) f c) ∙ m)
+        (at.finds.settled ((s.summarized r).wrote d ∙ no_write ((n.run r).on d).wrote ((n.run r).on d).undid (grips_undo g r d) at.undid no_undo c))))
 
 -- .. and no live run before the run has the effective write
 pub none_dirty : (w : Setting) (n : Reading) (g : Grips) (held : ℕ → ℕ) (d r k : ℕ) → IsRead w n → OrderIsKept w n g held → is_device w d ≡ true → ReadIsOut w g d r k → list_any (λ x. has_effect n no_grips x d) (live_before n r) ≡ false

@@ -48,7 +48,11 @@ use Rattle.window_order.specs.ReadWindows.{held_by, probe_of, window_of}
 
 -- an answer of a run that has one on the device changes neither its view there nor whether that came late
 pub later_keeps : (w : Setting) (n : Reading) (r k : ℕ) (a : Answer) → did n r (command_at w.runs r k).device.0 ≡ true → (q e : ℕ) → (view_of (entry w n (Did (run_no r) k a)) q e ≡ view_of n q e) × (is_late (entry w n (Did (run_no r) k a)) q e ≡ is_late n q e)
-later_keeps w n r k a has q e = (put_keeps (λ o. (o.on e).view) n.run r _ (put_keeps (λ x. x.view) old.on d on_device (same_view (old.on d).view a some) e) q, put_keeps (λ o. (o.on e).late) n.run r _ (put_keeps (λ x. x.late) old.on d on_device (kept (old.on d).late (is_some old.doomed) (is_access a) (is_none (old.on d).view) some) e) q)
+later_keeps w n r k a has q e = (
+  put_keeps (λ o. (o.on e).view) n.run r _ (put_keeps (λ x. x.view) old.on d on_device (same_view (old.on d).view a some) e) q,
+  put_keeps (λ o. (o.on e).late) n.run r _
+      (put_keeps (λ x. x.late) old.on d on_device (kept (old.on d).late (is_some old.doomed) (is_access a) (is_none (old.on d).view) some) e) q,
+)
   where
     c : Command
     c = command_at w.runs r k

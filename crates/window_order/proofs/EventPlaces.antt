@@ -56,7 +56,9 @@ awaits_same w n g held d q read strong stands = by_live (is_live n q) refl
 
     by_live : (b : Bool) → is_live n q ≡ b → awaits_there w n d q ≡ waits_at w.kinds (window_of w n g held).states d (Ran (run_no q))
     by_live true live = alike (is_weak w.mode) (is_live n q) (is_committed n q) (is_doomed n q) (pends w n q d) (uses_device d (rest (run_state w n g q))) (did n q d) (is_some (device_summary w.kinds (run_state w n g q) d).view) strong (live ∙ sym (ap not (live_uncommitted n q live))) left seen
-    by_live false dead = alike (is_weak w.mode) (is_live n q) (is_committed n q) (is_doomed n q) (pends w n q d) (uses_device d (rest (run_state w n g q))) (did n q d) (is_some (device_summary w.kinds (run_state w n g q) d).view) strong (dead ∙ sym (ap not (stands_committed n q stands dead))) left seen
+    by_live false dead =
+        alike (is_weak w.mode) (is_live n q) (is_committed n q) (is_doomed n q) (pends w n q d) (uses_device d (rest (run_state w n g q))) (did n q d)
+        (is_some (device_summary w.kinds (run_state w n g q) d).view) strong (dead ∙ sym (ap not (stands_committed n q stands dead))) left seen
 
 pub line_stands : (w : Setting) (n : Reading) → IsRead w n → StandIn n n.line
 line_stands w n read x h = sym (read.standing.line x) ∙ h
@@ -205,4 +207,6 @@ spans_same w n g held d q read stands = by_live (is_live n q) refl
 
     by_live : (b : Bool) → is_live n q ≡ b → at_device w.kinds (window_of w n g held).states d spans_up q ≡ (is_open w n q d && sees_up n q d)
     by_live true live = alike (touches w.runs q d) (is_live n q) (is_committed n q) (is_doomed n q) (pends w n q d) (uses_device d (rest (run_state w n g q))) (sees_up n q d) (is_up (device_summary w.kinds (run_state w n g q) d).view) (live ∙ sym (ap not (live_uncommitted n q live))) left seen used
-    by_live false dead = alike (touches w.runs q d) (is_live n q) (is_committed n q) (is_doomed n q) (pends w n q d) (uses_device d (rest (run_state w n g q))) (sees_up n q d) (is_up (device_summary w.kinds (run_state w n g q) d).view) (dead ∙ sym (ap not (stands_committed n q stands dead))) left seen used
+    by_live false dead =
+        alike (touches w.runs q d) (is_live n q) (is_committed n q) (is_doomed n q) (pends w n q d) (uses_device d (rest (run_state w n g q))) (sees_up n q d)
+        (is_up (device_summary w.kinds (run_state w n g q) d).view) (dead ∙ sym (ap not (stands_committed n q stands dead))) left seen used

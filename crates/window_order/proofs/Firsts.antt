@@ -60,14 +60,19 @@ untouched_unseen w n g held d q read none = at_ (did n q d) refl
 pub none_seen : (w : Setting) (n : Reading) (g : Grips) (held : ℕ → ℕ) (d : ℕ) (is : List Item) → IsRead w n → any_run (at_device w.kinds (window_of w n g held).states d has_used_device) is ≡ false → list_any (of_run (λ q. did n q d)) is ≡ false
 unfolding any_run
 none_seen w n g held d [] read none = refl
-none_seen w n g held d (Ran q ∷ is) read none = let parts = or_parts (at_device w.kinds (window_of w n g held).states d has_used_device q.0) (any_run (at_device w.kinds (window_of w n g held).states d has_used_device) is) none in λ i. untouched_unseen w n g held d q.0 read parts.0 i || none_seen w n g held d is read parts.1 i
+none_seen w n g held d (Ran q ∷ is) read none =
+    let parts = or_parts (at_device w.kinds (window_of w n g held).states d has_used_device q.0)
+    (any_run (at_device w.kinds (window_of w n g held).states d has_used_device) is) none in
+    λ i. untouched_unseen w n g held d q.0 read parts.0 i || none_seen w n g held d is read parts.1 i
 none_seen w n g held d (Failed e k ∷ is) read none = none_seen w n g held d is read none
 none_seen w n g held d (Back e k ∷ is) read none = none_seen w n g held d is read none
 
 pub none_marked : (w : Setting) (n : Reading) (g : Grips) (held : ℕ → ℕ) (d : ℕ) (is : List Item) → IsRead w n → is_calm_line w.kinds (window_of w n g held).states d is ≡ true → list_any (is_marked n d) is ≡ false
 unfolding is_calm_line
 none_marked w n g held d [] read calm = refl
-none_marked w n g held d (Ran q ∷ is) read calm = let parts = split (at_device w.kinds (window_of w n g held).states d has_used_device q.0) (is_calm_line w.kinds (window_of w n g held).states d is) calm in λ i. (false || (untouched_unseen w n g held d q.0 read parts.0 i && not (is_late n q.0 d))) || none_marked w n g held d is read parts.1 i
+none_marked w n g held d (Ran q ∷ is) read calm =
+    let parts = split (at_device w.kinds (window_of w n g held).states d has_used_device q.0) (is_calm_line w.kinds (window_of w n g held).states d is) calm in
+    λ i. (false || (untouched_unseen w n g held d q.0 read parts.0 i && not (is_late n q.0 d))) || none_marked w n g held d is read parts.1 i
   where
     split : (a b : Bool) → (not a && b) ≡ true → (a ≡ false) × (b ≡ true)
     split a b h = (grind (arith, common_steps), grind (arith, common_steps))
@@ -90,7 +95,9 @@ pub unseen_behind : (w : Setting) (n : Reading) (g : Grips) (held : ℕ → ℕ)
 unseen_behind w n g held d r cut read kept device used out =
     none_seen w n g held d cut.back read
     (sym (has_entries w.kinds (window_of w n g held).states d has_used_device cut.back)
-    ∙ alone_behind (device_record w.kinds (window_of w n g held) d) (entries w.kinds (window_of w n g held).states d cut.front) (entries w.kinds (window_of w n g held).states d cut.back) (usage w.kinds (run_state w n g r) d) (kept.window.devices d (below_home w d device)) (device_order_at w n g held d r cut used) out)
+    ∙ alone_behind (device_record w.kinds (window_of w n g held) d) (entries w.kinds (window_of w n g held).states d cut.front)
+    (entries w.kinds (window_of w n g held).states d cut.back) (usage w.kinds (run_state w n g r) d) (kept.window.devices d (below_home w d device))
+    (device_order_at w n g held d r cut used) out)
 
 -- behind one whose first answer is still to come, and will count, nothing has happened on the device
 pub calm_behind : (w : Setting) (n : Reading) (g : Grips) (held : ℕ → ℕ) (d r : ℕ) (cut : CutAt r n.line) → IsRead w n → OrderIsKept w n g held → is_device w d ≡ true → touches w.runs r d ≡ true → awaits_first (usage w.kinds (run_state w n g r) d) ≡ true
@@ -98,7 +105,9 @@ pub calm_behind : (w : Setting) (n : Reading) (g : Grips) (held : ℕ → ℕ) (
 calm_behind w n g held d r cut read kept device used awaits =
     none_marked w n g held d cut.back read
     (sym (calm_entries w.kinds (window_of w n g held).states d cut.back)
-    ∙ waits_calm (device_record w.kinds (window_of w n g held) d) (entries w.kinds (window_of w n g held).states d cut.front) (entries w.kinds (window_of w n g held).states d cut.back) (usage w.kinds (run_state w n g r) d) (kept.window.devices d (below_home w d device)) (device_order_at w n g held d r cut used) awaits)
+    ∙ waits_calm (device_record w.kinds (window_of w n g held) d) (entries w.kinds (window_of w n g held).states d cut.front)
+    (entries w.kinds (window_of w n g held).states d cut.back) (usage w.kinds (run_state w n g r) d) (kept.window.devices d (below_home w d device))
+    (device_order_at w n g held d r cut used) awaits)
 
 -- An answer
 

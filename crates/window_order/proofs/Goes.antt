@@ -123,18 +123,25 @@ none_left_there w n g held d x stands none = at_ (is_live n x) refl
     live_off l x p e h k = grind (arith, common_steps)
 
     at_ : (b : Bool) → is_live n x ≡ b → at_device w.kinds (window_of w n g held).states d has_pending x ≡ false
-    at_ true live = off (uses_device d (commands_of w.runs x)) (is_committed n x) (is_doomed n x) (uses_device d (rest (run_state w n g x))) (pends w n x d) (touches w.runs x d && has_effect n g x d) left (live_off (is_live n x) (is_doomed n x) (pends w n x d) (touches w.runs x d && has_effect n g x d) live (none live))
+    at_ true live =
+        off (uses_device d (commands_of w.runs x)) (is_committed n x) (is_doomed n x) (uses_device d (rest (run_state w n g x))) (pends w n x d)
+        (touches w.runs x d && has_effect n g x d) left
+        (live_off (is_live n x) (is_doomed n x) (pends w n x d) (touches w.runs x d && has_effect n g x d) live (none live))
     at_ false dead = ap (λ c. uses_device d (commands_of w.runs x) && stage_is_open (stage_of c (is_doomed n x) (uses_device d (rest (run_state w n g x))))) (stands_committed n x stands dead) ∙ closed (uses_device d (commands_of w.runs x)) (is_doomed n x) (uses_device d (rest (run_state w n g x)))
 
 none_pending : (w : Setting) (n : Reading) (g : Grips) (held : ℕ → ℕ) (d : ℕ) (part : List Item) → StandIn n part → ((x : ℕ) → list_any (is_ran x) part ≡ true → is_live n x ≡ true → holds_device w n g x d ≡ false) → any_run (at_device w.kinds (window_of w n g held).states d has_pending) part ≡ false
 unfolding any_run
 none_pending w n g held d [] stands none = refl
-none_pending w n g held d (Ran q ∷ is) stands none = λ i. none_left_there w n g held d q.0 (head_stands n q is stands) (none q.0 (or_left (q.0 == q.0) (list_any (is_ran q.0) is) (eq-eqb q.0 q.0 refl))) i || none_pending w n g held d is (tail_stands n (Ran q) is stands) (λ x h. none x (or_right (is_ran x (Ran q)) (list_any (is_ran x) is) h)) i
+none_pending w n g held d (Ran q ∷ is) stands none =
+    λ i. none_left_there w n g held d q.0 (head_stands n q is stands) (none q.0 (or_left (q.0 == q.0) (list_any (is_ran q.0) is) (eq-eqb q.0 q.0 refl))) i
+    || none_pending w n g held d is (tail_stands n (Ran q) is stands) (λ x h. none x (or_right (is_ran x (Ran q)) (list_any (is_ran x) is) h)) i
 none_pending w n g held d (Failed e k ∷ is) stands none = none_pending w n g held d is stands none
 none_pending w n g held d (Back e k ∷ is) stands none = none_pending w n g held d is stands none
 
 pub none_before : (w : Setting) (n : Reading) (g : Grips) (held : ℕ → ℕ) (r d : ℕ) (cut : CutAt r n.line) → IsRead w n → behind_wait w n g r d ≡ None → any_run (at_device w.kinds (window_of w n g held).states d has_pending) cut.front ≡ false
-none_before w n g held r d cut read none = none_pending w n g held d cut.front (front_stands w n r cut read) (found_live n (λ x. holds_device w n g x d) cut.front (sym (ap (λ l. find (λ x. holds_device w n g x d) (live_runs n l)) (ap (before r) cut.at ∙ before_cut r cut.front cut.back cut.before)) ∙ none))
+none_before w n g held r d cut read none =
+    none_pending w n g held d cut.front (front_stands w n r cut read) (found_live n (λ x. holds_device w n g x d) cut.front
+    (sym (ap (λ l. find (λ x. holds_device w n g x d) (live_runs n l)) (ap (before r) cut.at ∙ before_cut r cut.front cut.back cut.before)) ∙ none))
 
 -- No grip of the device is out
 

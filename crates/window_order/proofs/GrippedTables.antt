@@ -104,7 +104,10 @@ undo_out_kept w n g d r v read at = undone_each (λ e s t. LineageIsKept w n g e
     }
 
     there : (s : LineageState) → LineageIsKept w n g d s → LineageIsKept w n h d (undone r s)
-    there s kept = lineage_changed w n n g h d r (λ x. record x { wrote = None }) s (runs_distinct n read.once) (uses_same w n g h d (λ q may. may_gripped g h d q (n.run q) (none_out q) ∙ may)) kept (own kept.passed) (λ q ne. access_gripped w g h kept.passed d q (n.run q) (grip_out g d r q (Undoes v) at ne))
+    there s kept =
+        lineage_changed w n n g h d r (λ x. record x { wrote = None }) s (runs_distinct n read.once)
+        (uses_same w n g h d (λ q may. may_gripped g h d q (n.run q) (none_out q) ∙ may)) kept (own kept.passed)
+        (λ q ne. access_gripped w g h kept.passed d q (n.run q) (grip_out g d r q (Undoes v) at ne))
 
 -- An undo is noted
 
@@ -253,7 +256,9 @@ doomed_is r s = at_ (has_acquired r s) refl
 abbrev pub doomed_run : Reading → ℕ → Cause → OfRun
 doomed_run n r cause = record (n.run r) { doomed = Some cause }
 
-pub doomed_kept : (w : Setting) (n : Reading) (g : Grips) (r : ℕ) (cause : Cause) → IsRead w n → is_doomed n r ≡ false → ((d : ℕ) → grips_command g r d ≡ true → pends w n r d ≡ true) → (d : ℕ) (s : LineageState) → LineageIsKept w n g d s → LineageIsKept w (entry w n (Doomed (run_no r) cause)) g d (doomed_change g r d s)
+pub doomed_kept : (w : Setting) (n : Reading) (g : Grips) (r : ℕ) (cause : Cause) → IsRead w n → is_doomed n r ≡ false
+    → ((d : ℕ) → grips_command g r d ≡ true → pends w n r d ≡ true) → (d : ℕ) (s : LineageState) → LineageIsKept w n g d s
+    → LineageIsKept w (entry w n (Doomed (run_no r) cause)) g d (doomed_change g r d s)
 doomed_kept w n g r cause read sound pending d s kept = at_ (grips_command g r d) refl
   where
     m : Reading

@@ -106,7 +106,9 @@ span_quiet r [] x plain quiet = at_ (is_first_mark r x)
     at_ false = refl
 span_quiet r (y ∷ xs) x plain quiet = at_ (λ h. span_quiet r xs x plain h) (is_first_mark r y) quiet
   where
-    at_ : (list_any is_event (span_of r xs) ≡ false → list_any is_event (span_of r (xs ++ x ∷ [])) ≡ false) → (b : Bool) → list_any is_event (if b then take_while (λ z. not (is_last_mark r z)) xs else span_of r xs) ≡ false → list_any is_event (if b then take_while (λ z. not (is_last_mark r z)) (xs ++ x ∷ []) else span_of r (xs ++ x ∷ [])) ≡ false
+    at_ : (list_any is_event (span_of r xs) ≡ false → list_any is_event (span_of r (xs ++ x ∷ [])) ≡ false)
+        → (b : Bool) → list_any is_event (if b then take_while (λ z. not (is_last_mark r z)) xs else span_of r xs) ≡ false
+        → list_any is_event (if b then take_while (λ z. not (is_last_mark r z)) (xs ++ x ∷ []) else span_of r (xs ++ x ∷ [])) ≡ false
     at_ step true h = taken_quiet (λ z. not (is_last_mark r z)) xs x plain h
     at_ step false h = step h
 
@@ -187,7 +189,9 @@ last_history n m d r s log h = record {
     marks = ap (filter_map _) log ∙ marks_unkept _ (n.log d) (Last r) refl ∙ same_marks _ _ (n.log d) (λ q i. if list_any (is_ran q) (s.line i) && not (s.late q i) then Some (Ran (run_no q)) else None) (λ e. refl) (λ q. refl)
 
 -- what no item passes keeps nothing
-pub none_items : {B : Type 0} (f : Item → Option B) (p : Item → Bool) (xs : List Item) → list_any p xs ≡ false → ((r : RunNo) → p (Ran r) ≡ false → f (Ran r) ≡ None) → ((e : DeviceNo) (j : ℕ) → p (Failed e j) ≡ false → f (Failed e j) ≡ None) → ((e : DeviceNo) (j : ℕ) → p (Back e j) ≡ false → f (Back e j) ≡ None) → filter_map f xs ≡ []
+pub none_items : {B : Type 0} (f : Item → Option B) (p : Item → Bool) (xs : List Item) → list_any p xs ≡ false
+    → ((r : RunNo) → p (Ran r) ≡ false → f (Ran r) ≡ None) → ((e : DeviceNo) (j : ℕ) → p (Failed e j) ≡ false → f (Failed e j) ≡ None)
+    → ((e : DeviceNo) (j : ℕ) → p (Back e j) ≡ false → f (Back e j) ≡ None) → filter_map f xs ≡ []
 none_items f p [] none runs failures backs = refl
 none_items f p (Ran r ∷ xs) none runs failures backs = let parts = or_parts (p (Ran r)) (list_any p xs) none in λ i. cons_option (runs r parts.0 i) (none_items f p xs parts.1 runs failures backs i)
 none_items f p (Failed e j ∷ xs) none runs failures backs = let parts = or_parts (p (Failed e j)) (list_any p xs) none in λ i. cons_option (failures e j parts.0 i) (none_items f p xs parts.1 runs failures backs i)
@@ -368,7 +372,9 @@ placed_history n m d r front back s h = record {
 -- A run leaves the line
 
 -- what a test gives of the items that are left is what is left of what it gives of all
-left_items : {B : Type 0} (f : Item → Option B) (p : Item → Bool) (k : B → Bool) (xs : List Item) → ((r : RunNo) (y : B) → f (Ran r) ≡ Some y → k y ≡ p (Ran r)) → ((e : DeviceNo) (j : ℕ) (y : B) → f (Failed e j) ≡ Some y → k y ≡ p (Failed e j)) → ((e : DeviceNo) (j : ℕ) (y : B) → f (Back e j) ≡ Some y → k y ≡ p (Back e j))
+left_items : {B : Type 0} (f : Item → Option B) (p : Item → Bool) (k : B → Bool) (xs : List Item) → ((r : RunNo) (y : B) → f (Ran r) ≡ Some y → k y ≡ p (Ran r))
+    → ((e : DeviceNo) (j : ℕ) (y : B) → f (Failed e j) ≡ Some y → k y ≡ p (Failed e j))
+    → ((e : DeviceNo) (j : ℕ) (y : B) → f (Back e j) ≡ Some y → k y ≡ p (Back e j))
     → filter_map f (filter p xs) ≡ filter k (filter_map f xs)
 left_items f p k [] runs failures backs = refl
 left_items {B = B} f p k (x ∷ xs) runs failures backs = at_ (left_items f p k xs runs failures backs) (p x) (f x) refl refl

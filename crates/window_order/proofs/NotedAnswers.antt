@@ -128,7 +128,9 @@ none_before r (x ∷ xs) turns h = at (is_of r x) h (λ e. (in_turn xs turns.0 e
         split true f e = own x.status refl (same_Some y.status Acquired e)
         split false f e = f e
 
-    at : (b : Bool) → option_map (λ (z : Access). z.status) (if b then Some x else access_of r xs) ≡ Some Acquired → (status_of r xs ≡ Some Acquired → (is_scheduled x.status ≡ false) × (some_scheduled (accesses_before r xs) ≡ false)) → some_scheduled (if b then [] else (x ∷ accesses_before r xs)) ≡ false
+    at : (b : Bool) → option_map (λ (z : Access). z.status) (if b then Some x else access_of r xs) ≡ Some Acquired
+        → (status_of r xs ≡ Some Acquired → (is_scheduled x.status ≡ false) × (some_scheduled (accesses_before r xs) ≡ false))
+        → some_scheduled (if b then [] else (x ∷ accesses_before r xs)) ≡ false
     at true e f = refl
     at false e f = let p = f e in or_from (is_scheduled x.status) (some_scheduled (accesses_before r xs)) p.0 p.1
 

@@ -76,7 +76,10 @@ touches_is w n r d a = a.uses
 
 -- it is counted up while a command of it is out, ..
 pub called_up : (w : Setting) (n : Reading) (g : Grips) (held : ℕ → ℕ) (d r k : ℕ) → IsRead w n → g d ≡ Some (record { maker = r; purpose = Commands k }) → OrderIsKept w n g held → n.up d ≡ true
-called_up w n g held d r k read at kept = held_up w n g held d r (cut_live w n r read (out_is w n g d r k kept.grips at).live) kept (kept.grips.homed d (ap is_some at)) (touches_is w n r d (acts_on w n g held r d kept (own_command g d r (Commands k) at))) (unfree (held_by w r (g d)) (command_held w g r d ∙ own_command g d r (Commands k) at))
+called_up w n g held d r k read at kept =
+    held_up w n g held d r (cut_live w n r read (out_is w n g d r k kept.grips at).live) kept (kept.grips.homed d (ap is_some at))
+    (touches_is w n r d (acts_on w n g held r d kept (own_command g d r (Commands k) at)))
+    (unfree (held_by w r (g d)) (command_held w g r d ∙ own_command g d r (Commands k) at))
   where
     unfree : (x : HeldGrip) → holds_command x ≡ true → is_free x ≡ false
     unfree Free h = absurd (cc)
@@ -89,7 +92,9 @@ pub called_unseen : (w : Setting) (n : Reading) (g : Grips) (held : ℕ → ℕ)
 called_unseen w n g held d r k read at kept =
     unseen (view_of n r d)
     (sym (ap is_seen_down ((read.summarized r).view d))
-    ∙ by_grip (held_by w r (g d)) (use_there w n g held d r (cut_live w n r read (out_is w n g d r k kept.grips at).live) kept (kept.grips.homed d (ap is_some at)) (touches_is w n r d (acts_on w n g held r d kept (own_command g d r (Commands k) at)))).fits.grip (command_held w g r d ∙ own_command g d r (Commands k) at))
+    ∙ by_grip (held_by w r (g d)) (use_there w n g held d r (cut_live w n r read (out_is w n g d r k kept.grips at).live) kept
+    (kept.grips.homed d (ap is_some at)) (touches_is w n r d (acts_on w n g held r d kept (own_command g d r (Commands k) at)))).fits.grip
+    (command_held w g r d ∙ own_command g d r (Commands k) at))
   where
     u : Usage
     u = usage w.kinds (run_state w n g r) d

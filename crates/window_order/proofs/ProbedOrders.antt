@@ -210,7 +210,8 @@ probe_died_kept w n g held after d m read strong at none still kept = record {
     device = kept.grips.homed d (ap is_some at)
 
 -- .. and the run that the rule names is, and is doomed for it
-pub probe_died_doomed_kept : (w : Setting) (n : Reading) (g : Grips) (held after : ℕ → ℕ) (d m r : ℕ) (cause : Cause) → IsRead w n → is_weak w.mode ≡ false → g d ≡ Some (record { maker = m; purpose = Probes None }) → lost_by w n d ≡ Some r → ((e : ℕ) → e ≢ d → after e ≡ held e) → OrderIsKept w n g held
+pub probe_died_doomed_kept : (w : Setting) (n : Reading) (g : Grips) (held after : ℕ → ℕ) (d m r : ℕ) (cause : Cause) → IsRead w n → is_weak w.mode ≡ false
+    → g d ≡ Some (record { maker = m; purpose = Probes None }) → lost_by w n d ≡ Some r → ((e : ℕ) → e ≢ d → after e ≡ held e) → OrderIsKept w n g held
     → OrderIsKept w (entry w (entry w n (Fell (device_no d))) (Doomed (run_no r) cause)) (put g d None) after
 probe_died_doomed_kept w n g held after d m r cause read strong at lost still kept = record {
   grips = fits_without w next g d (fits_doomed w fell g r cause (fits_same w n fell g (λ q e k. refl) (λ q e. refl) kept.grips));

@@ -134,7 +134,10 @@ write_covered w n g held d front is (Ran r) s o at h = covered_part n d is each
     writes = record { live = live_not_committed n r.0 whole.first; wrote = ap is_some ((s.summarized r.0).wrote d) ∙ whole.second; kept = kept }
 
     each : (m rest : List Item) (j : Item) → is ≡ m ++ j ∷ rest → has_read_first n d j ≡ true → list_any (covers n d) m ≡ true
-    each m rest (Ran q) e x = cover_found w n g d m s (read_covered w.kinds (window_of w n g held) d r.0 q.0 (record { front = front; between = m; back = rest; at = at ∙ ap (λ l. front ++ Ran r ∷ l) e }) o.window (touched_device w n g held r.0 d o (written_touches w n r.0 d s whole.second)) writes (ap is_some ((s.summarized q.0).read d) ∙ x))
+    each m rest (Ran q) e x =
+        cover_found w n g d m s
+        (read_covered w.kinds (window_of w n g held) d r.0 q.0 (record { front = front; between = m; back = rest; at = at ∙ ap (λ l. front ++ Ran r ∷ l) e })
+        o.window (touched_device w n g held r.0 d o (written_touches w n r.0 d s whole.second)) writes (ap is_some ((s.summarized q.0).read d) ∙ x))
     each m rest (Failed e k) a x = absurd (cc)
     each m rest (Back e k) a x = absurd (cc)
 write_covered w n g held d front is (Failed e k) s o at h = absurd (cc)
@@ -173,7 +176,11 @@ open_last w n g held d front is (Ran r) s o at h = none_of (is_touched n g d) is
     each m rest (Ran q) e = by (has_touched n g q.0 d) refl
       where
         by : (b : Bool) → has_touched n g q.0 d ≡ b → b ≡ false
-        by true x = sym x ∙ sym (touched_held w n g q.0 d s) ∙ untouched_after w.kinds (window_of w n g held) d r.0 q.0 (record { front = front; between = m; back = rest; at = at ∙ ap (λ l. front ++ Ran r ∷ l) e }) o.window (touched_device w n g held r.0 d o (any_dropped d (next_of n r.0) (commands_of w.runs r.0) whole.third)) pending (touched_touches w n g held q.0 d s o x)
+        by true x =
+            sym x ∙ sym (touched_held w n g q.0 d s) ∙ untouched_after w.kinds (window_of w n g held) d r.0 q.0
+            (record { front = front; between = m; back = rest; at = at ∙ ap (λ l. front ++ Ran r ∷ l) e }) o.window
+            (touched_device w n g held r.0 d o (any_dropped d (next_of n r.0) (commands_of w.runs r.0) whole.third)) pending
+            (touched_touches w n g held q.0 d s o x)
         by false x = refl
     each m rest (Failed e k) a = refl
     each m rest (Back e k) a = refl

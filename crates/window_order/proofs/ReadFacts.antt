@@ -176,7 +176,12 @@ summed_from w n (e ∷ h) s ok = summed_from w (entry w n e) h (summed_step w n 
 -- no answers say nothing
 none_summed : (w : Setting) (r : ℕ) → IsSummed w r unread
 unfolding summary paired
-none_summed w r = record { register = ap (λ (t : Summary). t.register) (none (commands_of w.runs r)); view = λ d. ap (λ (t : Summary). (t.on d).view) (none (commands_of w.runs r)); read = λ d. ap (λ (t : Summary). (t.on d).read) (none (commands_of w.runs r)); wrote = λ d. ap (λ (t : Summary). (t.on d).wrote) (none (commands_of w.runs r)) }
+none_summed w r = record {
+  register = ap (λ (t : Summary). t.register) (none (commands_of w.runs r));
+  view = λ d. ap (λ (t : Summary). (t.on d).view) (none (commands_of w.runs r));
+  read = λ d. ap (λ (t : Summary). (t.on d).read) (none (commands_of w.runs r));
+  wrote = λ d. ap (λ (t : Summary). (t.on d).wrote) (none (commands_of w.runs r));
+}
   where
     none : (cs : List Command) → summary w.kinds blank (paired cs []) ≡ blank
     none [] = refl

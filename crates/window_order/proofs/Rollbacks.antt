@@ -148,7 +148,9 @@ gets_and_doomed w n g r k answer cause number more = record {
     or_true true = refl
     or_true false = refl
 
-refuted_at : (w : Setting) (n : Reading) (g : Grips) (held : ℕ → ℕ) (r k : ℕ) (cause : Cause) → IsRead w n → g (command_at w.runs r k).device.0 ≡ Some (record { maker = r; purpose = Commands k }) → reads (command_at w.runs r k).job ≡ true → IsOut w n (command_at w.runs r k).device.0 r k → OrderIsKept w n g held
+refuted_at : (w : Setting) (n : Reading) (g : Grips) (held : ℕ → ℕ) (r k : ℕ) (cause : Cause) → IsRead w n
+    → g (command_at w.runs r k).device.0 ≡ Some (record { maker = r; purpose = Commands k }) → reads (command_at w.runs r k).job ≡ true
+    → IsOut w n (command_at w.runs r k).device.0 r k → OrderIsKept w n g held
     → OrderIsKept w (entry w (entry w n (Did (run_no r) k (Found (held (command_at w.runs r k).device.0)))) (Doomed (run_no r) cause)) (put g (command_at w.runs r k).device.0 None) held
 refuted_at w n g held r k cause read at reading out kept = record {
   grips = home_fits w n next g d r (Commands k) others (live_run w n r read out.live) at kept.grips;
@@ -384,7 +386,10 @@ none_of_both p q (x ∷ xs) none = at_ (none_of_both p q xs) (q x) (p x) refl no
 
 -- a run that has no undo left has the effective write on none of its devices
 no_effect : (w : Setting) (n : Reading) (g : Grips) (held : ℕ → ℕ) (r d : ℕ) → IsRead w n → OrderIsKept w n g held → next_undo_of w n g r ≡ None → touches w.runs r d ≡ true → last_in_effect w.kinds (window_of w n g held).states d None n.line ≢ Some r
-no_effect w n g held r d read kept none used writer = clash (touches w.runs r d) (has_effect n g r d) used effect (none_in (λ e. touches w.runs r e && has_effect n g r e) 0 (length w.first) d (none_of_both (has_effect n g r) (touches w.runs r) (device_numbers w) none) (omega arith) (below (uses_homed (length w.first) d (commands_of w.runs r) (kept.window.runs r).homed used)))
+no_effect w n g held r d read kept none used writer =
+    clash (touches w.runs r d) (has_effect n g r d) used effect
+    (none_in (λ e. touches w.runs r e && has_effect n g r e) 0 (length w.first) d (none_of_both (has_effect n g r) (touches w.runs r) (device_numbers w) none)
+    (omega arith) (below (uses_homed (length w.first) d (commands_of w.runs r) (kept.window.runs r).homed used)))
   where
     below : d < length w.first → d < 0 + length w.first
     below h = omega (arith, h)

@@ -79,7 +79,8 @@ taken_use (u ∷ us) zero = refl
 taken_use (u ∷ us) (suc d) = taken_use us d
 
 -- its lineage is as it was
-pub unused_same : (k d : ℕ) (commands : List Command) (given : List (Option PlannedUse)) (r : ℕ) (back : List Item) (uses : List (Option PlannedUse)) (old new : List LineageState) → IsScheduledTo k commands given r back uses old new → is_among d k commands ≡ false → lineage_at new d ≡ lineage_at old d
+pub unused_same : (k d : ℕ) (commands : List Command) (given : List (Option PlannedUse)) (r : ℕ) (back : List Item) (uses : List (Option PlannedUse))
+    (old new : List LineageState) → IsScheduledTo k commands given r back uses old new → is_among d k commands ≡ false → lineage_at new d ≡ lineage_at old d
 unused_same k d commands given r back uses old new so none = so.each d ∙ (λ i. if none i then scheduled_so r back (get_or given d None) (lineage_at old d) else lineage_at old d)
 
 -- once those behind its place wait the run may be scheduled on the device of the next command
@@ -247,6 +248,7 @@ found_first accesses items k found is some = by_found found is some ∙ sym (fir
 pub found_none : (accesses : List Access) (items : List Item) (k : ℕ) (found : Option RunNo) → found ≡ first_with_access accesses (option_to_list (slice_get items k)) → is_some found ≡ false → first_with_access accesses (drop (k + 1) items) ≡ first_with_access accesses (drop k items)
 found_none accesses items k found is none = by_found found is none ∙ sym (first_next accesses items k)
   where
-    by_found : (o : Option RunNo) → o ≡ first_with_access accesses (option_to_list (slice_get items k)) → is_some o ≡ false → first_with_access accesses (drop (k + 1) items) ≡ option_or (first_with_access accesses (option_to_list (slice_get items k))) (first_with_access accesses (drop (k + 1) items))
+    by_found : (o : Option RunNo) → o ≡ first_with_access accesses (option_to_list (slice_get items k)) → is_some o ≡ false → first_with_access accesses
+        (drop (k + 1) items) ≡ option_or (first_with_access accesses (option_to_list (slice_get items k))) (first_with_access accesses (drop (k + 1) items))
     by_found None h e = ap (λ o. option_or o (first_with_access accesses (drop (k + 1) items))) h
     by_found (Some x) h e = absurd (cc)

@@ -253,7 +253,9 @@ module _ (w : Setting) (n : Reading) (g : Grips) (held : ℕ → ℕ) (r : ℕ) 
   status_now l kept =
       ap (status_of r) (kept.accesses ∙ ap (accesses_read w n g kept.passed d) cut.at
       ∙ along_there (uses w n d) (commits_write n d) (access_read w n g kept.passed d) r cut.front cut.back (uses_now w n d r s.read s.live pending) (λ i. uncommitted i && is_some (old.on d).wrote) (none_commits w n d cut.back s.read back))
-      ∙ status_at r (front_accesses (uses w n d) (commits_write n d) (access_read w n g kept.passed d) false cut.front) (access_read w n g kept.passed d r) (accesses_along (uses w n d) (commits_write n d) (access_read w n g kept.passed d) cut.back) (front_lacks (uses w n d) (commits_write n d) (access_read w n g kept.passed d) false r cut.front (λ x. refl) cut.before) (equal r)
+      ∙ status_at r (front_accesses (uses w n d) (commits_write n d) (access_read w n g kept.passed d) false cut.front) (access_read w n g kept.passed d r)
+      (accesses_along (uses w n d) (commits_write n d) (access_read w n g kept.passed d) cut.back)
+      (front_lacks (uses w n d) (commits_write n d) (access_read w n g kept.passed d) false r cut.front (λ x. refl) cut.before) (equal r)
       ∙ (λ i. Some (if never_passed n g d r kept.passed kept.may_pass acts i then Released else (if did n r d then (if (not (is_some (s.sound i)) && pending i) || grips_command g r d then Acquired else Released) else Scheduled)))
     where
       equal : (x : ℕ) → (x == x) ≡ true

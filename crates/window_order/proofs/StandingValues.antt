@@ -69,17 +69,27 @@ value_along w n g d first o b (Ran r ∷ is) s h = at_ (λ o c k. value_along w 
     unused true e f = absurd (both_ways (touches w.runs r.0 d) f (written_touches w n r.0 d s e))
     unused false e f = refl
 
-    at_ : ((p : Option Usage) (c : Option Write) → written_or_first p first ≡ value_of c first → written_or_first (effective p (entries w.kinds (λ q. run_state w n g q) d is)) first ≡ value_of (fold (λ best i. option_or (write_of n g d i) best) c is) first) → (x : Bool) → touches w.runs r.0 d ≡ x → written_or_first (effective o (with_order_entry (entry_if x (Used u)) (entries w.kinds (λ q. run_state w n g q) d is))) first ≡ value_of (fold (λ best i. option_or (write_of n g d i) best) later is) first
+    at_ : ((p : Option Usage) (c : Option Write) → written_or_first p first ≡ value_of c first → written_or_first
+        (effective p (entries w.kinds (λ q. run_state w n g q) d is)) first ≡ value_of (fold (λ best i. option_or (write_of n g d i) best) c is) first)
+        → (x : Bool) → touches w.runs r.0 d ≡ x
+        → written_or_first (effective o (with_order_entry (entry_if x (Used u)) (entries w.kinds (λ q. run_state w n g q) d is))) first
+        ≡ value_of (fold (λ best i. option_or (write_of n g d i) best) later is) first
     at_ ih true e = ih (if is_in_effect u then Some u else o) later (use_value u o b r.0 first ((n.run r.0).on d).wrote (is_undone n g r.0 d) ((s.summarized r.0).wrote d) (effect_held w n g r.0 d s) h)
     at_ ih false e = ih o later (h ∙ ap (λ z. value_of z first) (sym (no_write ((n.run r.0).on d).wrote (is_undone n g r.0 d) (unused (has_written n r.0 d) refl e))))
 value_along w n g d first o b (Failed e k ∷ is) s h = at_ (λ o c k. value_along w n g d first o c is s k) (e.0 == d)
   where
-    at_ : ((p : Option Usage) (c : Option Write) → written_or_first p first ≡ value_of c first → written_or_first (effective p (entries w.kinds (λ q. run_state w n g q) d is)) first ≡ value_of (fold (λ best i. option_or (write_of n g d i) best) c is) first) → (x : Bool) → written_or_first (effective o (with_order_entry (entry_if x (Occurred Failure)) (entries w.kinds (λ q. run_state w n g q) d is))) first ≡ value_of (fold (λ best i. option_or (write_of n g d i) best) b is) first
+    at_ : ((p : Option Usage) (c : Option Write) → written_or_first p first ≡ value_of c first → written_or_first
+        (effective p (entries w.kinds (λ q. run_state w n g q) d is)) first ≡ value_of (fold (λ best i. option_or (write_of n g d i) best) c is) first)
+        → (x : Bool) → written_or_first (effective o (with_order_entry (entry_if x (Occurred Failure)) (entries w.kinds (λ q. run_state w n g q) d is))) first
+        ≡ value_of (fold (λ best i. option_or (write_of n g d i) best) b is) first
     at_ ih true = ih o b h
     at_ ih false = ih o b h
 value_along w n g d first o b (Back e k ∷ is) s h = at_ (λ o c k. value_along w n g d first o c is s k) (e.0 == d)
   where
-    at_ : ((p : Option Usage) (c : Option Write) → written_or_first p first ≡ value_of c first → written_or_first (effective p (entries w.kinds (λ q. run_state w n g q) d is)) first ≡ value_of (fold (λ best i. option_or (write_of n g d i) best) c is) first) → (x : Bool) → written_or_first (effective o (with_order_entry (entry_if x (Occurred Restart)) (entries w.kinds (λ q. run_state w n g q) d is))) first ≡ value_of (fold (λ best i. option_or (write_of n g d i) best) b is) first
+    at_ : ((p : Option Usage) (c : Option Write) → written_or_first p first ≡ value_of c first → written_or_first
+        (effective p (entries w.kinds (λ q. run_state w n g q) d is)) first ≡ value_of (fold (λ best i. option_or (write_of n g d i) best) c is) first)
+        → (x : Bool) → written_or_first (effective o (with_order_entry (entry_if x (Occurred Restart)) (entries w.kinds (λ q. run_state w n g q) d is))) first
+        ≡ value_of (fold (λ best i. option_or (write_of n g d i) best) b is) first
     at_ ih true = ih o b h
     at_ ih false = ih o b h
 

@@ -194,7 +194,9 @@ placed_at_kept w n g held r at m planned read may calm kept = record {
     lacks = lacks_parts r (take at n.line) (drop at n.line) (ap (count_by (is_ran r)) (take-append-drop at n.line) ∙ read.once r ∙ ap (λ b. cond b 1 0) (unplaced (n.run r).placed (not (aborted (n.run r))) none))
 
 -- .. as it does where the place is clear
-pub placed_kept : (w : Setting) (n : Reading) (g : Grips) (held : ℕ → ℕ) (r at m : ℕ) (planned : List Planned) → IsRead w n → may_follow w n (Placed (run_no r) at m) ≡ true → IsClear w n g r at → OrderIsKept w n g held → OrderIsKept w (with_placed n (run_no r) at m planned (split_at n.line at)) g held
+pub placed_kept : (w : Setting) (n : Reading) (g : Grips) (held : ℕ → ℕ) (r at m : ℕ) (planned : List Planned) → IsRead w n
+    → may_follow w n (Placed (run_no r) at m) ≡ true → IsClear w n g r at → OrderIsKept w n g held
+    → OrderIsKept w (with_placed n (run_no r) at m planned (split_at n.line at)) g held
 placed_kept w n g held r at m planned read may clear kept = placed_at_kept w n g held r at m planned read may (λ d used. calm_place w n g held r at d read clear (home d (uses_homed (length w.first) d (commands_of w.runs r) (kept.window.runs r).homed used)) used) kept
   where
     home : (d : ℕ) → d < length w.first → is_device w d ≡ true
@@ -439,7 +441,8 @@ found_at w n g held r k read at reading passes out kept = record {
     cut = cut_live w n r read out.live
 
 -- a read is answered with the value at which its device stands, and where it fails its run is doomed already
-pub found_kept : (w : Setting) (n : Reading) (g : Grips) (held : ℕ → ℕ) (d r k : ℕ) → IsRead w n → g d ≡ Some (record { maker = r; purpose = Commands k }) → reads (command_at w.runs r k).job ≡ true → (fails (command_at w.runs r k) (Found (held d)) ≡ true → is_doomed n r ≡ true) → OrderIsKept w n g held
+pub found_kept : (w : Setting) (n : Reading) (g : Grips) (held : ℕ → ℕ) (d r k : ℕ) → IsRead w n → g d ≡ Some (record { maker = r; purpose = Commands k })
+    → reads (command_at w.runs r k).job ≡ true → (fails (command_at w.runs r k) (Found (held d)) ≡ true → is_doomed n r ≡ true) → OrderIsKept w n g held
     → OrderIsKept w (entry w n (Did (run_no r) k (Found (held d)))) (put g d None) held
 found_kept w n g held d r k read at reading passes kept =
     let out = out_is w n g d r k kept.grips at in

@@ -127,7 +127,8 @@ touches_now w n g held d r k cut read order at = record {
 pub status_there : (w : Setting) (n : Reading) (g : Grips) (d r : ℕ) (cut : CutAt r n.line) (s : LineageState) → IsRead w n → TouchesNow w n g d r cut → LineageIsKept w n g d s → status_of r s.accesses ≡ Some (if did n r d then Acquired else Scheduled)
 status_there w n g d r cut s read now kept =
     ap (status_of r) (kept.accesses ∙ accesses_around w n g kept.passed d r cut read now)
-    ∙ status_at r (front_accesses (uses w n d) (commits_write n d) (access_read w n g kept.passed d) false cut.front) (access_read w n g kept.passed d r) (accesses_along (uses w n d) (commits_write n d) (access_read w n g kept.passed d) cut.back) (none_in_front w n g kept.passed d r cut) (eq-eqb r r refl)
+    ∙ status_at r (front_accesses (uses w n d) (commits_write n d) (access_read w n g kept.passed d) false cut.front) (access_read w n g kept.passed d r)
+    (accesses_along (uses w n d) (commits_write n d) (access_read w n g kept.passed d) cut.back) (none_in_front w n g kept.passed d r cut) (eq-eqb r r refl)
     ∙ (λ i. Some (if never_passed n g d r kept.passed kept.may_pass now.acts i then Released else (if did n r d then (if works_now w n g d r cut now i then Acquired else Released) else Scheduled)))
 
 -- a run that stands among these has no answer where none of them has

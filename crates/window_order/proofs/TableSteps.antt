@@ -71,7 +71,8 @@ pub command_out_table : (w : Setting) (n : Reading) (g : Grips) (d r k : ℕ) (t
 command_out_table w n g d r k table at sound pending kept = same_table w n n g (put g d (Some (record { maker = r; purpose = Commands k }))) table (command_out_kept w n g d r k at sound pending) kept
 
 -- each lineage is kept as a command that was out is answered
-pub answered_kept : (w : Setting) (n : Reading) (g h : Grips) (r k : ℕ) (a : Answer) (cut : CutAt r n.line) → is_access a ≡ true → IsRead w n → k ≡ next_of n r → next_of n r < length (commands_of w.runs r) → TouchesNow w n g (command_at w.runs r k).device.0 r cut → HomeFrom g h (command_at w.runs r k).device.0 r
+pub answered_kept : (w : Setting) (n : Reading) (g h : Grips) (r k : ℕ) (a : Answer) (cut : CutAt r n.line) → is_access a ≡ true → IsRead w n → k ≡ next_of n r
+    → next_of n r < length (commands_of w.runs r) → TouchesNow w n g (command_at w.runs r k).device.0 r cut → HomeFrom g h (command_at w.runs r k).device.0 r
     → ((e : ℕ) → e ≢ (command_at w.runs r k).device.0 → (q : ℕ) → SameGrip g h e q) → (e : ℕ) (s : LineageState) → LineageIsKept w n g e s → LineageIsKept w (entry w n (Did (run_no r) k a)) h e (answered_change w n r k a e s)
 answered_kept w n g h r k a cut access read number more now home same e s = two_places (λ x. LineageIsKept w n g x s → LineageIsKept w m h x (answered_change w n r k a x s)) e d at_device elsewhere
   where
@@ -125,7 +126,9 @@ doomed_table w n g r cause old new read fit sound changes kept = changed_table w
 pub doomed_each : (g : Grips) (r : ℕ) (out : Option DeviceNo) (old new : List LineageState) → ((d : ℕ) → grips_command g r d ≡ is_named_device out d) → ChangesEach (doomed_unless out r) old new → ChangesEach (doomed_change g r) old new
 doomed_each g r out old new same changes = record { devices = changes.devices; each = λ d below. changes.each d below ∙ (λ i. if sym (same d) i then lineage_at old d else doomed_lineage r (lineage_at old d)) }
 
-pub doomed_unless_table : (w : Setting) (n : Reading) (g : Grips) (r : ℕ) (cause : Cause) (out : Option DeviceNo) (old new : List LineageState) → IsRead w n → GripsFit w n g → is_doomed n r ≡ false → ((d : ℕ) → grips_command g r d ≡ is_named_device out d) → ChangesEach (doomed_unless out r) old new → TableIsKept w n g old
+pub doomed_unless_table : (w : Setting) (n : Reading) (g : Grips) (r : ℕ) (cause : Cause) (out : Option DeviceNo) (old new : List LineageState) → IsRead w n
+    → GripsFit w n g → is_doomed n r ≡ false → ((d : ℕ) → grips_command g r d ≡ is_named_device out d) → ChangesEach (doomed_unless out r) old new
+    → TableIsKept w n g old
     → TableIsKept w (entry w n (Doomed (run_no r) cause)) g new
 doomed_unless_table w n g r cause out old new read fit sound same changes kept = doomed_table w n g r cause old new read fit sound (doomed_each g r out old new same changes) kept
 

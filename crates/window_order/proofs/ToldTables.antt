@@ -76,7 +76,10 @@ none_called w n g held d r q read kept opened has ne = by_grip (grips_command g 
 
         by_place : (b : Bool) → list_any (is_ran r) cut.front ≡ b → ⊥
         by_place true there = both_ways (is_open w n r d) (closed_before w n g d cut.front cut.back (Ran (run_no q)) (or_right (did n q d) (grips_command g q d) out) along r there) opened
-        by_place false there = both_ways (did n r d) (found n d r cut.back (unseen_behind w n g held d q cut read kept device acts.uses (command_held w g q d ∙ out)) (tail q r (list_any (is_ran r) cut.back) ne (later (list_any (is_ran r) cut.front) (list_any (is_ran r) (Ran (run_no q) ∷ cut.back)) there stands))) has
+        by_place false there =
+            both_ways (did n r d) (found n d r cut.back (unseen_behind w n g held d q cut read kept device acts.uses (command_held w g q d ∙ out))
+            (tail q r (list_any (is_ran r) cut.back) ne (later (list_any (is_ran r) cut.front) (list_any (is_ran r) (Ran (run_no q) ∷ cut.back)) there stands)))
+            has
 
     by_grip : (b : Bool) → grips_command g q d ≡ b → b ≡ false
     by_grip true out = absurd (called out)
@@ -137,7 +140,9 @@ told_touches_now w n g held r c cut s = record {
 pub told_table : (w : Setting) (n : Reading) (g : Grips) (held : ℕ → ℕ) (r : ℕ) (c : Command) (old new : List LineageState) → IsToldDown w n g held r c → ChangesEach (answered_change w n r (next_of n r) Down) old new → TableIsKept w n g old
     → TableIsKept w (entry w n (Did (run_no r) (next_of n r) Down)) g new
 told_table w n g held r c old new s changes kept = changed_table w n (entry w n (Did (run_no r) (next_of n r) Down)) g g (answered_change w n r (next_of n r) Down) old new
-    (answered_kept w n g g r (next_of n r) Down cut refl s.read refl (next_is (commands_of w.runs r) (next_of n r) c s.next).0 now (record { command = unheld; undo = now.undoes_none; others = λ q ne. record { command = refl; undo = refl } }) (λ e ne q. record { command = refl; undo = refl })) changes kept
+    (answered_kept w n g g r (next_of n r) Down cut refl s.read refl (next_is (commands_of w.runs r) (next_of n r) c s.next).0 now
+    (record { command = unheld; undo = now.undoes_none; others = λ q ne. record { command = refl; undo = refl } })
+    (λ e ne q. record { command = refl; undo = refl })) changes kept
   where
     cut : CutAt r n.line
     cut = cut_live w n r s.read s.live

@@ -223,17 +223,26 @@ marks_doomed w n g r cause marks kept = marks_same n (entry w n (Doomed (run_no 
 
 -- a device goes out for an undo, which is no touch, or comes home from one
 pub marks_undo_out : (n : Reading) (g : Grips) (r d v : ℕ) (marks : List Mark) → g d ≡ None → MarksAreKept n g marks → MarksAreKept n (put g d (Some (record { maker = r; purpose = Undoes v }))) marks
-marks_undo_out n g r d v marks home kept = marks_same n n g (put g d (Some (record { maker = r; purpose = Undoes v }))) marks refl (λ q e. ap (λ b. did n q e || b) (put_keeps (λ o. unwrap_or (option_map (λ p. (p.maker == q) && is_command p.purpose) o) false) g d _ (none q ∙ sym (ap (λ o. unwrap_or (option_map (λ p. (p.maker == q) && is_command p.purpose) o) false) home)) e)) (λ q. refl) kept
+marks_undo_out n g r d v marks home kept =
+    marks_same n n g (put g d (Some (record { maker = r; purpose = Undoes v }))) marks refl
+    (λ q e. ap (λ b. did n q e || b) (put_keeps (λ o. unwrap_or (option_map (λ p. (p.maker == q) && is_command p.purpose) o) false) g d _
+    (none q ∙ sym (ap (λ o. unwrap_or (option_map (λ p. (p.maker == q) && is_command p.purpose) o) false) home)) e)) (λ q. refl) kept
   where
     none : (q : ℕ) → ((r == q) && false) ≡ false
     none q = and_right (r == q) false refl
 
 pub marks_undo_home : (n : Reading) (g : Grips) (r d v : ℕ) (marks : List Mark) → g d ≡ Some (record { maker = r; purpose = Undoes v }) → MarksAreKept n g marks → MarksAreKept n (put g d None) marks
-marks_undo_home n g r d v marks out kept = marks_same n n g (put g d None) marks refl (λ q e. ap (λ b. did n q e || b) (put_keeps (λ o. unwrap_or (option_map (λ p. (p.maker == q) && is_command p.purpose) o) false) g d None (sym (ap (λ o. unwrap_or (option_map (λ p. (p.maker == q) && is_command p.purpose) o) false) out ∙ and_right (r == q) false refl)) e)) (λ q. refl) kept
+marks_undo_home n g r d v marks out kept =
+    marks_same n n g (put g d None) marks refl
+    (λ q e. ap (λ b. did n q e || b) (put_keeps (λ o. unwrap_or (option_map (λ p. (p.maker == q) && is_command p.purpose) o) false) g d None
+    (sym (ap (λ o. unwrap_or (option_map (λ p. (p.maker == q) && is_command p.purpose) o) false) out ∙ and_right (r == q) false refl)) e)) (λ q. refl) kept
 
 -- a run is undone on a device
 pub marks_undone : (w : Setting) (n : Reading) (g : Grips) (r d : ℕ) (drove : Bool) (marks : List Mark) → MarksAreKept n g marks → MarksAreKept (entry w n (Undid (run_no r) (device_no d) drove)) g marks
-marks_undone w n g r d drove marks kept = marks_same n (entry w n (Undid (run_no r) (device_no d) drove)) g g marks refl (λ q e. ap (λ b. b || grips_command g q e) (put_keeps (λ o. is_some (o.on e).view) n.run r _ (put_keeps (λ x. is_some x.view) (n.run r).on d _ refl e) q)) (put_keeps (λ o. is_some o.ended) n.run r _ refl) kept
+marks_undone w n g r d drove marks kept =
+    marks_same n (entry w n (Undid (run_no r) (device_no d) drove)) g g marks refl
+    (λ q e. ap (λ b. b || grips_command g q e) (put_keeps (λ o. is_some (o.on e).view) n.run r _ (put_keeps (λ x. is_some x.view) (n.run r).on d _ refl e) q))
+    (put_keeps (λ o. is_some o.ended) n.run r _ refl) kept
 
 -- a run is aborted: its mark leaves
 pub marks_aborted : (w : Setting) (n : Reading) (g : Grips) (r : ℕ) (cause : Cause) (marks : List Mark) → MarksAreKept n g marks → MarksAreKept (entry w n (Ended (run_no r) (Aborted cause))) g (marks_without r marks)

@@ -95,7 +95,9 @@ marks_rose w n g d marks kept =
 -- the device fails at a command that is out: its run has touched it as before
 pub marks_died : (w : Setting) (n : Reading) (g : Grips) (d r k : ℕ) (e : DeviceNo) (a : Answer) (marks : List Mark) → is_access a ≡ true → IsOut w n d r k → g d ≡ Some (record { maker = r; purpose = Commands k }) → MarksAreKept n g marks
     → MarksAreKept (entry w (entry w n (Fell e)) (Did (run_no r) k a)) (put g d None) (with_item (event_place_of w n e.0) (Failed e (n.fell e.0 + 1)) marks)
-marks_died w n g d r k e a marks access out at kept = marks_answered w (entry w n (Fell e)) g d r k a (with_item (event_place_of w n e.0) (Failed e (n.fell e.0 + 1)) marks) access (record { live = out.live; number = out.number; more = out.more; device = out.device; guard = out.guard }) at (marks_fell w n g e marks kept)
+marks_died w n g d r k e a marks access out at kept =
+    marks_answered w (entry w n (Fell e)) g d r k a (with_item (event_place_of w n e.0) (Failed e (n.fell e.0 + 1)) marks) access
+    (record { live = out.live; number = out.number; more = out.more; device = out.device; guard = out.guard }) at (marks_fell w n g e marks kept)
 
 -- What the line asks for, where an event is put in
 

@@ -121,7 +121,10 @@ out_spans_none w n g held d r cut read kept device used out q stands ne =
     ∙ in_part (list_any (is_ran q) cut.front) refl (either (list_any (is_ran q) cut.front) (list_any (is_ran q) (Ran (run_no r) ∷ cut.back)) (sym (list_any-append (is_ran q) cut.front (Ran (run_no r) ∷ cut.back)) ∙ sym (ap (list_any (is_ran q)) cut.at) ∙ stands))
   where
     none : (has spans_up (entries w.kinds (window_of w n g held).states d cut.front) ≡ false) × (has spans_up (entries w.kinds (window_of w n g held).states d cut.back) ≡ false)
-    none = one_spans (device_record w.kinds (window_of w n g held) d) (entries w.kinds (window_of w n g held).states d cut.front) (entries w.kinds (window_of w n g held).states d cut.back) (usage w.kinds (run_state w n g r) d) (kept.window.devices d (below_home w d device)) (device_order_at w n g held d r cut used) out
+    none =
+        one_spans (device_record w.kinds (window_of w n g held) d) (entries w.kinds (window_of w n g held).states d cut.front)
+        (entries w.kinds (window_of w n g held).states d cut.back) (usage w.kinds (run_state w n g r) d) (kept.window.devices d (below_home w d device))
+        (device_order_at w n g held d r cut used) out
 
     either : (a b : Bool) → (a || b) ≡ true → a ≡ false → b ≡ true
     either a b h k = grind (arith, common_steps)
@@ -135,13 +138,19 @@ out_spans_none w n g held d r cut read kept device used out q stands ne =
 
 -- no run sees up a device that a probe restores, ..
 pub restored_spans_none : (w : Setting) (n : Reading) (g : Grips) (held : ℕ → ℕ) (d m v : ℕ) → IsRead w n → OrderIsKept w n g held → is_device w d ≡ true → g d ≡ Some (record { maker = m; purpose = Probes (Some v) }) → (q : ℕ) → is_in_line n q ≡ true → (is_open w n q d && sees_up n q d) ≡ false
-restored_spans_none w n g held d m v read kept device out = order_spans_none w n g held d read (sym (has_entries w.kinds (window_of w n g held).states d spans_up n.line) ∙ restart_loses_none (device_record w.kinds (window_of w n g held) d) v (kept.window.devices d (below_home w d device)) (ap probe_of out))
+restored_spans_none w n g held d m v read kept device out =
+    order_spans_none w n g held d read (sym (has_entries w.kinds (window_of w n g held).states d spans_up n.line)
+    ∙ restart_loses_none (device_record w.kinds (window_of w n g held) d) v (kept.window.devices d (below_home w d device)) (ap probe_of out))
 
 -- .. or an undo drives
-pub undone_spans_none : (w : Setting) (n : Reading) (g : Grips) (held : ℕ → ℕ) (d r v : ℕ) (cut : CutAt r n.line) → IsRead w n → OrderIsKept w n g held → is_device w d ≡ true → touches w.runs r d ≡ true → g d ≡ Some (record { maker = r; purpose = Undoes v }) → (q : ℕ) → is_in_line n q ≡ true → (is_open w n q d && sees_up n q d) ≡ false
+pub undone_spans_none : (w : Setting) (n : Reading) (g : Grips) (held : ℕ → ℕ) (d r v : ℕ) (cut : CutAt r n.line) → IsRead w n → OrderIsKept w n g held
+    → is_device w d ≡ true → touches w.runs r d ≡ true → g d ≡ Some (record { maker = r; purpose = Undoes v }) → (q : ℕ) → is_in_line n q ≡ true
+    → (is_open w n q d && sees_up n q d) ≡ false
 undone_spans_none w n g held d r v cut read kept device used out = order_spans_none w n g held d read
     (sym (has_entries w.kinds (window_of w n g held).states d spans_up n.line)
-    ∙ undo_loses_none (device_record w.kinds (window_of w n g held) d) (entries w.kinds (window_of w n g held).states d cut.front) (entries w.kinds (window_of w n g held).states d cut.back) (usage w.kinds (run_state w n g r) d) v (kept.window.devices d (below_home w d device)) (device_order_at w n g held d r cut used) (ap (held_by w r) out ∙ held_own w r (Undoes v)))
+    ∙ undo_loses_none (device_record w.kinds (window_of w n g held) d) (entries w.kinds (window_of w n g held).states d cut.front)
+    (entries w.kinds (window_of w n g held).states d cut.back) (usage w.kinds (run_state w n g r) d) v (kept.window.devices d (below_home w d device))
+    (device_order_at w n g held d r cut used) (ap (held_by w r) out ∙ held_own w r (Undoes v)))
 
 -- The run that is lost
 

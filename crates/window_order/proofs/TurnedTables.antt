@@ -57,7 +57,8 @@ last_put : {B : Type 0} (f : Item → Option B) (t : Item → Bool) (x : Item) (
 last_put f t x best [] none = ap (λ o. option_or o best) none
 last_put {B} f t x best (i ∷ is) none = by_test (t i) (last_put f t x (option_or (f i) best) is none)
   where
-    by_test : (b : Bool) → fold (λ o y. option_or (f y) o) (option_or (f i) best) (put_before t x is) ≡ fold (λ o y. option_or (f y) o) (option_or (f i) best) is → fold (λ o y. option_or (f y) o) best (if b then x ∷ i ∷ is else i ∷ put_before t x is) ≡ fold (λ o y. option_or (f y) o) (option_or (f i) best) is
+    by_test : (b : Bool) → fold (λ o y. option_or (f y) o) (option_or (f i) best) (put_before t x is) ≡ fold (λ o y. option_or (f y) o) (option_or (f i) best)
+        is → fold (λ o y. option_or (f y) o) best (if b then x ∷ i ∷ is else i ∷ put_before t x is) ≡ fold (λ o y. option_or (f y) o) (option_or (f i) best) is
     by_test true rest = ap (λ o. fold (λ q y. option_or (f y) q) (option_or (f i) (option_or o best)) is) none
     by_test false rest = rest
 
@@ -121,7 +122,9 @@ rose_table w n g d old new changes kept = changed_table w n (entry w n (Rose d))
 pub died_table : (w : Setting) (n : Reading) (g : Grips) (held : ℕ → ℕ) (d r k : ℕ) (f : DeviceNo) (a : Answer) (old new : List LineageState) → is_access a ≡ true → IsRead w n → OrderIsKept w n g held → g d ≡ Some (record { maker = r; purpose = Commands k })
     → ChangesEach (λ e s. turned_change f.0 false e (answered_change w n r k a e s)) old new → TableIsKept w n g old → TableIsKept w (entry w (entry w n (Fell f)) (Did (run_no r) k a)) (put g d None) new
 died_table w n g held d r k f a old new access read order at changes kept = changed_table w n next g (put g d None) (λ e s. turned_change f.0 false e (answered_change w n r k a e s)) old new
-    (λ e s own. turned_kept w (entry w n (Did (run_no r) k a)) next (put g d None) f.0 false (record { item = Failed f _; event = λ p. refl; before = of_run (awaits_there w n f.0); line = refl; runs = refl; counted = refl }) e (answered_change w n r k a e s) (answered_each w n g held d r k a access read order at e s own)) changes kept
+    (λ e s own. turned_kept w (entry w n (Did (run_no r) k a)) next (put g d None) f.0 false
+    (record { item = Failed f _; event = λ p. refl; before = of_run (awaits_there w n f.0); line = refl; runs = refl; counted = refl }) e
+    (answered_change w n r k a e s) (answered_each w n g held d r k a access read order at e s own)) changes kept
   where
     next : Reading
     next = entry w (entry w n (Fell f)) (Did (run_no r) k a)
@@ -130,7 +133,9 @@ died_table w n g held d r k f a old new access read order at changes kept = chan
 pub undo_died_table : (w : Setting) (n : Reading) (g : Grips) (d r v : ℕ) (drove : Bool) (old new : List LineageState) → g d ≡ Some (record { maker = r; purpose = Undoes v }) → ChangesEach (turned_change d false) old new → TableIsKept w n g old
     → TableIsKept w (entry w (entry w n (Fell (device_no d))) (Undid (run_no r) (device_no d) drove)) (put g d None) new
 undo_died_table w n g d r v drove old new at changes kept = changed_table w n next g (put g d None) (turned_change d false) old new
-    (λ e s own. turned_kept w (entry w n (Undid (run_no r) (device_no d) drove)) next (put g d None) d false (record { item = Failed (device_no d) _; event = λ p. refl; before = of_run (awaits_there w n d); line = refl; runs = refl; counted = refl }) e s (undid_kept w n g d r v drove at e s own)) changes kept
+    (λ e s own. turned_kept w (entry w n (Undid (run_no r) (device_no d) drove)) next (put g d None) d false
+    (record { item = Failed (device_no d) _; event = λ p. refl; before = of_run (awaits_there w n d); line = refl; runs = refl; counted = refl }) e s
+    (undid_kept w n g d r v drove at e s own)) changes kept
   where
     next : Reading
     next = entry w (entry w n (Fell (device_no d))) (Undid (run_no r) (device_no d) drove)

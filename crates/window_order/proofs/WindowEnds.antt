@@ -180,7 +180,9 @@ not_undone w n g held r d s o over c = by ((n.run r).on d).undid (grips_undo g r
 last_writes : (n : Reading) (g : Grips) (d : ℕ) (b : Option Write) (c : Option ℕ) (line : List Item) → ((r : ℕ) → list_any (is_ran r) line ≡ true → is_committed n r ≡ true) → ((r : ℕ) → is_committed n r ≡ true → is_undone n g r d ≡ false)
     → option_map (λ e. e.value) b ≡ c → option_map (λ e. e.value) (fold (λ best x. option_or (write_of n g d x) best) b line) ≡ fold (λ best x. option_or (committed_write n d x) best) c line
 last_writes n g d b c [] h k e = e
-last_writes n g d b c (Ran r ∷ is) h k e = last_writes n g d (option_or (write_of n g d (Ran r)) b) (option_or (committed_write n d (Ran r)) c) is (λ q y. h q (or_right (r.0 == q) (list_any (is_ran q) is) y)) k (step (is_undone n g r.0 d) (is_committed n r.0) ((n.run r.0).on d).wrote (k r.0 here) here)
+last_writes n g d b c (Ran r ∷ is) h k e =
+    last_writes n g d (option_or (write_of n g d (Ran r)) b) (option_or (committed_write n d (Ran r)) c) is
+    (λ q y. h q (or_right (r.0 == q) (list_any (is_ran q) is) y)) k (step (is_undone n g r.0 d) (is_committed n r.0) ((n.run r.0).on d).wrote (k r.0 here) here)
   where
     here : is_committed n r.0 ≡ true
     here = h r.0 (or_left (r.0 == r.0) (list_any (is_ran r.0) is) (eq-eqb r.0 r.0 refl))

@@ -22,13 +22,15 @@ use Rattle.window_order.specs.TableChanges.{IsWaiting, answer_noted, first_with_
 abbrev pub IsSealed : Marked → Type 0
 IsSealed line = line.sealed ≡ front_of line.marks
 
--- the items of the set before the others, each part in its order, where runs are placed by the timeline; else as they stand
+-- the items of the set before the others, each part in its order, where runs are placed by the
+-- timeline; else as they stand
 abbrev pub arranged : {A : Type 0} → Scheduler → List Bool → List A → List A
 arranged Fcfs set items = items
 arranged JustInTime set items = items
 arranged Timeline set items = rearranged set items
 
--- the items of the set may be brought before the others: it is closed, and has those that are sealed
+-- the items of the set may be brought before the others: it is closed, and has those that are
+-- sealed
 pub record MayArrange (set : List Bool) (line : Marked) : Type 0 where
   pub size : length set ≡ length line.marks
   pub closed : IsClosed (meet line.runs) set (items_of line.marks)
@@ -47,21 +49,33 @@ pub record MayNote (r : RunId) (s : LineageState) : Type 0 where
   pub status : IsUnreleased r s
   pub first : is_first r s ≡ true → IsWaiting r s
 
--- the lineage of a device on which the run, which is planned to use it so, stands before those of these items; as it is where no use is planned
+-- the lineage of a device on which the run, which is planned to use it so, stands before those of
+-- these items; as it is where no use is planned
 abbrev pub scheduled_so : RunId → List Item → Option PlannedUse → LineageState → LineageState
 scheduled_so r back None s = s
 scheduled_so r back (Some used) s =
-    scheduled (first_with_access s.accesses back) (record { run = run_no r; status = Scheduled; view = None; wrote = None; from = used.from; to = used.to }) (rescheduled (first_with_access s.accesses back) s)
+    scheduled (first_with_access s.accesses back) (record {
+      run = run_no r;
+      status = Scheduled;
+      view = None;
+      wrote = None;
+      from = used.from;
+      to = used.to;
+    }) (rescheduled (first_with_access s.accesses back) s)
 
 -- .. on each of its devices, with these uses
-abbrev pub scheduled_with : List Run → RunId → List (Option PlannedUse) → List Item → DeviceId → LineageState → LineageState
-scheduled_with runs r uses back d s = if touches runs r d then scheduled_so r back (get_or uses d None) s else s
+abbrev pub scheduled_with : List Run → RunId → List (Option PlannedUse) → List Item → DeviceId
+    → LineageState → LineageState
+scheduled_with runs r uses back d s =
+    if touches runs r d then scheduled_so r back (get_or uses d None) s else s
 
--- the run's answer on the device is noted; where it has not touched it before, the scheduled accesses before its own are passed first, and its own is acquired
+-- the run's answer on the device is noted; where it has not touched it before, the scheduled
+-- accesses before its own are passed first, and its own is acquired
 abbrev pub noted_first : RunId → Bool → View → Option ℕ → Bool → LineageState → LineageState
 noted_first r first view wrote last s = answer_noted r first view wrote last (passed_if first r s)
 
--- the run has skipped its last command on the device: its access is gone where the run has not touched the device, and else released
+-- the run has skipped its last command on the device: its access is gone where the run has not
+-- touched the device, and else released
 abbrev pub left_by : RunId → Bool → LineageState → LineageState
 left_by r first s = if first then removed r s else released r s
 

@@ -1,4 +1,5 @@
--- The run that is lost where a device fails, and the run before which its event stands, as the device's lineage has them.
+-- The run that is lost where a device fails, and the run before which its event stands, as the
+-- device's lineage has them.
 use Rattle.device_order.specs.Usages.{is_up}
 use Rattle.home_types.specs.Numbers.{RunId}
 use Rattle.lineage_table.specs.Accesses.{is_acquired, is_scheduled}
@@ -20,4 +21,5 @@ is_access_waiting is_doomed x = is_scheduled x.status && not (is_doomed x.run.0)
 
 -- the run of the first such access
 abbrev pub first_waiting_run : (RunId → Bool) → LineageState → Option RunId
-first_waiting_run is_doomed s = option_map (λ x. x.run.0) (find (is_access_waiting is_doomed) s.accesses)
+first_waiting_run is_doomed s =
+    option_map (λ x. x.run.0) (find (is_access_waiting is_doomed) s.accesses)

@@ -1,4 +1,6 @@
--- What is kept of the lineage table of a window: it is what the reading of the history and the grips that are out make it, but for the accesses of doomed runs that never touched the device, of which some were passed.
+-- What is kept of the lineage table of a window: it is what the reading of the history and the
+-- grips that are out make it, but for the accesses of doomed runs that never touched the device, of
+-- which some were passed.
 use Rattle.command_rules.specs.Items.{of_run}
 use Rattle.command_rules.specs.Rosters.{Run, is_on, run_no}
 use Rattle.history_book.specs.Plans.{planned_end, planned_start}
@@ -31,11 +33,14 @@ access_read w n g passed d r = record {
   to = planned_end (n.run r).planned d;
 }
 
--- the accesses of the runs that have one, in the order of these items, but for those before a run that covers them
-abbrev pub accesses_along : (RunId → Bool) → (RunId → Bool) → (RunId → Access) → List Item → List Access
+-- the accesses of the runs that have one, in the order of these items, but for those before a run
+-- that covers them
+abbrev pub accesses_along : (RunId → Bool) → (RunId → Bool) → (RunId → Access)
+    → List Item → List Access
 accesses_along has_one covering access [] = []
 accesses_along has_one covering access (Ran r ∷ is) =
-    if has_one r.0 && not (list_any (of_run covering) is) then (access r.0 ∷ accesses_along has_one covering access is)
+    if has_one r.0 && not (list_any (of_run covering) is)
+    then (access r.0 ∷ accesses_along has_one covering access is)
     else accesses_along has_one covering access is
 accesses_along has_one covering access (Failed e k ∷ is) = accesses_along has_one covering access is
 accesses_along has_one covering access (Back e k ∷ is) = accesses_along has_one covering access is
@@ -44,16 +49,22 @@ accesses_along has_one covering access (Back e k ∷ is) = accesses_along has_on
 abbrev pub commits_write : Reading → DeviceId → RunId → Bool
 commits_write n d r = is_committed n r && has_written n r d
 
--- the accesses to the device: of the live runs that use it, but for those before a committed run that wrote it
-abbrev pub accesses_read : Setting → Reading → Grips → (RunId → Bool) → DeviceId → List Item → List Access
-accesses_read w n g passed d line = accesses_along (uses w n d) (commits_write n d) (access_read w n g passed d) line
+-- the accesses to the device: of the live runs that use it, but for those before a committed run
+-- that wrote it
+abbrev pub accesses_read : Setting → Reading → Grips → (RunId → Bool) → DeviceId
+    → List Item → List Access
+accesses_read w n g passed d line =
+    accesses_along (uses w n d) (commits_write n d) (access_read w n g passed d) line
 
 -- Room
 
--- how many of these runs, which count from this number, have the device in their footprint and are not placed
+-- how many of these runs, which count from this number, have the device in their footprint and are
+-- not placed
 abbrev pub unplaced_among : Reading → DeviceId → RunId → List Run → ℕ
 unplaced_among n d r [] = 0
-unplaced_among n d r (run ∷ runs) = (if list_any (is_on d) run.commands && is_none (n.run r).placed then 1 else 0) + unplaced_among n d (suc r) runs
+unplaced_among n d r (run ∷ runs) =
+    (if list_any (is_on d) run.commands && is_none (n.run r).placed then 1 else 0)
+    + unplaced_among n d (suc r) runs
 
 abbrev pub unplaced_on : Setting → Reading → DeviceId → ℕ
 unplaced_on w n d = unplaced_among n d 1 w.runs
@@ -61,7 +72,8 @@ unplaced_on w n d = unplaced_among n d 1 w.runs
 -- The table
 
 -- the lineage is the device's, with room for the runs that are not placed
-pub record LineageIsKept (w : Setting) (n : Reading) (g : Grips) (d : DeviceId) (s : LineageState) : Type 0 where
+pub record LineageIsKept (w : Setting) (n : Reading) (g : Grips) (d : DeviceId)
+    (s : LineageState) : Type 0 where
   -- the runs whose access was passed, each of which may be
   pub passed : RunId → Bool
   pub may_pass : (r : RunId) → passed r ≡ true → may_be_passed n g r d ≡ true
@@ -70,6 +82,7 @@ pub record LineageIsKept (w : Setting) (n : Reading) (g : Grips) (d : DeviceId) 
   pub room : unplaced_on w n d ≤ s.room
   pub up : s.up ≡ n.up d
 
-pub record TableIsKept (w : Setting) (n : Reading) (g : Grips) (table : List LineageState) : Type 0 where
+pub record TableIsKept (w : Setting) (n : Reading) (g : Grips)
+    (table : List LineageState) : Type 0 where
   pub devices : length table ≡ length w.first
   pub each : (d : DeviceId) → d < length w.first → LineageIsKept w n g d (lineage_at table d)

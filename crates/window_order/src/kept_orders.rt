@@ -29,8 +29,8 @@ use lineage_table::{Access, Status, Table};
 use serial_line::Line;
 use std::alloc::Global;
 
-/// The line of a window, in which each run has touched the devices whose grip it had for a command, and the lineage
-/// table.
+/// The line of a window, in which each run has touched the devices whose grip it had for a command,
+/// and the lineage table.
 #[derive(Drop)]
 pub struct KeptOrder {
     pub line: Line,
@@ -49,7 +49,8 @@ pub struct Noted {
 }
 
 impl KeptOrder {
-    /// Opens the line and the table of a window of these runs, with room for so many items of the line and no more.
+    /// Opens the line and the table of a window of these runs, with room for so many items of the
+    /// line and no more.
     ///
     /// Answers `NoMemory` where there is none to be had.
     pub fn open(
@@ -65,7 +66,8 @@ impl KeptOrder {
         ensures room { IfOk result (λ order. order.line.spare ≡ items) }
         ensures none_sealed { IfOk result (λ order. order.line.sealed ≡ 0) }
         ensures runs { IfOk result (λ order. AreKeptOf (runs_of roster.now) order.line.runs) }
-        ensures table { IfOk result (λ order. TableIsOpened (runs_of roster.now) world.now.devices.items order.table) }
+        ensures table { IfOk result
+            (λ order. TableIsOpened (runs_of roster.now) world.now.devices.items order.table) }
     {
         let mut line = Line::open(alloc, roster)?;
         line.reserve(items)?;
@@ -73,8 +75,8 @@ impl KeptOrder {
         Ok(KeptOrder { line, table })
     }
 
-    /// Where runs are placed by the timeline, the items with a flag stand before the others, each part in its order. Takes no
-    /// memory.
+    /// Where runs are placed by the timeline, the items with a flag stand before the others, each
+    /// part in its order. Takes no memory.
     pub fn arrange(&mut self, scheduler: Scheduler, before: &[bool])
         requires flags { scheduler ≡ Timeline → MayArrange before.now self.old.line }
         requires sealed { self.old.line.sealed ≤ front_of self.old.line.marks }
@@ -91,44 +93,51 @@ impl KeptOrder {
         }
     }
 
-    /// The run stands at this place in the line, counted from 0, and has an access on each of its devices, with these uses
-    /// of them. There it stands before the first access of a run behind it, which waits,
-    /// as do those behind it: those that were passed wait again. What stands before the first live run is sealed then. Takes
-    /// no memory.
+    /// The run stands at this place in the line, counted from 0, and has an access on each of its
+    /// devices, with these uses of them. There it stands before the first access of a run behind
+    /// it, which waits, as do those behind it: those that were passed wait again. What stands
+    /// before the first live run is sealed then. Takes no memory.
     pub fn join(&mut self, roster: &Roster, r: RunNo, at: u32, uses: [Option<PlannedUse>; 256])
         requires run { IsTrue (is_run (runs_of roster.now) r.0) }
         requires few { length self.old.table ≤ most_devices }
-        requires homed { All (λ c. c.device.0 < length self.old.table) (commands_of (runs_of roster.now) r.0) }
+        requires homed { All (λ c. c.device.0 < length self.old.table)
+            (commands_of (runs_of roster.now) r.0) }
         requires room { 0 < self.old.line.spare }
         requires place { at ≤ length self.old.line.marks }
         requires behind { self.old.line.sealed ≤ at }
         requires sealed { self.old.line.sealed ≤ front_of self.old.line.marks }
         requires known { is_run self.old.line.runs r.0 ≡ true }
         requires absent { stands (Ran r) self.old.line.marks ≡ false }
-        requires new { (d : ℕ) → d < length self.old.table → touches (runs_of roster.now) r.0 d ≡ true → IsNewOn r.0 (drop at (items_of self.old.line.marks)) (lineage_at self.old.table d) }
+        requires new { (d : ℕ) → d < length self.old.table
+            → touches (runs_of roster.now) r.0 d ≡ true
+            → IsNewOn r.0 (drop at (items_of self.old.line.marks)) (lineage_at self.old.table d) }
         ensures marks { self.new.line.marks ≡ with_item at (Ran r) self.old.line.marks }
         ensures spare { self.new.line.spare + 1 ≡ self.old.line.spare }
         ensures sealed { IsSealed self.new.line }
         ensures kept { self.new.line.runs ≡ self.old.line.runs }
-        ensures table { ChangesEach (scheduled_with (runs_of roster.now) r.0 uses (drop at (items_of self.old.line.marks))) self.old.table self.new.table }
+        ensures table { ChangesEach
+            (scheduled_with (runs_of roster.now) r.0 uses (drop at (items_of self.old.line.marks)))
+            self.old.table self.new.table }
     {
         schedule(&mut self.table, &self.line, at, roster, r, uses);
         self.line.insert(at, Item::Ran(r));
         seal(&mut self.line);
     }
 
-    /// The device goes out to the run for this purpose: it has touched it where that is a command, and its write there
-    /// is undone where that is an undo.
+    /// The device goes out to the run for this purpose: it has touched it where that is a command,
+    /// and its write there is undone where that is an undo.
     #[inline(always)]
     pub fn touch(&mut self, r: RunNo, d: DeviceNo, purpose: Purpose)
         requires run { stands (Ran r) self.old.line.marks ≡ true }
         requires device { d.0 < most_devices }
         requires homed { d.0 < length self.old.table }
-        ensures marks { self.new.line.marks ≡ (if is_command (purpose_of purpose) then touching r.0 d.0 self.old.line.marks else self.old.line.marks) }
+        ensures marks { self.new.line.marks ≡ (if is_command (purpose_of purpose)
+            then touching r.0 d.0 self.old.line.marks else self.old.line.marks) }
         ensures spare { self.new.line.spare ≡ self.old.line.spare }
         ensures sealed { self.new.line.sealed ≡ self.old.line.sealed }
         ensures runs { self.new.line.runs ≡ self.old.line.runs }
-        ensures table { self.new.table ≡ (if is_undo (purpose_of purpose) then with_lineage self.old.table d.0 (undone r.0) else self.old.table) }
+        ensures table { self.new.table ≡ (if is_undo (purpose_of purpose)
+            then with_lineage self.old.table d.0 (undone r.0) else self.old.table) }
     {
         match purpose {
             Purpose::Command(_) => self.line.mark(r, d),
@@ -137,13 +146,14 @@ impl KeptOrder {
         }
     }
 
-    /// The run has skipped its last command on the device: its access is gone where it has not touched the device, and else
-    /// released.
+    /// The run has skipped its last command on the device: its access is gone where it has not
+    /// touched the device, and else released.
     pub fn leave(&mut self, d: DeviceNo, r: RunNo)
         requires device { d.0 < length self.old.table }
         requires turn { IsUnreleased r.0 (lineage_at self.old.table d.0) }
         ensures line { self.new.line ≡ self.old.line }
-        ensures table { self.new.table ≡ with_lineage self.old.table d.0 (left_by r.0 (is_first r.0 (lineage_at self.old.table d.0))) }
+        ensures table { self.new.table ≡ with_lineage self.old.table d.0
+            (left_by r.0 (is_first r.0 (lineage_at self.old.table d.0))) }
     {
         if self.is_first(d, r) {
             self.table.remove(d, r);
@@ -161,14 +171,15 @@ impl KeptOrder {
         self.table.undone(d, r);
     }
 
-    /// The run notes an answer on the device. Where it is its first one there, the scheduled accesses before its own are
-    /// passed.
+    /// The run notes an answer on the device. Where it is its first one there, the scheduled
+    /// accesses before its own are passed.
     #[inline(always)]
     pub fn note(&mut self, d: DeviceNo, r: RunNo, told: Noted)
         requires device { d.0 < length self.old.table }
         requires turn { MayNote r.0 (lineage_at self.old.table d.0) }
         ensures line { self.new.line ≡ self.old.line }
-        ensures table { self.new.table ≡ with_lineage self.old.table d.0 (noted_first r.0 (is_first r.0 (lineage_at self.old.table d.0)) told.view told.wrote told.is_last) }
+        ensures table { self.new.table ≡ with_lineage self.old.table d.0 (noted_first r.0
+            (is_first r.0 (lineage_at self.old.table d.0)) told.view told.wrote told.is_last) }
     {
         self.table.kept();
         if !self.table.note(d, r, told.view, told.wrote, told.is_last) {
@@ -188,8 +199,8 @@ impl KeptOrder {
         }
     }
 
-    /// The run is doomed: it is done with each device that it has acquired, but for the one that is out for a command
-    /// of it, where there is one.
+    /// The run is doomed: it is done with each device that it has acquired, but for the one that is
+    /// out for a command of it, where there is one.
     pub fn doom(&mut self, r: RunNo, out: Option<DeviceNo>)
         ensures line { self.new.line ≡ self.old.line }
         ensures table { ChangesEach (doomed_unless out r.0) self.old.table self.new.table }
@@ -197,8 +208,8 @@ impl KeptOrder {
         release_all(&mut self.table, r, out);
     }
 
-    /// The run, which has nothing left to undo, is aborted: it has no access any more, and leaves the line. What stands
-    /// before the first live run is sealed then.
+    /// The run, which has nothing left to undo, is aborted: it has no access any more, and leaves
+    /// the line. What stands before the first live run is sealed then.
     pub fn withdraw(&mut self, r: RunNo)
         requires run { stands (Ran r) self.old.line.marks ≡ true }
         requires sealed { IsSealed self.old.line }
@@ -215,8 +226,8 @@ impl KeptOrder {
         seal(&mut self.line);
     }
 
-    /// The run commits. It stays in the line, which notes that it has ended. What stands before the first live run is
-    /// sealed then.
+    /// The run commits. It stays in the line, which notes that it has ended. What stands before the
+    /// first live run is sealed then.
     pub fn settle(&mut self, r: RunNo)
         requires sealed { IsSealed self.old.line }
         ensures marks { self.new.line.marks ≡ settling r.0 self.old.line.marks }
@@ -240,7 +251,8 @@ pub fn seal(line: &mut Line)
     line.seal(front);
 }
 
-/// The run, which is placed in the line at this place, has an access on each of its devices, with these uses of them.
+/// The run, which is placed in the line at this place, has an access on each of its devices, with
+/// these uses of them.
 fn schedule(
     table: &mut Table,
     line: &Line,
@@ -251,9 +263,13 @@ fn schedule(
 )
     requires run { IsTrue (is_run (runs_of roster.now) r.0) }
     requires few { length table.old ≤ most_devices }
-    requires homed { All (λ c. c.device.0 < length table.old) (commands_of (runs_of roster.now) r.0) }
-    requires new { (d : ℕ) → d < length table.old → touches (runs_of roster.now) r.0 d ≡ true → IsNewOn r.0 (drop at (items_of line.now.marks)) (lineage_at table.old d) }
-    ensures { ChangesEach (scheduled_with (runs_of roster.now) r.0 uses (drop at (items_of line.now.marks))) table.old table.new }
+    requires homed { All (λ c. c.device.0 < length table.old)
+        (commands_of (runs_of roster.now) r.0) }
+    requires new { (d : ℕ) → d < length table.old → touches (runs_of roster.now) r.0 d ≡ true
+        → IsNewOn r.0 (drop at (items_of line.now.marks)) (lineage_at table.old d) }
+    ensures { ChangesEach
+        (scheduled_with (runs_of roster.now) r.0 uses (drop at (items_of line.now.marks)))
+        table.old table.new }
 {
     let commands = roster.commands(r);
     let mut left = uses;
@@ -271,7 +287,14 @@ fn schedule(
 
 /// The access of a run that has not touched the device yet, and is planned to use it so.
 fn waiting(r: RunNo, used: PlannedUse) -> Access
-    ensures { result ≡ record { run = r; status = Status.Scheduled; view = None; wrote = None; from = used.from; to = used.to } }
+    ensures { result ≡ record {
+      run = r;
+      status = Status.Scheduled;
+      view = None;
+      wrote = None;
+      from = used.from;
+      to = used.to;
+    } }
 {
     Access {
         run: r,
@@ -286,7 +309,8 @@ fn waiting(r: RunNo, used: PlannedUse) -> Access
 /// The first run from this place of the line on that has an access on the device.
 fn first_behind(line: &Line, table: &Table, at: u32, d: DeviceNo) -> Option<RunNo>
     requires { d.0 < length table.now }
-    ensures { result ≡ first_with_access (accesses_at table.now d.0) (drop at (items_of line.now.marks)) }
+    ensures { result
+        ≡ first_with_access (accesses_at table.now d.0) (drop at (items_of line.now.marks)) }
 {
     'items: for k in at..line.len() {
         let item = line.get(k).unwrap();

@@ -1,5 +1,6 @@
-// The order of a window as its history and the grips that are out make it, and the line and the lineage table that are kept
-// beside it: each step of a hub keeps them, and the promises of a window follow from it.
+// The order of a window as its history and the grips that are out make it, and the line and the
+// lineage table that are kept beside it: each step of a hub keeps them, and the promises of a
+// window follow from it.
 #![tactic(auto)]
 
 mod kept_orders;

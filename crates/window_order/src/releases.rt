@@ -1,4 +1,5 @@
-//! What the lineage table becomes on the devices of a run that is doomed, and of those that were doomed before it came.
+//! What the lineage table becomes on the devices of a run that is doomed, and of those that were
+//! doomed before it came.
 ghost use Rattle.std.specs.Prelude.{◌≡◌, ◌<◌, length};
 ghost use Rattle.lineage_table.specs.Accesses.{IsDisciplined, first_before, is_scheduled};
 ghost use Rattle.lineage_table.specs.Lineages.{accesses_at, lineage_at, with_lineage};
@@ -7,8 +8,8 @@ ghost use Rattle.window_order.specs.TableChanges.{ChangesEach, IsFirst, IsWaitin
 use home_types::{DeviceNo, RunNo, View};
 use lineage_table::{Status, Table};
 
-/// The run is done with each device that it has acquired, but for the one that is out for a command of it, where there
-/// is one: that access stays acquired until the answer comes.
+/// The run is done with each device that it has acquired, but for the one that is out for a command
+/// of it, where there is one: that access stays acquired until the answer comes.
 pub(crate) fn release_all(table: &mut Table, r: RunNo, out: Option<DeviceNo>)
     ensures { ChangesEach (doomed_unless out r.0) table.old table.new }
 {
@@ -34,8 +35,8 @@ fn release_on(table: &mut Table, d: DeviceNo, r: RunNo, out: Option<DeviceNo>)
     }
 }
 
-/// The scheduled accesses before the run's are passed: they are of doomed runs, which never touch the device any more.
-/// Then the run's own is the first of those that are left.
+/// The scheduled accesses before the run's are passed: they are of doomed runs, which never touch
+/// the device any more. Then the run's own is the first of those that are left.
 pub(crate) fn pass_before(table: &mut Table, d: DeviceNo, r: RunNo)
     requires device { d.0 < length table.old }
     requires waiting { IsWaiting r.0 (lineage_at table.old d.0) }
@@ -51,7 +52,8 @@ pub(crate) fn pass_before(table: &mut Table, d: DeviceNo, r: RunNo)
 /// The run of the first scheduled access before that of the run.
 fn scheduled_before(table: &Table, d: DeviceNo, r: RunNo) -> Option<RunNo>
     requires { d.0 < length table.now }
-    ensures found { result ≡ first_before (λ x. is_scheduled x.status) r.0 (accesses_at table.now d.0) }
+    ensures found { result
+        ≡ first_before (λ x. is_scheduled x.status) r.0 (accesses_at table.now d.0) }
     ensures disciplined { IsDisciplined (accesses_at table.now d.0) }
 {
     table.kept();

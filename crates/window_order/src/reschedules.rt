@@ -1,4 +1,5 @@
-//! What the lineage table becomes behind the place at which a run is put: the accesses there that were passed wait again.
+//! What the lineage table becomes behind the place at which a run is put: the accesses there that
+//! were passed wait again.
 ghost use Rattle.std.specs.Prelude.{◌≡◌, ◌<◌, None, false, length};
 ghost use Rattle.lineage_table.specs.Accesses.{some_acquired};
 ghost use Rattle.lineage_table.specs.Lineages.{accesses_at, with_lineage};
@@ -7,8 +8,9 @@ ghost use Rattle.window_order.specs.TableChanges.{accesses_from, rescheduled};
 use home_types::{DeviceNo, RunNo};
 use lineage_table::{Access, Status, Table};
 
-/// The access of this run waits, and so do those behind it, where one is named: those that are released were passed, and
-/// are scheduled again, the last one first. None of them is acquired. Takes no memory.
+/// The access of this run waits, and so do those behind it, where one is named: those that are
+/// released were passed, and are scheduled again, the last one first. None of them is acquired.
+/// Takes no memory.
 pub(crate) fn wait_again(table: &mut Table, d: DeviceNo, first: Option<RunNo>)
     requires device { d.0 < length table.old }
     requires unused { some_acquired (accesses_from first (accesses_at table.old d.0)) ≡ false }

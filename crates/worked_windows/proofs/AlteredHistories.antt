@@ -50,7 +50,26 @@ record AreNotWellFormed : Type 0 where
 
 are_not_well_formed : AreNotWellFormed
 unfolding split_of
-are_not_well_formed = record { placed_before_it_arrived = refl; a_command_passed_over = refl; committed_with_a_command_left = refl; a_write_finds_a_value = refl; failed_while_down = refl; back_while_up = refl; aborted_for_another_cause = refl; undone_where_it_wrote_nothing = refl; undone_before_it_was_doomed = refl; a_moment_falls = refl; two_answers_after_the_doom = refl; doomed_twice = refl; ended_and_answered = refl; a_run_that_is_none = refl; done_though_its_guard_does_not_hold = refl; down_though_its_guard_does_not_hold = refl; skipped_though_its_guard_holds = refl; skipped_when_doomed = refl }
+are_not_well_formed = record {
+  placed_before_it_arrived = refl;
+  a_command_passed_over = refl;
+  committed_with_a_command_left = refl;
+  a_write_finds_a_value = refl;
+  failed_while_down = refl;
+  back_while_up = refl;
+  aborted_for_another_cause = refl;
+  undone_where_it_wrote_nothing = refl;
+  undone_before_it_was_doomed = refl;
+  a_moment_falls = refl;
+  two_answers_after_the_doom = refl;
+  doomed_twice = refl;
+  ended_and_answered = refl;
+  a_run_that_is_none = refl;
+  done_though_its_guard_does_not_hold = refl;
+  down_though_its_guard_does_not_hold = refl;
+  skipped_though_its_guard_holds = refl;
+  skipped_when_doomed = refl;
+}
 
 -- Reads that are not clean
 
@@ -68,31 +87,68 @@ are_not_clean = record { finds_what_an_aborted_run_wrote = refl; reads_before_th
 
 record AreNotJustified : Type 0 where
   doomed_by_best_effort : verdict skipped_and_must_down.window (replaced 6 (Ended (run_no 1) (Aborted (MustDown 0))) (put_in 4 (Doomed (run_no 1) (MustDown 0)) skipped_and_must_down.history)) ≡ record { well_formed = true; clean = true; justified = false; isolated = true }
-  doomed_by_a_check_that_held : verdict undo_dies.window (replaced 7 (Ended (run_no 1) (Aborted (Refuted 1 1))) (replaced 4 (Doomed (run_no 1) (Refuted 1 1)) (replaced 3 (Did (run_no 1) 1 (Found 1)) undo_dies.history))) ≡ record { well_formed = true; clean = false; justified = false; isolated = true }
+  doomed_by_a_check_that_held : verdict undo_dies.window (replaced 7 (Ended (run_no 1) (Aborted (Refuted 1 1)))
+      (replaced 4 (Doomed (run_no 1) (Refuted 1 1)) (replaced 3 (Did (run_no 1) 1 (Found 1)) undo_dies.history)))
+      ≡ record { well_formed = true; clean = false; justified = false; isolated = true }
   doomed_by_another_answer : verdict undo_dies.window (replaced 3 (Did (run_no 1) 1 (Found 1)) undo_dies.history) ≡ record { well_formed = true; clean = false; justified = false; isolated = true }
   lost_without_a_failure : verdict lost_between_accesses.window (left_out 3 lost_between_accesses.history) ≡ record { well_formed = true; clean = true; justified = false; isolated = true }
   lost_before_its_first_answer : verdict lost_between_accesses.window (exchanged 2 lost_between_accesses.history) ≡ record { well_formed = true; clean = true; justified = false; isolated = true }
-  lost_after_its_last_answer : verdict failure_after_last_access.window (replaced 6 (Ended (run_no 1) (Aborted (Lost (device_no 0)))) (put_in 4 (Doomed (run_no 1) (Lost (device_no 0))) failure_after_last_access.history)) ≡ record { well_formed = true; clean = true; justified = false; isolated = true }
-  lost_where_it_sees_down : verdict sees_down_then_probe_dies.window (replaced 8 (Ended (run_no 1) (Aborted (Lost (device_no 0)))) (left_out 8 (put_in 6 (Doomed (run_no 1) (Lost (device_no 0))) sees_down_then_probe_dies.history))) ≡ record { well_formed = true; clean = true; justified = false; isolated = true }
-  revoked_at_the_deadline : verdict lease_overdue.window (replaced 6 (Ended (run_no 2) (Aborted (Revoked (run_no 1) (device_no 2) 110 110))) (replaced 5 (Doomed (run_no 2) (Revoked (run_no 1) (device_no 2) 110 110)) lease_overdue.history)) ≡ record { well_formed = true; clean = true; justified = false; isolated = true }
-  revoked_with_another_deadline : verdict lease_overdue.window (replaced 6 (Ended (run_no 2) (Aborted (Revoked (run_no 1) (device_no 2) 109 111))) (replaced 5 (Doomed (run_no 2) (Revoked (run_no 1) (device_no 2) 109 111)) lease_overdue.history)) ≡ record { well_formed = true; clean = true; justified = false; isolated = true }
+  lost_after_its_last_answer : verdict failure_after_last_access.window
+      (replaced 6 (Ended (run_no 1) (Aborted (Lost (device_no 0)))) (put_in 4 (Doomed (run_no 1) (Lost (device_no 0))) failure_after_last_access.history))
+      ≡ record { well_formed = true; clean = true; justified = false; isolated = true }
+  lost_where_it_sees_down : verdict sees_down_then_probe_dies.window (replaced 8 (Ended (run_no 1) (Aborted (Lost (device_no 0))))
+      (left_out 8 (put_in 6 (Doomed (run_no 1) (Lost (device_no 0))) sees_down_then_probe_dies.history)))
+      ≡ record { well_formed = true; clean = true; justified = false; isolated = true }
+  revoked_at_the_deadline : verdict lease_overdue.window (replaced 6 (Ended (run_no 2) (Aborted (Revoked (run_no 1) (device_no 2) 110 110)))
+      (replaced 5 (Doomed (run_no 2) (Revoked (run_no 1) (device_no 2) 110 110)) lease_overdue.history))
+      ≡ record { well_formed = true; clean = true; justified = false; isolated = true }
+  revoked_with_another_deadline : verdict lease_overdue.window (replaced 6 (Ended (run_no 2) (Aborted (Revoked (run_no 1) (device_no 2) 109 111)))
+      (replaced 5 (Doomed (run_no 2) (Revoked (run_no 1) (device_no 2) 109 111)) lease_overdue.history))
+      ≡ record { well_formed = true; clean = true; justified = false; isolated = true }
   revoked_before_the_lender_asks : verdict lease_overdue.window (exchanged 4 lease_overdue.history) ≡ record { well_formed = true; clean = true; justified = false; isolated = true }
-  down_at_end_under_eventual : verdict failure_after_last_access.window (replaced 6 (Ended (run_no 1) (Aborted (DownAtEnd (device_no 0)))) (put_in 5 (Doomed (run_no 1) (DownAtEnd (device_no 0))) failure_after_last_access.history)) ≡ record { well_formed = true; clean = true; justified = false; isolated = true }
+  down_at_end_under_eventual : verdict failure_after_last_access.window (replaced 6 (Ended (run_no 1) (Aborted (DownAtEnd (device_no 0))))
+      (put_in 5 (Doomed (run_no 1) (DownAtEnd (device_no 0))) failure_after_last_access.history))
+      ≡ record { well_formed = true; clean = true; justified = false; isolated = true }
   down_at_end_of_an_up_device : verdict down_at_end.window (replaced 8 (Ended (run_no 1) (Aborted (DownAtEnd (device_no 1)))) (replaced 5 (Doomed (run_no 1) (DownAtEnd (device_no 1))) down_at_end.history)) ≡ record { well_formed = true; clean = true; justified = false; isolated = true }
-  lost_by_a_skip : verdict failure_before_who_has_more_to_come.window (left_out 8 (left_out 11 (replaced 12 (Ended (run_no 2) (Aborted (Lost (device_no 0)))) (put_in 7 (Doomed (run_no 2) (Lost (device_no 0))) failure_before_who_has_more_to_come.history)))) ≡ record { well_formed = true; clean = true; justified = false; isolated = true }
-  revoked_by_a_skip : verdict skip_revokes_no_overdue_lease.window (left_out 12 (left_out 13 (replaced 14 (Ended (run_no 2) (Aborted (Revoked (run_no 1) (device_no 0) 320 321))) (put_in 9 (Doomed (run_no 2) (Revoked (run_no 1) (device_no 0) 320 321)) skip_revokes_no_overdue_lease.history)))) ≡ record { well_formed = true; clean = true; justified = false; isolated = true }
-  down_at_end_where_it_skipped : verdict only_who_touched_is_down_at_end.window (replaced 8 (Ended (run_no 1) (Aborted (DownAtEnd (device_no 0)))) (put_in 7 (Doomed (run_no 1) (DownAtEnd (device_no 0))) only_who_touched_is_down_at_end.history)) ≡ record { well_formed = true; clean = true; justified = false; isolated = true }
+  lost_by_a_skip : verdict failure_before_who_has_more_to_come.window (left_out 8 (left_out 11 (replaced 12 (Ended (run_no 2) (Aborted (Lost (device_no 0))))
+      (put_in 7 (Doomed (run_no 2) (Lost (device_no 0))) failure_before_who_has_more_to_come.history))))
+      ≡ record { well_formed = true; clean = true; justified = false; isolated = true }
+  revoked_by_a_skip : verdict skip_revokes_no_overdue_lease.window
+      (left_out 12 (left_out 13 (replaced 14 (Ended (run_no 2) (Aborted (Revoked (run_no 1) (device_no 0) 320 321)))
+      (put_in 9 (Doomed (run_no 2) (Revoked (run_no 1) (device_no 0) 320 321)) skip_revokes_no_overdue_lease.history))))
+      ≡ record { well_formed = true; clean = true; justified = false; isolated = true }
+  down_at_end_where_it_skipped : verdict only_who_touched_is_down_at_end.window (replaced 8 (Ended (run_no 1) (Aborted (DownAtEnd (device_no 0))))
+      (put_in 7 (Doomed (run_no 1) (DownAtEnd (device_no 0))) only_who_touched_is_down_at_end.history))
+      ≡ record { well_formed = true; clean = true; justified = false; isolated = true }
 
 are_not_justified : AreNotJustified
 unfolding split_of
-are_not_justified = record { doomed_by_best_effort = refl; doomed_by_a_check_that_held = refl; doomed_by_another_answer = refl; lost_without_a_failure = refl; lost_before_its_first_answer = refl; lost_after_its_last_answer = refl; lost_where_it_sees_down = refl; revoked_at_the_deadline = refl; revoked_with_another_deadline = refl; revoked_before_the_lender_asks = refl; down_at_end_under_eventual = refl; down_at_end_of_an_up_device = refl; lost_by_a_skip = refl; revoked_by_a_skip = refl; down_at_end_where_it_skipped = refl }
+are_not_justified = record {
+  doomed_by_best_effort = refl;
+  doomed_by_a_check_that_held = refl;
+  doomed_by_another_answer = refl;
+  lost_without_a_failure = refl;
+  lost_before_its_first_answer = refl;
+  lost_after_its_last_answer = refl;
+  lost_where_it_sees_down = refl;
+  revoked_at_the_deadline = refl;
+  revoked_with_another_deadline = refl;
+  revoked_before_the_lender_asks = refl;
+  down_at_end_under_eventual = refl;
+  down_at_end_of_an_up_device = refl;
+  lost_by_a_skip = refl;
+  revoked_by_a_skip = refl;
+  down_at_end_where_it_skipped = refl;
+}
 
 -- Runs that are not isolated under a strict model
 
 record AreNotIsolated : Type 0 where
   answered_before_the_run_before_ends : verdict four_models_psv.window (exchanged 10 four_models_psv.history) ≡ record { well_formed = true; clean = true; justified = true; isolated = false }
   committed_with_a_device_down : verdict down_at_end.window (replaced 5 (Ended (run_no 1) Committed) (left_out 6 (left_out 7 (left_out 8 down_at_end.history)))) ≡ record { well_formed = true; clean = true; justified = true; isolated = false }
-  undone_while_the_run_before_lives : verdict four_models_psv.window (replaced 13 (Ended (run_no 2) (Aborted (Refuted 0 0))) (left_out 13 (left_out 14 (put_in 12 (Undid (run_no 2) (device_no 1) true) (put_in 10 (Did (run_no 2) 0 Fine) (replaced 10 (Doomed (run_no 2) (Refuted 0 0)) four_models_psv.history)))))) ≡ record { well_formed = true; clean = true; justified = false; isolated = false }
+  undone_while_the_run_before_lives : verdict four_models_psv.window (replaced 13 (Ended (run_no 2) (Aborted (Refuted 0 0))) (left_out 13 (left_out 14 (put_in
+      12 (Undid (run_no 2) (device_no 1) true) (put_in 10 (Did (run_no 2) 0 Fine) (replaced 10 (Doomed (run_no 2) (Refuted 0 0)) four_models_psv.history))))))
+      ≡ record { well_formed = true; clean = true; justified = false; isolated = false }
   skipped_before_the_run_before_ends : verdict skip_waits_strict_gsv.window (exchanged 6 skip_waits_strict_gsv.history) ≡ record { well_formed = true; clean = true; justified = true; isolated = false }
 
 are_not_isolated : AreNotIsolated

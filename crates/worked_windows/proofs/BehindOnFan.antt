@@ -15,12 +15,46 @@ history = Arrived (run_no 1) 0 ∷ Placed (run_no 1) 0 0 ∷ Arrived (run_no 2) 
 
 abbrev pub table : Table
 table = record {
-  first = record { line = []; up = true ∷ true ∷ true ∷ true ∷ []; writers = None ∷ None ∷ None ∷ None ∷ []; values = 0 ∷ 0 ∷ 0 ∷ 18 ∷ []; holders = [] ∷ [] ∷ [] ∷ [] ∷ []; touched = [] ∷ [] ∷ [] ∷ [] ∷ []; first_places = []; places = []; overdue = []; starts = []; ends = []; whole_ends = []; choices = Absent ∷ Moves (Arrived (run_no 1) 0 ∷ []) ∷ Moves (Arrived (run_no 2) 0 ∷ []) ∷ [] };
+  first = record {
+    line = [];
+    up = true ∷ true ∷ true ∷ true ∷ [];
+    writers = None ∷ None ∷ None ∷ None ∷ [];
+    values = 0 ∷ 0 ∷ 0 ∷ 18 ∷ [];
+    holders = [] ∷ [] ∷ [] ∷ [] ∷ [];
+    touched = [] ∷ [] ∷ [] ∷ [] ∷ [];
+    first_places = [];
+    places = [];
+    overdue = [];
+    starts = [];
+    ends = [];
+    whole_ends = [];
+    choices = Absent ∷ Moves (Arrived (run_no 1) 0 ∷ []) ∷ Moves (Arrived (run_no 2) 0 ∷ []) ∷ [];
+  };
   rows = still 0 no_grips 0
       ∷ row 1 no_grips 0 (λ p. record p { first_places = 0 ∷ []; places = At (split_at [] 0) ∷ []; choices = slice_set p.choices 1 (Moves (Placed (run_no 1) 0 0 ∷ [])) })
-      ∷ row 2 no_grips 0 (λ p. record p { line = Ran (run_no 1) ∷ []; holders = (1 ∷ []) ∷ (1 ∷ []) ∷ [] ∷ [] ∷ []; first_places = []; places = []; overdue = (None ∷ None ∷ None ∷ None ∷ []) ∷ []; starts = (0 ∷ 100 ∷ []) ∷ []; ends = (100 ∷ 200 ∷ []) ∷ []; whole_ends = 200 ∷ []; choices = slice_set p.choices 1 (HandsOut 0 (Commands 0)) })
+      ∷ row 2 no_grips 0 (λ p. record p {
+        line = Ran (run_no 1) ∷ [];
+        holders = (1 ∷ []) ∷ (1 ∷ []) ∷ [] ∷ [] ∷ [];
+        first_places = [];
+        places = [];
+        overdue = (None ∷ None ∷ None ∷ None ∷ []) ∷ [];
+        starts = (0 ∷ 100 ∷ []) ∷ [];
+        ends = (100 ∷ 200 ∷ []) ∷ [];
+        whole_ends = 200 ∷ [];
+        choices = slice_set p.choices 1 (HandsOut 0 (Commands 0));
+      })
       ∷ row 3 no_grips 0 (λ p. record p { first_places = 0 ∷ []; places = At (split_at (Ran (run_no 1) ∷ []) 1) ∷ []; choices = slice_set p.choices 2 (Moves (Placed (run_no 2) 1 0 ∷ [])) })
-      ∷ row 4 no_grips 0 (λ p. record p { line = Ran (run_no 1) ∷ Ran (run_no 2) ∷ []; holders = (1 ∷ 2 ∷ []) ∷ (1 ∷ 2 ∷ []) ∷ [] ∷ [] ∷ []; first_places = []; places = []; overdue = more 0 (None ∷ None ∷ None ∷ None ∷ []) p.overdue; starts = (0 ∷ 100 ∷ []) ∷ (100 ∷ 0 ∷ []) ∷ []; ends = (100 ∷ 200 ∷ []) ∷ (200 ∷ 100 ∷ []) ∷ []; whole_ends = 200 ∷ 200 ∷ []; choices = slice_set p.choices 2 (Waits (Behind (device_no 1) (run_no 1))) })
+      ∷ row 4 no_grips 0 (λ p. record p {
+        line = Ran (run_no 1) ∷ Ran (run_no 2) ∷ [];
+        holders = (1 ∷ 2 ∷ []) ∷ (1 ∷ 2 ∷ []) ∷ [] ∷ [] ∷ [];
+        first_places = [];
+        places = [];
+        overdue = more 0 (None ∷ None ∷ None ∷ None ∷ []) p.overdue;
+        starts = (0 ∷ 100 ∷ []) ∷ (100 ∷ 0 ∷ []) ∷ [];
+        ends = (100 ∷ 200 ∷ []) ∷ (200 ∷ 100 ∷ []) ∷ [];
+        whole_ends = 200 ∷ 200 ∷ [];
+        choices = slice_set p.choices 2 (Waits (Behind (device_no 1) (run_no 1)));
+      })
       ∷ row 4 (held 0 1 (Commands 0) no_grips) 0 (λ p. record p { touched = (1 ∷ []) ∷ [] ∷ [] ∷ [] ∷ []; choices = slice_set p.choices 1 (Waits (Busy (device_no 0))) })
       ∷ row 5 no_grips 100 (λ p. record p { writers = Some 1 ∷ None ∷ None ∷ None ∷ []; values = 1 ∷ 0 ∷ 0 ∷ 18 ∷ []; holders = (2 ∷ []) ∷ (1 ∷ 2 ∷ []) ∷ [] ∷ [] ∷ []; choices = slice_set p.choices 1 (HandsOut 1 (Commands 1)) })
       ∷ row 5 (held 1 1 (Commands 1) no_grips) 100 (λ p. record p { touched = (1 ∷ []) ∷ (1 ∷ []) ∷ [] ∷ [] ∷ []; choices = slice_set p.choices 1 (Waits (Busy (device_no 1))) })
@@ -34,7 +68,11 @@ table = record {
   gives = give 4 0 1 (Commands 0) Worked (Did (run_no 1) 0 Fine ∷ []) ∷ give 5 1 1 (Commands 1) Worked (Did (run_no 1) 1 Fine ∷ [])
       ∷ give 6 1 2 (Commands 0) Worked (Did (run_no 2) 0 Fine ∷ []) ∷ give 7 0 2 (Commands 1) Worked (Did (run_no 2) 1 Fine ∷ []) ∷ [];
   calls = 2 ∷ 2 ∷ 0 ∷ 0 ∷ [];
-  outcome = record { order = Ran (run_no 1) ∷ Ran (run_no 2) ∷ []; home = record { value = 0; up = true } ∷ record { value = 0; up = true } ∷ record { value = 0; up = true } ∷ record { value = 18; up = true } ∷ []; answers = record { run = run_no 1; answers = Fine ∷ Fine ∷ [] } ∷ record { run = run_no 2; answers = Fine ∷ Fine ∷ [] } ∷ [] };
+  outcome = record {
+    order = Ran (run_no 1) ∷ Ran (run_no 2) ∷ [];
+    home = record { value = 0; up = true } ∷ record { value = 0; up = true } ∷ record { value = 0; up = true } ∷ record { value = 18; up = true } ∷ [];
+    answers = record { run = run_no 1; answers = Fine ∷ Fine ∷ [] } ∷ record { run = run_no 2; answers = Fine ∷ Fine ∷ [] } ∷ [];
+  };
 }
 
 is_worked : IsWorked window history table

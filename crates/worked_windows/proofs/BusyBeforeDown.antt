@@ -18,14 +18,48 @@ history = Arrived (run_no 1) 0 ∷ Placed (run_no 1) 0 0 ∷ Fell (device_no 0) 
 
 abbrev pub table : Table
 table = record {
-  first = record { line = []; up = true ∷ true ∷ []; writers = None ∷ None ∷ []; values = 0 ∷ 0 ∷ []; holders = [] ∷ [] ∷ []; touched = [] ∷ [] ∷ []; first_places = []; places = []; overdue = []; starts = []; ends = []; whole_ends = []; choices = Absent ∷ Moves (Arrived (run_no 1) 0 ∷ []) ∷ Moves (Arrived (run_no 2) 0 ∷ []) ∷ [] };
+  first = record {
+    line = [];
+    up = true ∷ true ∷ [];
+    writers = None ∷ None ∷ [];
+    values = 0 ∷ 0 ∷ [];
+    holders = [] ∷ [] ∷ [];
+    touched = [] ∷ [] ∷ [];
+    first_places = [];
+    places = [];
+    overdue = [];
+    starts = [];
+    ends = [];
+    whole_ends = [];
+    choices = Absent ∷ Moves (Arrived (run_no 1) 0 ∷ []) ∷ Moves (Arrived (run_no 2) 0 ∷ []) ∷ [];
+  };
   rows = still 0 no_grips 0
       ∷ row 1 no_grips 0 (λ p. record p { first_places = 0 ∷ []; places = At (split_at [] 0) ∷ []; choices = slice_set p.choices 1 (Moves (Placed (run_no 1) 0 0 ∷ [])) })
-      ∷ row 2 no_grips 0 (λ p. record p { line = Ran (run_no 1) ∷ []; holders = (1 ∷ []) ∷ (1 ∷ []) ∷ []; first_places = []; places = []; overdue = (None ∷ None ∷ []) ∷ []; starts = (0 ∷ 100 ∷ []) ∷ []; ends = (100 ∷ 200 ∷ []) ∷ []; whole_ends = 200 ∷ []; choices = slice_set p.choices 1 (HandsOut 0 (Commands 0)) })
+      ∷ row 2 no_grips 0 (λ p. record p {
+        line = Ran (run_no 1) ∷ [];
+        holders = (1 ∷ []) ∷ (1 ∷ []) ∷ [];
+        first_places = [];
+        places = [];
+        overdue = (None ∷ None ∷ []) ∷ [];
+        starts = (0 ∷ 100 ∷ []) ∷ [];
+        ends = (100 ∷ 200 ∷ []) ∷ [];
+        whole_ends = 200 ∷ [];
+        choices = slice_set p.choices 1 (HandsOut 0 (Commands 0));
+      })
       ∷ row 2 (held 0 1 (Commands 0) no_grips) 0 (λ p. record p { touched = (1 ∷ []) ∷ [] ∷ []; choices = slice_set p.choices 1 (Waits (Busy (device_no 0))) })
       ∷ row 4 no_grips 100 (λ p. record p { line = Failed (device_no 0) 1 ∷ Ran (run_no 1) ∷ []; up = false ∷ true ∷ []; holders = [] ∷ (1 ∷ []) ∷ []; choices = Absent ∷ HandsOut 1 (Commands 1) ∷ Moves (Arrived (run_no 2) 100 ∷ []) ∷ [] })
       ∷ row 5 no_grips 100 (λ p. record p { first_places = 2 ∷ []; places = At (split_at (Failed (device_no 0) 1 ∷ Ran (run_no 1) ∷ []) 2) ∷ []; choices = slice_set p.choices 2 (Moves (Placed (run_no 2) 2 100 ∷ [])) })
-      ∷ row 6 no_grips 100 (λ p. record p { line = p.line ++ Ran (run_no 2) ∷ []; holders = (2 ∷ []) ∷ (1 ∷ []) ∷ []; first_places = []; places = []; overdue = (None ∷ None ∷ []) ∷ (None ∷ None ∷ []) ∷ []; starts = (0 ∷ 100 ∷ []) ∷ (100 ∷ []) ∷ []; ends = (100 ∷ 200 ∷ []) ∷ (200 ∷ []) ∷ []; whole_ends = 200 ∷ 200 ∷ []; choices = slice_set p.choices 2 (Moves (Did (run_no 2) 0 Down ∷ Doomed (run_no 2) (MustDown 0) ∷ [])) })
+      ∷ row 6 no_grips 100 (λ p. record p {
+        line = p.line ++ Ran (run_no 2) ∷ [];
+        holders = (2 ∷ []) ∷ (1 ∷ []) ∷ [];
+        first_places = [];
+        places = [];
+        overdue = (None ∷ None ∷ []) ∷ (None ∷ None ∷ []) ∷ [];
+        starts = (0 ∷ 100 ∷ []) ∷ (100 ∷ []) ∷ [];
+        ends = (100 ∷ 200 ∷ []) ∷ (200 ∷ []) ∷ [];
+        whole_ends = 200 ∷ 200 ∷ [];
+        choices = slice_set p.choices 2 (Moves (Did (run_no 2) 0 Down ∷ Doomed (run_no 2) (MustDown 0) ∷ []));
+      })
       ∷ row 6 (held 0 0 (Probes (Some 0)) no_grips) 100 (λ p. record p { choices = slice_set p.choices 2 (Waits (Busy (device_no 0))) })
       ∷ row 7 no_grips 100 (λ p. record p { line = more 2 (Back (device_no 0) 1) p.line; up = true ∷ true ∷ []; choices = slice_set p.choices 2 (HandsOut 0 (Commands 0)) })
       ∷ row 7 (held 0 2 (Commands 0) no_grips) 100 (λ p. record p { touched = (1 ∷ 2 ∷ []) ∷ [] ∷ []; choices = slice_set p.choices 2 (Waits (Busy (device_no 0))) })
@@ -39,7 +73,11 @@ table = record {
       ∷ give 6 0 0 (Probes (Some 0)) Worked (Rose (device_no 0) ∷ []) ∷ give 7 0 2 (Commands 0) Worked (Did (run_no 2) 0 Fine ∷ [])
       ∷ give 9 1 1 (Commands 1) Worked (Did (run_no 1) 1 Fine ∷ []) ∷ give 11 1 0 (Probes None) Worked [] ∷ [];
   calls = 2 ∷ 1 ∷ [];
-  outcome = record { order = Failed (device_no 0) 1 ∷ Ran (run_no 1) ∷ Back (device_no 0) 1 ∷ Ran (run_no 2) ∷ []; home = record { value = 1; up = true } ∷ record { value = 1; up = true } ∷ []; answers = record { run = run_no 1; answers = Down ∷ Fine ∷ [] } ∷ record { run = run_no 2; answers = Fine ∷ [] } ∷ [] };
+  outcome = record {
+    order = Failed (device_no 0) 1 ∷ Ran (run_no 1) ∷ Back (device_no 0) 1 ∷ Ran (run_no 2) ∷ [];
+    home = record { value = 1; up = true } ∷ record { value = 1; up = true } ∷ [];
+    answers = record { run = run_no 1; answers = Down ∷ Fine ∷ [] } ∷ record { run = run_no 2; answers = Fine ∷ [] } ∷ [];
+  };
 }
 
 is_worked : IsWorked window history table

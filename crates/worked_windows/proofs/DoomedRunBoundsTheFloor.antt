@@ -18,14 +18,55 @@ history = Arrived (run_no 1) 0 ∷ Arrived (run_no 2) 0 ∷ Placed (run_no 1) 0 
 
 abbrev pub table : Table
 table = record {
-  first = record { line = []; up = true ∷ true ∷ []; writers = None ∷ None ∷ []; values = 0 ∷ 0 ∷ []; holders = [] ∷ [] ∷ []; touched = [] ∷ [] ∷ []; first_places = []; places = []; overdue = []; starts = []; ends = []; whole_ends = []; choices = Absent ∷ Moves (Arrived (run_no 1) 0 ∷ []) ∷ Moves (Arrived (run_no 2) 0 ∷ []) ∷ [] };
+  first = record {
+    line = [];
+    up = true ∷ true ∷ [];
+    writers = None ∷ None ∷ [];
+    values = 0 ∷ 0 ∷ [];
+    holders = [] ∷ [] ∷ [];
+    touched = [] ∷ [] ∷ [];
+    first_places = [];
+    places = [];
+    overdue = [];
+    starts = [];
+    ends = [];
+    whole_ends = [];
+    choices = Absent ∷ Moves (Arrived (run_no 1) 0 ∷ []) ∷ Moves (Arrived (run_no 2) 0 ∷ []) ∷ [];
+  };
   rows = still 0 no_grips 0
       ∷ row 1 no_grips 0 (λ p. record p { first_places = 0 ∷ []; places = At (split_at [] 0) ∷ []; choices = slice_set p.choices 1 (Moves (Placed (run_no 1) 0 0 ∷ [])) })
       ∷ row 2 no_grips 0 (λ p. record p { first_places = 0 ∷ 0 ∷ []; places = At (split_at [] 0) ∷ At (split_at [] 0) ∷ []; choices = slice_set p.choices 2 (Moves (Placed (run_no 2) 0 0 ∷ [])) })
-      ∷ row 3 no_grips 0 (λ p. record p { line = Ran (run_no 1) ∷ []; holders = (1 ∷ []) ∷ [] ∷ []; first_places = 0 ∷ []; places = At (split_at (Ran (run_no 1) ∷ []) 1) ∷ []; overdue = (None ∷ None ∷ []) ∷ []; starts = (0 ∷ []) ∷ []; ends = (100 ∷ []) ∷ []; whole_ends = 100 ∷ []; choices = Absent ∷ HandsOut 0 (Commands 0) ∷ Moves (Placed (run_no 2) 1 0 ∷ []) ∷ [] })
+      ∷ row 3 no_grips 0 (λ p. record p {
+        line = Ran (run_no 1) ∷ [];
+        holders = (1 ∷ []) ∷ [] ∷ [];
+        first_places = 0 ∷ [];
+        places = At (split_at (Ran (run_no 1) ∷ []) 1) ∷ [];
+        overdue = (None ∷ None ∷ []) ∷ [];
+        starts = (0 ∷ []) ∷ [];
+        ends = (100 ∷ []) ∷ [];
+        whole_ends = 100 ∷ [];
+        choices = Absent ∷ HandsOut 0 (Commands 0) ∷ Moves (Placed (run_no 2) 1 0 ∷ []) ∷ [];
+      })
       ∷ row 3 (held 0 1 (Commands 0) no_grips) 0 (λ p. record p { touched = (1 ∷ []) ∷ [] ∷ []; choices = slice_set p.choices 1 (Waits (Busy (device_no 0))) })
-      ∷ row 6 no_grips 100 (λ p. record p { line = Failed (device_no 0) 1 ∷ Ran (run_no 1) ∷ []; up = false ∷ true ∷ []; holders = [] ∷ [] ∷ []; first_places = 1 ∷ []; places = At (split_at (Failed (device_no 0) 1 ∷ Ran (run_no 1) ∷ []) 2) ∷ []; choices = Absent ∷ Over (Aborted (MustDown 0)) (Ended (run_no 1) (Aborted (MustDown 0)) ∷ []) ∷ Moves (Placed (run_no 2) 2 100 ∷ []) ∷ [] })
-      ∷ row 7 no_grips 100 (λ p. record p { line = p.line ++ Ran (run_no 2) ∷ []; holders = [] ∷ (2 ∷ []) ∷ []; first_places = []; places = []; overdue = (None ∷ None ∷ []) ∷ (None ∷ None ∷ []) ∷ []; starts = (0 ∷ []) ∷ (100 ∷ []) ∷ []; ends = (100 ∷ []) ∷ (200 ∷ []) ∷ []; whole_ends = 100 ∷ 200 ∷ []; choices = slice_set p.choices 2 (HandsOut 1 (Commands 0)) })
+      ∷ row 6 no_grips 100 (λ p. record p {
+        line = Failed (device_no 0) 1 ∷ Ran (run_no 1) ∷ [];
+        up = false ∷ true ∷ [];
+        holders = [] ∷ [] ∷ [];
+        first_places = 1 ∷ [];
+        places = At (split_at (Failed (device_no 0) 1 ∷ Ran (run_no 1) ∷ []) 2) ∷ [];
+        choices = Absent ∷ Over (Aborted (MustDown 0)) (Ended (run_no 1) (Aborted (MustDown 0)) ∷ []) ∷ Moves (Placed (run_no 2) 2 100 ∷ []) ∷ [];
+      })
+      ∷ row 7 no_grips 100 (λ p. record p {
+        line = p.line ++ Ran (run_no 2) ∷ [];
+        holders = [] ∷ (2 ∷ []) ∷ [];
+        first_places = [];
+        places = [];
+        overdue = (None ∷ None ∷ []) ∷ (None ∷ None ∷ []) ∷ [];
+        starts = (0 ∷ []) ∷ (100 ∷ []) ∷ [];
+        ends = (100 ∷ []) ∷ (200 ∷ []) ∷ [];
+        whole_ends = 100 ∷ 200 ∷ [];
+        choices = slice_set p.choices 2 (HandsOut 1 (Commands 0));
+      })
       ∷ row 8 no_grips 100 (λ p. record p { line = Failed (device_no 0) 1 ∷ Ran (run_no 2) ∷ []; overdue = (None ∷ None ∷ []) ∷ []; starts = (100 ∷ []) ∷ []; ends = (200 ∷ []) ∷ []; whole_ends = 200 ∷ []; choices = slice_set p.choices 1 (Over (Aborted (MustDown 0)) []) })
       ∷ row 8 (held 1 2 (Commands 0) no_grips) 100 (λ p. record p { touched = (1 ∷ []) ∷ (2 ∷ []) ∷ []; choices = slice_set p.choices 2 (Waits (Busy (device_no 1))) })
       ∷ row 10 no_grips 200 (λ p. record p { holders = [] ∷ [] ∷ []; choices = slice_set p.choices 2 (Over (Aborted (Refuted 0 0)) (Ended (run_no 2) (Aborted (Refuted 0 0)) ∷ [])) })

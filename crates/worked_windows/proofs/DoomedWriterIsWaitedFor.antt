@@ -6,7 +6,13 @@ abbrev pub window : Setting
 window = record {
   runs = record { commands = record { device = device_no 0; job = Check 1; when = Always; must = true; ms = 100; takes = 100 } ∷ []; follows = None }
       ∷ record { commands = record { device = device_no 0; job = Check 1; when = Always; must = true; ms = 100; takes = 100 } ∷ []; follows = None }
-      ∷ record { commands = record { device = device_no 0; job = Set 1; when = Always; must = true; ms = 100; takes = 100 } ∷ record { device = device_no 0; job = Check 0; when = Always; must = true; ms = 100; takes = 100 } ∷ record { device = device_no 0; job = Check 0; when = Always; must = true; ms = 100; takes = 100 } ∷ []; follows = None } ∷ [];
+      ∷ record {
+        commands =
+            record { device = device_no 0; job = Set 1; when = Always; must = true; ms = 100; takes = 100 }
+            ∷ record { device = device_no 0; job = Check 0; when = Always; must = true; ms = 100; takes = 100 }
+            ∷ record { device = device_no 0; job = Check 0; when = Always; must = true; ms = 100; takes = 100 } ∷ [];
+        follows = None;
+      } ∷ [];
   mode = record { model = Eventual; scheduler = Timeline };
   kinds = Range 0 1 ∷ [];
   first = record { value = 0; up = true } ∷ [];
@@ -20,12 +26,36 @@ history = Arrived (run_no 3) 0 ∷ Placed (run_no 3) 0 0 ∷ Arrived (run_no 2) 
 
 abbrev pub table : Table
 table = record {
-  first = record { line = []; up = true ∷ []; writers = None ∷ []; values = 0 ∷ []; holders = [] ∷ []; touched = [] ∷ []; first_places = []; places = []; overdue = []; starts = []; ends = []; whole_ends = []; choices = Absent ∷ Moves (Arrived (run_no 1) 0 ∷ []) ∷ Moves (Arrived (run_no 2) 0 ∷ []) ∷ Moves (Arrived (run_no 3) 0 ∷ []) ∷ [] };
+  first = record {
+    line = [];
+    up = true ∷ [];
+    writers = None ∷ [];
+    values = 0 ∷ [];
+    holders = [] ∷ [];
+    touched = [] ∷ [];
+    first_places = [];
+    places = [];
+    overdue = [];
+    starts = [];
+    ends = [];
+    whole_ends = [];
+    choices = Absent ∷ Moves (Arrived (run_no 1) 0 ∷ []) ∷ Moves (Arrived (run_no 2) 0 ∷ []) ∷ Moves (Arrived (run_no 3) 0 ∷ []) ∷ [];
+  };
   rows = still 0 no_grips 0
       ∷ row 1 no_grips 0 (λ p. record p { first_places = 0 ∷ []; places = At (split_at [] 0) ∷ []; choices = slice_set p.choices 3 (Moves (Placed (run_no 3) 0 0 ∷ [])) })
       ∷ row 2 no_grips 0 (λ p. record p { line = Ran (run_no 3) ∷ []; holders = (3 ∷ []) ∷ []; first_places = []; places = []; overdue = (None ∷ []) ∷ []; starts = (0 ∷ []) ∷ []; ends = (300 ∷ []) ∷ []; whole_ends = 300 ∷ []; choices = slice_set p.choices 3 (HandsOut 0 (Commands 0)) })
       ∷ row 3 no_grips 0 (λ p. record p { first_places = 0 ∷ []; places = At (split_at (Ran (run_no 3) ∷ []) 1) ∷ []; choices = slice_set p.choices 2 (Moves (Placed (run_no 2) 1 0 ∷ [])) })
-      ∷ row 4 no_grips 0 (λ p. record p { line = Ran (run_no 3) ∷ Ran (run_no 2) ∷ []; holders = (2 ∷ 3 ∷ []) ∷ []; first_places = []; places = []; overdue = (None ∷ []) ∷ (None ∷ []) ∷ []; starts = (0 ∷ []) ∷ (300 ∷ []) ∷ []; ends = (300 ∷ []) ∷ (400 ∷ []) ∷ []; whole_ends = 300 ∷ 400 ∷ []; choices = slice_set p.choices 2 (Waits (Behind (device_no 0) (run_no 3))) })
+      ∷ row 4 no_grips 0 (λ p. record p {
+        line = Ran (run_no 3) ∷ Ran (run_no 2) ∷ [];
+        holders = (2 ∷ 3 ∷ []) ∷ [];
+        first_places = [];
+        places = [];
+        overdue = (None ∷ []) ∷ (None ∷ []) ∷ [];
+        starts = (0 ∷ []) ∷ (300 ∷ []) ∷ [];
+        ends = (300 ∷ []) ∷ (400 ∷ []) ∷ [];
+        whole_ends = 300 ∷ 400 ∷ [];
+        choices = slice_set p.choices 2 (Waits (Behind (device_no 0) (run_no 3)));
+      })
       ∷ row 4 (held 0 3 (Commands 0) no_grips) 0 (λ p. record p { touched = (3 ∷ []) ∷ []; choices = slice_set p.choices 3 (Waits (Busy (device_no 0))) })
       ∷ row 5 no_grips 100 (λ p. record p { writers = Some 3 ∷ []; values = 1 ∷ []; choices = slice_set (slice_set p.choices 1 (Moves (Arrived (run_no 1) 100 ∷ []))) 3 (HandsOut 0 (Commands 1)) })
       ∷ row 5 (held 0 3 (Commands 1) no_grips) 100 (λ p. record p { choices = slice_set p.choices 3 (Waits (Busy (device_no 0))) })
@@ -35,7 +65,16 @@ table = record {
       ∷ row 9 no_grips 200 (λ p. record p { first_places = 1 ∷ []; places = At (split_at (Ran (run_no 3) ∷ Ran (run_no 2) ∷ []) 2) ∷ []; choices = slice_set p.choices 1 (Moves (Placed (run_no 1) 2 200 ∷ [])) })
       ∷ row 9 (held 0 2 (Commands 0) no_grips) 200 (λ p. record p { touched = (2 ∷ 3 ∷ []) ∷ []; first_places = 2 ∷ []; choices = slice_set p.choices 2 (Waits (Busy (device_no 0))) })
       ∷ row 11 no_grips 300 (λ p. record p { holders = [] ∷ []; choices = slice_set (slice_set p.choices 1 (Moves (Placed (run_no 1) 2 300 ∷ []))) 2 (Over (Aborted (Refuted 0 0)) (Ended (run_no 2) (Aborted (Refuted 0 0)) ∷ [])) })
-      ∷ row 12 no_grips 300 (λ p. record p { line = Ran (run_no 3) ∷ []; first_places = 1 ∷ []; places = At (split_at (Ran (run_no 3) ∷ []) 1) ∷ []; overdue = (None ∷ []) ∷ []; starts = (0 ∷ []) ∷ []; ends = (300 ∷ []) ∷ []; whole_ends = 300 ∷ []; choices = slice_set (slice_set p.choices 1 (Moves (Placed (run_no 1) 1 300 ∷ []))) 2 (Over (Aborted (Refuted 0 0)) []) })
+      ∷ row 12 no_grips 300 (λ p. record p {
+        line = Ran (run_no 3) ∷ [];
+        first_places = 1 ∷ [];
+        places = At (split_at (Ran (run_no 3) ∷ []) 1) ∷ [];
+        overdue = (None ∷ []) ∷ [];
+        starts = (0 ∷ []) ∷ [];
+        ends = (300 ∷ []) ∷ [];
+        whole_ends = 300 ∷ [];
+        choices = slice_set (slice_set p.choices 1 (Moves (Placed (run_no 1) 1 300 ∷ []))) 2 (Over (Aborted (Refuted 0 0)) []);
+      })
       ∷ row 13 no_grips 300 (λ p. record p { line = []; first_places = 0 ∷ []; places = At (split_at [] 0) ∷ []; overdue = []; starts = []; ends = []; whole_ends = []; choices = slice_set (slice_set p.choices 1 (Moves (Placed (run_no 1) 0 300 ∷ []))) 3 (Over (Aborted (Refuted 1 1)) []) })
       ∷ row 14 no_grips 300 (λ p. record p { line = Ran (run_no 1) ∷ []; holders = (1 ∷ []) ∷ []; first_places = []; places = []; overdue = (None ∷ []) ∷ []; starts = (300 ∷ []) ∷ []; ends = (400 ∷ []) ∷ []; whole_ends = 400 ∷ []; choices = slice_set p.choices 1 (HandsOut 0 (Commands 0)) })
       ∷ row 14 (held 0 1 (Commands 0) no_grips) 300 (λ p. record p { touched = (1 ∷ 2 ∷ 3 ∷ []) ∷ []; choices = slice_set p.choices 1 (Waits (Busy (device_no 0))) })

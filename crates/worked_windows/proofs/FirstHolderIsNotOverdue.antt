@@ -6,7 +6,13 @@ abbrev pub window : Setting
 window = record {
   runs = record { commands = record { device = device_no 0; job = Set 2; when = Always; must = true; ms = 100; takes = 100 } ∷ []; follows = None }
       ∷ record { commands = record { device = device_no 0; job = Set 2; when = Always; must = true; ms = 100; takes = 100 } ∷ []; follows = None }
-      ∷ record { commands = record { device = device_no 1; job = Load; when = Always; must = true; ms = 100; takes = 100 } ∷ record { device = device_no 0; job = Set 1; when = Always; must = false; ms = 100; takes = 100 } ∷ record { device = device_no 0; job = Load; when = Always; must = true; ms = 100; takes = 100 } ∷ []; follows = None } ∷ [];
+      ∷ record {
+        commands =
+            record { device = device_no 1; job = Load; when = Always; must = true; ms = 100; takes = 100 }
+            ∷ record { device = device_no 0; job = Set 1; when = Always; must = false; ms = 100; takes = 100 }
+            ∷ record { device = device_no 0; job = Load; when = Always; must = true; ms = 100; takes = 100 } ∷ [];
+        follows = None;
+      } ∷ [];
   mode = record { model = Eventual; scheduler = JustInTime };
   kinds = Range 0 3 ∷ Range 0 2 ∷ [];
   first = record { value = 0; up = true } ∷ record { value = 0; up = true } ∷ [];
@@ -20,22 +26,76 @@ history = Arrived (run_no 1) 0 ∷ Placed (run_no 1) 0 0 ∷ Arrived (run_no 2) 
 
 abbrev pub table : Table
 table = record {
-  first = record { line = []; up = true ∷ true ∷ []; writers = None ∷ None ∷ []; values = 0 ∷ 0 ∷ []; holders = [] ∷ [] ∷ []; touched = [] ∷ [] ∷ []; first_places = []; places = []; overdue = []; starts = []; ends = []; whole_ends = []; choices = Absent ∷ Moves (Arrived (run_no 1) 0 ∷ []) ∷ Moves (Arrived (run_no 2) 0 ∷ []) ∷ Moves (Arrived (run_no 3) 0 ∷ []) ∷ [] };
+  first = record {
+    line = [];
+    up = true ∷ true ∷ [];
+    writers = None ∷ None ∷ [];
+    values = 0 ∷ 0 ∷ [];
+    holders = [] ∷ [] ∷ [];
+    touched = [] ∷ [] ∷ [];
+    first_places = [];
+    places = [];
+    overdue = [];
+    starts = [];
+    ends = [];
+    whole_ends = [];
+    choices = Absent ∷ Moves (Arrived (run_no 1) 0 ∷ []) ∷ Moves (Arrived (run_no 2) 0 ∷ []) ∷ Moves (Arrived (run_no 3) 0 ∷ []) ∷ [];
+  };
   rows = still 0 no_grips 0
       ∷ row 1 no_grips 0 (λ p. record p { first_places = 0 ∷ []; places = At (split_at [] 0) ∷ []; choices = slice_set p.choices 1 (Moves (Placed (run_no 1) 0 0 ∷ [])) })
       ∷ row 2 no_grips 0 (λ p. record p { line = Ran (run_no 1) ∷ []; holders = (1 ∷ []) ∷ [] ∷ []; first_places = []; places = []; overdue = (None ∷ None ∷ []) ∷ []; starts = (0 ∷ []) ∷ []; ends = (100 ∷ []) ∷ []; whole_ends = 100 ∷ []; choices = slice_set p.choices 1 (HandsOut 0 (Commands 0)) })
       ∷ row 3 no_grips 0 (λ p. record p { first_places = 0 ∷ []; places = At (split_at (Ran (run_no 1) ∷ []) 0) ∷ []; choices = slice_set p.choices 2 (Moves (Placed (run_no 2) 0 0 ∷ [])) })
-      ∷ row 4 no_grips 0 (λ p. record p { line = Ran (run_no 2) ∷ Ran (run_no 1) ∷ []; holders = (1 ∷ 2 ∷ []) ∷ [] ∷ []; first_places = []; places = []; overdue = (None ∷ None ∷ []) ∷ (None ∷ None ∷ []) ∷ []; starts = (0 ∷ []) ∷ (0 ∷ []) ∷ []; ends = (100 ∷ []) ∷ (100 ∷ []) ∷ []; whole_ends = 100 ∷ 100 ∷ []; choices = slice_set (slice_set p.choices 1 (Waits (Behind (device_no 0) (run_no 2)))) 2 (HandsOut 0 (Commands 0)) })
+      ∷ row 4 no_grips 0 (λ p. record p {
+        line = Ran (run_no 2) ∷ Ran (run_no 1) ∷ [];
+        holders = (1 ∷ 2 ∷ []) ∷ [] ∷ [];
+        first_places = [];
+        places = [];
+        overdue = (None ∷ None ∷ []) ∷ (None ∷ None ∷ []) ∷ [];
+        starts = (0 ∷ []) ∷ (0 ∷ []) ∷ [];
+        ends = (100 ∷ []) ∷ (100 ∷ []) ∷ [];
+        whole_ends = 100 ∷ 100 ∷ [];
+        choices = slice_set (slice_set p.choices 1 (Waits (Behind (device_no 0) (run_no 2)))) 2 (HandsOut 0 (Commands 0));
+      })
       ∷ row 5 no_grips 0 (λ p. record p { first_places = 0 ∷ []; places = At (split_at (Ran (run_no 2) ∷ Ran (run_no 1) ∷ []) 0) ∷ []; choices = slice_set p.choices 3 (Moves (Placed (run_no 3) 0 0 ∷ [])) })
-      ∷ row 6 no_grips 0 (λ p. record p { line = more 0 (Ran (run_no 3)) p.line; holders = (1 ∷ 2 ∷ 3 ∷ []) ∷ (3 ∷ []) ∷ []; first_places = []; places = []; overdue = more 0 (None ∷ None ∷ []) p.overdue; starts = (100 ∷ 0 ∷ []) ∷ (0 ∷ []) ∷ (0 ∷ []) ∷ []; ends = (300 ∷ 100 ∷ []) ∷ (100 ∷ []) ∷ (100 ∷ []) ∷ []; whole_ends = 300 ∷ 100 ∷ 100 ∷ []; choices = Absent ∷ Waits (Behind (device_no 0) (run_no 3)) ∷ Waits (Behind (device_no 0) (run_no 3)) ∷ HandsOut 1 (Commands 0) ∷ [] })
+      ∷ row 6 no_grips 0 (λ p. record p {
+        line = more 0 (Ran (run_no 3)) p.line;
+        holders = (1 ∷ 2 ∷ 3 ∷ []) ∷ (3 ∷ []) ∷ [];
+        first_places = [];
+        places = [];
+        overdue = more 0 (None ∷ None ∷ []) p.overdue;
+        starts = (100 ∷ 0 ∷ []) ∷ (0 ∷ []) ∷ (0 ∷ []) ∷ [];
+        ends = (300 ∷ 100 ∷ []) ∷ (100 ∷ []) ∷ (100 ∷ []) ∷ [];
+        whole_ends = 300 ∷ 100 ∷ 100 ∷ [];
+        choices = Absent ∷ Waits (Behind (device_no 0) (run_no 3)) ∷ Waits (Behind (device_no 0) (run_no 3)) ∷ HandsOut 1 (Commands 0) ∷ [];
+      })
       ∷ row 6 (held 1 3 (Commands 0) no_grips) 0 (λ p. record p { touched = [] ∷ (3 ∷ []) ∷ []; choices = slice_set p.choices 3 (Waits (Busy (device_no 1))) })
       ∷ row 7 no_grips 100 (λ p. record p { holders = (1 ∷ 2 ∷ 3 ∷ []) ∷ [] ∷ []; choices = slice_set p.choices 3 (HandsOut 0 (Commands 1)) })
       ∷ row 7 (held 0 3 (Commands 1) no_grips) 100 (λ p. record p { touched = (3 ∷ []) ∷ (3 ∷ []) ∷ []; choices = slice_set p.choices 3 (Waits (Busy (device_no 0))) })
-      ∷ row 9 no_grips 200 (λ p. record p { line = more 0 (Failed (device_no 0) 1) p.line; up = false ∷ true ∷ []; overdue = slice_set p.overdue 2 (Some 2 ∷ None ∷ []); choices = slice_set (slice_set p.choices 1 (Moves (Doomed (run_no 2) (Revoked (run_no 1) (device_no 0) 110 200) ∷ []))) 3 (Moves (Did (run_no 3) 2 Down ∷ Doomed (run_no 3) (MustDown 2) ∷ [])) })
+      ∷ row 9 no_grips 200 (λ p. record p {
+        line = more 0 (Failed (device_no 0) 1) p.line;
+        up = false ∷ true ∷ [];
+        overdue = slice_set p.overdue 2 (Some 2 ∷ None ∷ []);
+        choices =
+            slice_set (slice_set p.choices 1 (Moves (Doomed (run_no 2) (Revoked (run_no 1) (device_no 0) 110 200) ∷ []))) 3
+            (Moves (Did (run_no 3) 2 Down ∷ Doomed (run_no 3) (MustDown 2) ∷ []));
+      })
       ∷ still 9 (held 0 0 (Probes (Some 0)) no_grips) 200
       ∷ row 11 (held 0 0 (Probes (Some 0)) no_grips) 200 (λ p. record p { holders = (1 ∷ 2 ∷ []) ∷ [] ∷ []; choices = slice_set (slice_set p.choices 2 (Waits (Busy (device_no 0)))) 3 (Over (Aborted (MustDown 2)) (Ended (run_no 3) (Aborted (MustDown 2)) ∷ [])) })
-      ∷ row 12 (held 0 0 (Probes (Some 0)) no_grips) 200 (λ p. record p { line = less 1 p.line; overdue = (None ∷ None ∷ []) ∷ (Some 2 ∷ None ∷ []) ∷ []; starts = (0 ∷ []) ∷ (0 ∷ []) ∷ []; ends = (100 ∷ []) ∷ (100 ∷ []) ∷ []; whole_ends = 100 ∷ 100 ∷ []; choices = slice_set p.choices 3 (Over (Aborted (MustDown 2)) []) })
-      ∷ row 13 (held 0 0 (Probes (Some 0)) no_grips) 200 (λ p. record p { holders = (1 ∷ []) ∷ [] ∷ []; overdue = (None ∷ None ∷ []) ∷ (None ∷ None ∷ []) ∷ []; choices = slice_set (slice_set p.choices 1 (Waits (Busy (device_no 0)))) 2 (Over (Aborted (Revoked (run_no 1) (device_no 0) 110 200)) (Ended (run_no 2) (Aborted (Revoked (run_no 1) (device_no 0) 110 200)) ∷ [])) })
+      ∷ row 12 (held 0 0 (Probes (Some 0)) no_grips) 200 (λ p. record p {
+        line = less 1 p.line;
+        overdue = (None ∷ None ∷ []) ∷ (Some 2 ∷ None ∷ []) ∷ [];
+        starts = (0 ∷ []) ∷ (0 ∷ []) ∷ [];
+        ends = (100 ∷ []) ∷ (100 ∷ []) ∷ [];
+        whole_ends = 100 ∷ 100 ∷ [];
+        choices = slice_set p.choices 3 (Over (Aborted (MustDown 2)) []);
+      })
+      ∷ row 13 (held 0 0 (Probes (Some 0)) no_grips) 200 (λ p. record p {
+        holders = (1 ∷ []) ∷ [] ∷ [];
+        overdue = (None ∷ None ∷ []) ∷ (None ∷ None ∷ []) ∷ [];
+        choices =
+            slice_set (slice_set p.choices 1 (Waits (Busy (device_no 0)))) 2
+            (Over (Aborted (Revoked (run_no 1) (device_no 0) 110 200)) (Ended (run_no 2) (Aborted (Revoked (run_no 1) (device_no 0) 110 200)) ∷ []));
+      })
       ∷ row 14 no_grips 200 (λ p. record p { line = more 2 (Back (device_no 0) 1) p.line; up = true ∷ true ∷ []; choices = slice_set p.choices 1 (HandsOut 0 (Commands 0)) })
       ∷ still 14 (held 1 0 (Probes None) no_grips) 200 ∷ still 14 no_grips 200
       ∷ row 14 (held 0 1 (Commands 0) no_grips) 200 (λ p. record p { touched = (1 ∷ 3 ∷ []) ∷ (3 ∷ []) ∷ []; choices = slice_set p.choices 1 (Waits (Busy (device_no 0))) })

@@ -16,19 +16,71 @@ history = Arrived (run_no 1) 0 ∷ Placed (run_no 1) 0 0 ∷ Did (run_no 1) 0 Fi
 
 abbrev pub table : Table
 table = record {
-  first = record { line = []; up = true ∷ true ∷ true ∷ true ∷ []; writers = None ∷ None ∷ None ∷ None ∷ []; values = 0 ∷ 0 ∷ 0 ∷ 18 ∷ []; holders = [] ∷ [] ∷ [] ∷ [] ∷ []; touched = [] ∷ [] ∷ [] ∷ [] ∷ []; first_places = []; places = []; overdue = []; starts = []; ends = []; whole_ends = []; choices = Absent ∷ Moves (Arrived (run_no 1) 0 ∷ []) ∷ Moves (Arrived (run_no 2) 0 ∷ []) ∷ Moves (Arrived (run_no 3) 0 ∷ []) ∷ [] };
+  first = record {
+    line = [];
+    up = true ∷ true ∷ true ∷ true ∷ [];
+    writers = None ∷ None ∷ None ∷ None ∷ [];
+    values = 0 ∷ 0 ∷ 0 ∷ 18 ∷ [];
+    holders = [] ∷ [] ∷ [] ∷ [] ∷ [];
+    touched = [] ∷ [] ∷ [] ∷ [] ∷ [];
+    first_places = [];
+    places = [];
+    overdue = [];
+    starts = [];
+    ends = [];
+    whole_ends = [];
+    choices = Absent ∷ Moves (Arrived (run_no 1) 0 ∷ []) ∷ Moves (Arrived (run_no 2) 0 ∷ []) ∷ Moves (Arrived (run_no 3) 0 ∷ []) ∷ [];
+  };
   rows = still 0 no_grips 0
       ∷ row 1 no_grips 0 (λ p. record p { first_places = 0 ∷ []; places = At (split_at [] 0) ∷ []; choices = slice_set p.choices 1 (Moves (Placed (run_no 1) 0 0 ∷ [])) })
-      ∷ row 2 no_grips 0 (λ p. record p { line = Ran (run_no 1) ∷ []; holders = [] ∷ (1 ∷ []) ∷ (1 ∷ []) ∷ [] ∷ []; first_places = []; places = []; overdue = (None ∷ None ∷ None ∷ None ∷ []) ∷ []; starts = (0 ∷ 100 ∷ []) ∷ []; ends = (100 ∷ 1100 ∷ []) ∷ []; whole_ends = 1100 ∷ []; choices = slice_set p.choices 1 (HandsOut 1 (Commands 0)) })
+      ∷ row 2 no_grips 0 (λ p. record p {
+        line = Ran (run_no 1) ∷ [];
+        holders = [] ∷ (1 ∷ []) ∷ (1 ∷ []) ∷ [] ∷ [];
+        first_places = [];
+        places = [];
+        overdue = (None ∷ None ∷ None ∷ None ∷ []) ∷ [];
+        starts = (0 ∷ 100 ∷ []) ∷ [];
+        ends = (100 ∷ 1100 ∷ []) ∷ [];
+        whole_ends = 1100 ∷ [];
+        choices = slice_set p.choices 1 (HandsOut 1 (Commands 0));
+      })
       ∷ row 2 (held 1 1 (Commands 0) no_grips) 0 (λ p. record p { touched = [] ∷ (1 ∷ []) ∷ [] ∷ [] ∷ []; choices = slice_set p.choices 1 (Waits (Busy (device_no 1))) })
       ∷ row 3 no_grips 100 (λ p. record p { writers = None ∷ Some 1 ∷ None ∷ None ∷ []; values = 0 ∷ 1 ∷ 0 ∷ 18 ∷ []; holders = [] ∷ [] ∷ (1 ∷ []) ∷ [] ∷ []; choices = Absent ∷ HandsOut 2 (Commands 1) ∷ Moves (Arrived (run_no 2) 100 ∷ []) ∷ Moves (Arrived (run_no 3) 100 ∷ []) ∷ [] })
       ∷ row 4 no_grips 100 (λ p. record p { first_places = 1 ∷ []; places = At (split_at (Ran (run_no 1) ∷ []) 1) ∷ []; choices = slice_set p.choices 2 (Moves (Placed (run_no 2) 1 100 ∷ [])) })
-      ∷ row 5 no_grips 100 (λ p. record p { line = Ran (run_no 1) ∷ Ran (run_no 2) ∷ []; holders = (2 ∷ []) ∷ (2 ∷ []) ∷ (1 ∷ []) ∷ [] ∷ []; first_places = []; places = []; overdue = more 0 (None ∷ None ∷ None ∷ None ∷ []) p.overdue; starts = (0 ∷ 100 ∷ []) ∷ (200 ∷ 100 ∷ []) ∷ []; ends = (100 ∷ 1100 ∷ []) ∷ (300 ∷ 200 ∷ []) ∷ []; whole_ends = 1100 ∷ 300 ∷ []; choices = slice_set p.choices 2 (Moves (Did (run_no 2) 0 Skipped ∷ [])) })
+      ∷ row 5 no_grips 100 (λ p. record p {
+        line = Ran (run_no 1) ∷ Ran (run_no 2) ∷ [];
+        holders = (2 ∷ []) ∷ (2 ∷ []) ∷ (1 ∷ []) ∷ [] ∷ [];
+        first_places = [];
+        places = [];
+        overdue = more 0 (None ∷ None ∷ None ∷ None ∷ []) p.overdue;
+        starts = (0 ∷ 100 ∷ []) ∷ (200 ∷ 100 ∷ []) ∷ [];
+        ends = (100 ∷ 1100 ∷ []) ∷ (300 ∷ 200 ∷ []) ∷ [];
+        whole_ends = 1100 ∷ 300 ∷ [];
+        choices = slice_set p.choices 2 (Moves (Did (run_no 2) 0 Skipped ∷ []));
+      })
       ∷ row 6 no_grips 100 (λ p. record p { first_places = 0 ∷ []; places = At (split_at (Ran (run_no 1) ∷ Ran (run_no 2) ∷ []) 0) ∷ []; choices = slice_set p.choices 3 (Waits (Follow (run_no 2))) })
       ∷ row 7 no_grips 100 (λ p. record p { holders = (2 ∷ []) ∷ [] ∷ (1 ∷ []) ∷ [] ∷ []; choices = slice_set p.choices 2 (Moves (Did (run_no 2) 1 Skipped ∷ [])) })
       ∷ row 8 no_grips 100 (λ p. record p { holders = [] ∷ [] ∷ (1 ∷ []) ∷ [] ∷ []; whole_ends = 1100 ∷ 0 ∷ []; choices = slice_set p.choices 2 (Over Committed (Ended (run_no 2) Committed ∷ [])) })
-      ∷ row 9 no_grips 100 (λ p. record p { first_places = 2 ∷ []; places = At (split_at (Ran (run_no 1) ∷ Ran (run_no 2) ∷ []) 2) ∷ []; overdue = (None ∷ None ∷ None ∷ None ∷ []) ∷ []; starts = (0 ∷ 100 ∷ []) ∷ []; ends = (100 ∷ 1100 ∷ []) ∷ []; whole_ends = 1100 ∷ []; choices = slice_set (slice_set p.choices 2 (Over Committed [])) 3 (Moves (Placed (run_no 3) 2 100 ∷ [])) })
-      ∷ row 10 no_grips 100 (λ p. record p { line = p.line ++ Ran (run_no 3) ∷ []; holders = (3 ∷ []) ∷ [] ∷ (1 ∷ []) ∷ [] ∷ []; first_places = []; places = []; overdue = more 0 (None ∷ None ∷ None ∷ None ∷ []) p.overdue; starts = (0 ∷ 100 ∷ []) ∷ (100 ∷ []) ∷ []; ends = (100 ∷ 1100 ∷ []) ∷ (200 ∷ []) ∷ []; whole_ends = 1100 ∷ 200 ∷ []; choices = slice_set p.choices 3 (HandsOut 0 (Commands 0)) })
+      ∷ row 9 no_grips 100 (λ p. record p {
+        first_places = 2 ∷ [];
+        places = At (split_at (Ran (run_no 1) ∷ Ran (run_no 2) ∷ []) 2) ∷ [];
+        overdue = (None ∷ None ∷ None ∷ None ∷ []) ∷ [];
+        starts = (0 ∷ 100 ∷ []) ∷ [];
+        ends = (100 ∷ 1100 ∷ []) ∷ [];
+        whole_ends = 1100 ∷ [];
+        choices = slice_set (slice_set p.choices 2 (Over Committed [])) 3 (Moves (Placed (run_no 3) 2 100 ∷ []));
+      })
+      ∷ row 10 no_grips 100 (λ p. record p {
+        line = p.line ++ Ran (run_no 3) ∷ [];
+        holders = (3 ∷ []) ∷ [] ∷ (1 ∷ []) ∷ [] ∷ [];
+        first_places = [];
+        places = [];
+        overdue = more 0 (None ∷ None ∷ None ∷ None ∷ []) p.overdue;
+        starts = (0 ∷ 100 ∷ []) ∷ (100 ∷ []) ∷ [];
+        ends = (100 ∷ 1100 ∷ []) ∷ (200 ∷ []) ∷ [];
+        whole_ends = 1100 ∷ 200 ∷ [];
+        choices = slice_set p.choices 3 (HandsOut 0 (Commands 0));
+      })
       ∷ row 10 (held 0 3 (Commands 0) no_grips) 100 (λ p. record p { touched = (3 ∷ []) ∷ (1 ∷ []) ∷ [] ∷ [] ∷ []; choices = slice_set p.choices 3 (Waits (Busy (device_no 0))) })
       ∷ row 11 no_grips 200 (λ p. record p { writers = Some 3 ∷ Some 1 ∷ None ∷ None ∷ []; values = 1 ∷ 1 ∷ 0 ∷ 18 ∷ []; holders = [] ∷ [] ∷ (1 ∷ []) ∷ [] ∷ []; choices = slice_set p.choices 3 (Over Committed (Ended (run_no 3) Committed ∷ [])) })
       ∷ row 12 no_grips 200 (λ p. record p { overdue = (None ∷ None ∷ None ∷ None ∷ []) ∷ []; starts = (0 ∷ 100 ∷ []) ∷ []; ends = (100 ∷ 1100 ∷ []) ∷ []; whole_ends = 1100 ∷ []; choices = slice_set p.choices 3 (Over Committed []) })
@@ -38,7 +90,13 @@ table = record {
   gives = give 2 1 1 (Commands 0) Worked (Did (run_no 1) 0 Fine ∷ []) ∷ give 10 0 3 (Commands 0) Worked (Did (run_no 3) 0 Fine ∷ [])
       ∷ give 12 2 1 (Commands 1) Worked (Did (run_no 1) 1 Fine ∷ []) ∷ [];
   calls = 1 ∷ 1 ∷ 1 ∷ 0 ∷ [];
-  outcome = record { order = Ran (run_no 1) ∷ Ran (run_no 2) ∷ Ran (run_no 3) ∷ []; home = record { value = 1; up = true } ∷ record { value = 1; up = true } ∷ record { value = 1; up = true } ∷ record { value = 18; up = true } ∷ []; answers = record { run = run_no 1; answers = Fine ∷ Fine ∷ [] } ∷ record { run = run_no 2; answers = Skipped ∷ Skipped ∷ [] } ∷ record { run = run_no 3; answers = Fine ∷ [] } ∷ [] };
+  outcome = record {
+    order = Ran (run_no 1) ∷ Ran (run_no 2) ∷ Ran (run_no 3) ∷ [];
+    home = record { value = 1; up = true } ∷ record { value = 1; up = true } ∷ record { value = 1; up = true } ∷ record { value = 18; up = true } ∷ [];
+    answers =
+        record { run = run_no 1; answers = Fine ∷ Fine ∷ [] } ∷ record { run = run_no 2; answers = Skipped ∷ Skipped ∷ [] }
+        ∷ record { run = run_no 3; answers = Fine ∷ [] } ∷ [];
+  };
 }
 
 is_worked : IsWorked window history table

@@ -17,17 +17,66 @@ history = Arrived (run_no 1) 0 ∷ Placed (run_no 1) 0 0 ∷ Arrived (run_no 2) 
 
 abbrev pub table : Table
 table = record {
-  first = record { line = []; up = true ∷ true ∷ true ∷ true ∷ []; writers = None ∷ None ∷ None ∷ None ∷ []; values = 0 ∷ 0 ∷ 0 ∷ 18 ∷ []; holders = [] ∷ [] ∷ [] ∷ [] ∷ []; touched = [] ∷ [] ∷ [] ∷ [] ∷ []; first_places = []; places = []; overdue = []; starts = []; ends = []; whole_ends = []; choices = Absent ∷ Moves (Arrived (run_no 1) 0 ∷ []) ∷ Moves (Arrived (run_no 2) 0 ∷ []) ∷ Moves (Arrived (run_no 3) 0 ∷ []) ∷ [] };
+  first = record {
+    line = [];
+    up = true ∷ true ∷ true ∷ true ∷ [];
+    writers = None ∷ None ∷ None ∷ None ∷ [];
+    values = 0 ∷ 0 ∷ 0 ∷ 18 ∷ [];
+    holders = [] ∷ [] ∷ [] ∷ [] ∷ [];
+    touched = [] ∷ [] ∷ [] ∷ [] ∷ [];
+    first_places = [];
+    places = [];
+    overdue = [];
+    starts = [];
+    ends = [];
+    whole_ends = [];
+    choices = Absent ∷ Moves (Arrived (run_no 1) 0 ∷ []) ∷ Moves (Arrived (run_no 2) 0 ∷ []) ∷ Moves (Arrived (run_no 3) 0 ∷ []) ∷ [];
+  };
   rows = still 0 no_grips 0
       ∷ row 1 no_grips 0 (λ p. record p { first_places = 0 ∷ []; places = At (split_at [] 0) ∷ []; choices = slice_set p.choices 1 (Moves (Placed (run_no 1) 0 0 ∷ [])) })
-      ∷ row 2 no_grips 0 (λ p. record p { line = Ran (run_no 1) ∷ []; holders = [] ∷ [] ∷ [] ∷ (1 ∷ []) ∷ []; first_places = []; places = []; overdue = (None ∷ None ∷ None ∷ None ∷ []) ∷ []; starts = (0 ∷ []) ∷ []; ends = (100 ∷ []) ∷ []; whole_ends = 100 ∷ []; choices = slice_set p.choices 1 (HandsOut 3 (Commands 0)) })
+      ∷ row 2 no_grips 0 (λ p. record p {
+        line = Ran (run_no 1) ∷ [];
+        holders = [] ∷ [] ∷ [] ∷ (1 ∷ []) ∷ [];
+        first_places = [];
+        places = [];
+        overdue = (None ∷ None ∷ None ∷ None ∷ []) ∷ [];
+        starts = (0 ∷ []) ∷ [];
+        ends = (100 ∷ []) ∷ [];
+        whole_ends = 100 ∷ [];
+        choices = slice_set p.choices 1 (HandsOut 3 (Commands 0));
+      })
       ∷ row 3 no_grips 0 (λ p. record p { first_places = 0 ∷ []; places = At (split_at (Ran (run_no 1) ∷ []) 0) ∷ []; choices = slice_set p.choices 2 (Moves (Placed (run_no 2) 0 0 ∷ [])) })
-      ∷ row 4 no_grips 0 (λ p. record p { line = Ran (run_no 2) ∷ Ran (run_no 1) ∷ []; holders = (2 ∷ []) ∷ [] ∷ (2 ∷ []) ∷ (1 ∷ []) ∷ []; first_places = []; places = []; overdue = more 0 (None ∷ None ∷ None ∷ None ∷ []) p.overdue; starts = (0 ∷ 500 ∷ []) ∷ (0 ∷ []) ∷ []; ends = (500 ∷ 600 ∷ []) ∷ (100 ∷ []) ∷ []; whole_ends = 600 ∷ 100 ∷ []; choices = slice_set p.choices 2 (HandsOut 0 (Commands 0)) })
+      ∷ row 4 no_grips 0 (λ p. record p {
+        line = Ran (run_no 2) ∷ Ran (run_no 1) ∷ [];
+        holders = (2 ∷ []) ∷ [] ∷ (2 ∷ []) ∷ (1 ∷ []) ∷ [];
+        first_places = [];
+        places = [];
+        overdue = more 0 (None ∷ None ∷ None ∷ None ∷ []) p.overdue;
+        starts = (0 ∷ 500 ∷ []) ∷ (0 ∷ []) ∷ [];
+        ends = (500 ∷ 600 ∷ []) ∷ (100 ∷ []) ∷ [];
+        whole_ends = 600 ∷ 100 ∷ [];
+        choices = slice_set p.choices 2 (HandsOut 0 (Commands 0));
+      })
       ∷ row 4 (held 3 1 (Commands 0) no_grips) 0 (λ p. record p { touched = [] ∷ [] ∷ [] ∷ (1 ∷ []) ∷ []; choices = slice_set p.choices 1 (Waits (Busy (device_no 3))) })
-      ∷ row 5 no_grips 100 (λ p. record p { writers = None ∷ None ∷ None ∷ Some 1 ∷ []; values = 0 ∷ 0 ∷ 0 ∷ 20 ∷ []; holders = (2 ∷ []) ∷ [] ∷ (2 ∷ []) ∷ [] ∷ []; choices = Absent ∷ Over Committed (Ended (run_no 1) Committed ∷ []) ∷ HandsOut 0 (Commands 0) ∷ Moves (Arrived (run_no 3) 100 ∷ []) ∷ [] })
+      ∷ row 5 no_grips 100 (λ p. record p {
+        writers = None ∷ None ∷ None ∷ Some 1 ∷ [];
+        values = 0 ∷ 0 ∷ 0 ∷ 20 ∷ [];
+        holders = (2 ∷ []) ∷ [] ∷ (2 ∷ []) ∷ [] ∷ [];
+        choices = Absent ∷ Over Committed (Ended (run_no 1) Committed ∷ []) ∷ HandsOut 0 (Commands 0) ∷ Moves (Arrived (run_no 3) 100 ∷ []) ∷ [];
+      })
       ∷ row 6 no_grips 100 (λ p. record p { overdue = less 0 p.overdue; starts = (0 ∷ 500 ∷ []) ∷ []; ends = (500 ∷ 600 ∷ []) ∷ []; whole_ends = 600 ∷ []; choices = slice_set p.choices 1 (Over Committed []) })
       ∷ row 7 no_grips 100 (λ p. record p { first_places = 2 ∷ []; places = At (record { front = Ran (run_no 1) ∷ []; back = Ran (run_no 2) ∷ [] }) ∷ []; choices = slice_set p.choices 3 (Moves (Placed (run_no 3) 1 100 ∷ [])) })
-      ∷ row 8 no_grips 100 (λ p. record p { line = Ran (run_no 1) ∷ Ran (run_no 3) ∷ Ran (run_no 2) ∷ []; holders = (2 ∷ []) ∷ [] ∷ (2 ∷ 3 ∷ []) ∷ (3 ∷ []) ∷ []; first_places = []; places = []; overdue = more 0 (None ∷ None ∷ None ∷ None ∷ []) p.overdue; starts = (200 ∷ 100 ∷ []) ∷ (0 ∷ 500 ∷ []) ∷ []; ends = (300 ∷ 200 ∷ []) ∷ (500 ∷ 600 ∷ []) ∷ []; whole_ends = 300 ∷ 600 ∷ []; choices = slice_set p.choices 3 (HandsOut 3 (Commands 0)) })
+      ∷ row 8 no_grips 100 (λ p. record p {
+        line = Ran (run_no 1) ∷ Ran (run_no 3) ∷ Ran (run_no 2) ∷ [];
+        holders = (2 ∷ []) ∷ [] ∷ (2 ∷ 3 ∷ []) ∷ (3 ∷ []) ∷ [];
+        first_places = [];
+        places = [];
+        overdue = more 0 (None ∷ None ∷ None ∷ None ∷ []) p.overdue;
+        starts = (200 ∷ 100 ∷ []) ∷ (0 ∷ 500 ∷ []) ∷ [];
+        ends = (300 ∷ 200 ∷ []) ∷ (500 ∷ 600 ∷ []) ∷ [];
+        whole_ends = 300 ∷ 600 ∷ [];
+        choices = slice_set p.choices 3 (HandsOut 3 (Commands 0));
+      })
       ∷ row 8 (held 3 3 (Commands 0) no_grips) 100 (λ p. record p { touched = [] ∷ [] ∷ [] ∷ (1 ∷ 3 ∷ []) ∷ []; choices = slice_set p.choices 3 (Waits (Busy (device_no 3))) })
       ∷ row 9 no_grips 200 (λ p. record p { writers = None ∷ None ∷ None ∷ Some 3 ∷ []; values = 0 ∷ 0 ∷ 0 ∷ 25 ∷ []; holders = slice_set p.holders 3 []; choices = slice_set p.choices 3 (HandsOut 2 (Commands 1)) })
       ∷ row 9 (held 2 3 (Commands 1) no_grips) 200 (λ p. record p { touched = [] ∷ [] ∷ (3 ∷ []) ∷ (1 ∷ 3 ∷ []) ∷ []; choices = slice_set p.choices 3 (Waits (Busy (device_no 2))) })
@@ -42,7 +91,13 @@ table = record {
       ∷ give 9 2 3 (Commands 1) Worked (Did (run_no 3) 1 Fine ∷ []) ∷ give 11 0 2 (Commands 0) Worked (Did (run_no 2) 0 Fine ∷ [])
       ∷ give 12 2 2 (Commands 1) Worked (Did (run_no 2) 1 Fine ∷ []) ∷ [];
   calls = 1 ∷ 0 ∷ 2 ∷ 2 ∷ [];
-  outcome = record { order = Ran (run_no 1) ∷ Ran (run_no 3) ∷ Ran (run_no 2) ∷ []; home = record { value = 1; up = true } ∷ record { value = 0; up = true } ∷ record { value = 1; up = true } ∷ record { value = 25; up = true } ∷ []; answers = record { run = run_no 1; answers = Fine ∷ [] } ∷ record { run = run_no 3; answers = Fine ∷ Fine ∷ [] } ∷ record { run = run_no 2; answers = Fine ∷ Fine ∷ [] } ∷ [] };
+  outcome = record {
+    order = Ran (run_no 1) ∷ Ran (run_no 3) ∷ Ran (run_no 2) ∷ [];
+    home = record { value = 1; up = true } ∷ record { value = 0; up = true } ∷ record { value = 1; up = true } ∷ record { value = 25; up = true } ∷ [];
+    answers =
+        record { run = run_no 1; answers = Fine ∷ [] } ∷ record { run = run_no 3; answers = Fine ∷ Fine ∷ [] }
+        ∷ record { run = run_no 2; answers = Fine ∷ Fine ∷ [] } ∷ [];
+  };
 }
 
 is_worked : IsWorked window history table

@@ -3,8 +3,23 @@ use Rattle.worked_windows.proofs.Words.{Absent, Always, Arrived, At, Behind, Bel
 
 abbrev pub window : Setting
 window = record home_of_four {
-  runs = record { commands = record { device = device_no 3; job = Load; when = Always; must = true; ms = 100; takes = 100 } ∷ record { device = device_no 0; job = Set 1; when = Below 18; must = true; ms = 100; takes = 100 } ∷ record { device = device_no 0; job = Set 1; when = Is 17; must = true; ms = 100; takes = 100 } ∷ record { device = device_no 1; job = Set 1; when = Below 19; must = true; ms = 100; takes = 100 } ∷ record { device = device_no 2; job = Set 1; when = Is 18; must = true; ms = 100; takes = 100 } ∷ []; follows = None }
-      ∷ record { commands = record { device = device_no 0; job = Set 1; when = Is 18; must = true; ms = 100; takes = 100 } ∷ record { device = device_no 1; job = Set 0; when = Is 0; must = true; ms = 100; takes = 100 } ∷ record { device = device_no 3; job = Set 20; when = Below 0; must = true; ms = 100; takes = 100 } ∷ record { device = device_no 2; job = Set 0; when = Below 1; must = true; ms = 100; takes = 100 } ∷ []; follows = None } ∷ [];
+  runs = record {
+    commands =
+        record { device = device_no 3; job = Load; when = Always; must = true; ms = 100; takes = 100 }
+        ∷ record { device = device_no 0; job = Set 1; when = Below 18; must = true; ms = 100; takes = 100 }
+        ∷ record { device = device_no 0; job = Set 1; when = Is 17; must = true; ms = 100; takes = 100 }
+        ∷ record { device = device_no 1; job = Set 1; when = Below 19; must = true; ms = 100; takes = 100 }
+        ∷ record { device = device_no 2; job = Set 1; when = Is 18; must = true; ms = 100; takes = 100 } ∷ [];
+    follows = None;
+  }
+      ∷ record {
+        commands =
+            record { device = device_no 0; job = Set 1; when = Is 18; must = true; ms = 100; takes = 100 }
+            ∷ record { device = device_no 1; job = Set 0; when = Is 0; must = true; ms = 100; takes = 100 }
+            ∷ record { device = device_no 3; job = Set 20; when = Below 0; must = true; ms = 100; takes = 100 }
+            ∷ record { device = device_no 2; job = Set 0; when = Below 1; must = true; ms = 100; takes = 100 } ∷ [];
+        follows = None;
+      } ∷ [];
   mode = record { model = Eventual; scheduler = Fcfs };
 }
 
@@ -15,12 +30,46 @@ history = Arrived (run_no 1) 0 ∷ Placed (run_no 1) 0 0 ∷ Arrived (run_no 2) 
 
 abbrev pub table : Table
 table = record {
-  first = record { line = []; up = true ∷ true ∷ true ∷ true ∷ []; writers = None ∷ None ∷ None ∷ None ∷ []; values = 0 ∷ 0 ∷ 0 ∷ 18 ∷ []; holders = [] ∷ [] ∷ [] ∷ [] ∷ []; touched = [] ∷ [] ∷ [] ∷ [] ∷ []; first_places = []; places = []; overdue = []; starts = []; ends = []; whole_ends = []; choices = Absent ∷ Moves (Arrived (run_no 1) 0 ∷ []) ∷ Moves (Arrived (run_no 2) 0 ∷ []) ∷ [] };
+  first = record {
+    line = [];
+    up = true ∷ true ∷ true ∷ true ∷ [];
+    writers = None ∷ None ∷ None ∷ None ∷ [];
+    values = 0 ∷ 0 ∷ 0 ∷ 18 ∷ [];
+    holders = [] ∷ [] ∷ [] ∷ [] ∷ [];
+    touched = [] ∷ [] ∷ [] ∷ [] ∷ [];
+    first_places = [];
+    places = [];
+    overdue = [];
+    starts = [];
+    ends = [];
+    whole_ends = [];
+    choices = Absent ∷ Moves (Arrived (run_no 1) 0 ∷ []) ∷ Moves (Arrived (run_no 2) 0 ∷ []) ∷ [];
+  };
   rows = still 0 no_grips 0
       ∷ row 1 no_grips 0 (λ p. record p { first_places = 0 ∷ []; places = At (split_at [] 0) ∷ []; choices = slice_set p.choices 1 (Moves (Placed (run_no 1) 0 0 ∷ [])) })
-      ∷ row 2 no_grips 0 (λ p. record p { line = Ran (run_no 1) ∷ []; holders = (1 ∷ []) ∷ (1 ∷ []) ∷ (1 ∷ []) ∷ (1 ∷ []) ∷ []; first_places = []; places = []; overdue = (None ∷ None ∷ None ∷ None ∷ []) ∷ []; starts = (100 ∷ 300 ∷ 400 ∷ 0 ∷ []) ∷ []; ends = (300 ∷ 400 ∷ 500 ∷ 100 ∷ []) ∷ []; whole_ends = 500 ∷ []; choices = slice_set p.choices 1 (HandsOut 3 (Commands 0)) })
+      ∷ row 2 no_grips 0 (λ p. record p {
+        line = Ran (run_no 1) ∷ [];
+        holders = (1 ∷ []) ∷ (1 ∷ []) ∷ (1 ∷ []) ∷ (1 ∷ []) ∷ [];
+        first_places = [];
+        places = [];
+        overdue = (None ∷ None ∷ None ∷ None ∷ []) ∷ [];
+        starts = (100 ∷ 300 ∷ 400 ∷ 0 ∷ []) ∷ [];
+        ends = (300 ∷ 400 ∷ 500 ∷ 100 ∷ []) ∷ [];
+        whole_ends = 500 ∷ [];
+        choices = slice_set p.choices 1 (HandsOut 3 (Commands 0));
+      })
       ∷ row 3 no_grips 0 (λ p. record p { first_places = 0 ∷ []; places = At (split_at (Ran (run_no 1) ∷ []) 1) ∷ []; choices = slice_set p.choices 2 (Moves (Placed (run_no 2) 1 0 ∷ [])) })
-      ∷ row 4 no_grips 0 (λ p. record p { line = Ran (run_no 1) ∷ Ran (run_no 2) ∷ []; holders = (1 ∷ 2 ∷ []) ∷ (1 ∷ 2 ∷ []) ∷ (1 ∷ 2 ∷ []) ∷ (1 ∷ 2 ∷ []) ∷ []; first_places = []; places = []; overdue = more 0 (None ∷ None ∷ None ∷ None ∷ []) p.overdue; starts = more 1 (0 ∷ 100 ∷ 300 ∷ 200 ∷ []) p.starts; ends = more 1 (100 ∷ 200 ∷ 400 ∷ 300 ∷ []) p.ends; whole_ends = 500 ∷ 400 ∷ []; choices = slice_set p.choices 2 (Moves (Did (run_no 2) 0 Skipped ∷ [])) })
+      ∷ row 4 no_grips 0 (λ p. record p {
+        line = Ran (run_no 1) ∷ Ran (run_no 2) ∷ [];
+        holders = (1 ∷ 2 ∷ []) ∷ (1 ∷ 2 ∷ []) ∷ (1 ∷ 2 ∷ []) ∷ (1 ∷ 2 ∷ []) ∷ [];
+        first_places = [];
+        places = [];
+        overdue = more 0 (None ∷ None ∷ None ∷ None ∷ []) p.overdue;
+        starts = more 1 (0 ∷ 100 ∷ 300 ∷ 200 ∷ []) p.starts;
+        ends = more 1 (100 ∷ 200 ∷ 400 ∷ 300 ∷ []) p.ends;
+        whole_ends = 500 ∷ 400 ∷ [];
+        choices = slice_set p.choices 2 (Moves (Did (run_no 2) 0 Skipped ∷ []));
+      })
       ∷ row 4 (held 3 1 (Commands 0) no_grips) 0 (λ p. record p { touched = [] ∷ [] ∷ [] ∷ (1 ∷ []) ∷ []; choices = slice_set p.choices 1 (Waits (Busy (device_no 3))) })
       ∷ row 5 no_grips 100 (λ p. record p { holders = slice_set p.holders 3 (2 ∷ []); choices = slice_set p.choices 1 (Moves (Did (run_no 1) 1 Skipped ∷ [])) })
       ∷ row 6 no_grips 100 (λ p. record p { holders = slice_set p.holders 0 (1 ∷ []); choices = slice_set p.choices 2 (Waits (Behind (device_no 1) (run_no 1))) })
@@ -41,7 +90,13 @@ table = record {
       ∷ give 8 1 1 (Commands 3) Worked (Did (run_no 1) 3 Fine ∷ []) ∷ give 9 1 2 (Commands 1) Worked (Did (run_no 2) 1 Fine ∷ [])
       ∷ give 10 2 1 (Commands 4) Worked (Did (run_no 1) 4 Fine ∷ []) ∷ give 13 2 2 (Commands 3) Worked (Did (run_no 2) 3 Fine ∷ []) ∷ [];
   calls = 0 ∷ 2 ∷ 2 ∷ 1 ∷ [];
-  outcome = record { order = Ran (run_no 1) ∷ Ran (run_no 2) ∷ []; home = record { value = 0; up = true } ∷ record { value = 0; up = true } ∷ record { value = 0; up = true } ∷ record { value = 18; up = true } ∷ []; answers = record { run = run_no 1; answers = (Found 18) ∷ Skipped ∷ Skipped ∷ Fine ∷ Fine ∷ [] } ∷ record { run = run_no 2; answers = Skipped ∷ Fine ∷ Skipped ∷ Fine ∷ [] } ∷ [] };
+  outcome = record {
+    order = Ran (run_no 1) ∷ Ran (run_no 2) ∷ [];
+    home = record { value = 0; up = true } ∷ record { value = 0; up = true } ∷ record { value = 0; up = true } ∷ record { value = 18; up = true } ∷ [];
+    answers =
+        record { run = run_no 1; answers = (Found 18) ∷ Skipped ∷ Skipped ∷ Fine ∷ Fine ∷ [] }
+        ∷ record { run = run_no 2; answers = Skipped ∷ Fine ∷ Skipped ∷ Fine ∷ [] } ∷ [];
+  };
 }
 
 is_worked : IsWorked window history table

@@ -14,14 +14,48 @@ history = Arrived (run_no 1) 0 ∷ Placed (run_no 1) 0 0 ∷ Did (run_no 1) 0 Fi
 
 abbrev pub table : Table
 table = record {
-  first = record { line = []; up = true ∷ true ∷ true ∷ true ∷ []; writers = None ∷ None ∷ None ∷ None ∷ []; values = 0 ∷ 0 ∷ 0 ∷ 18 ∷ []; holders = [] ∷ [] ∷ [] ∷ [] ∷ []; touched = [] ∷ [] ∷ [] ∷ [] ∷ []; first_places = []; places = []; overdue = []; starts = []; ends = []; whole_ends = []; choices = Absent ∷ Moves (Arrived (run_no 1) 0 ∷ []) ∷ Moves (Arrived (run_no 2) 0 ∷ []) ∷ [] };
+  first = record {
+    line = [];
+    up = true ∷ true ∷ true ∷ true ∷ [];
+    writers = None ∷ None ∷ None ∷ None ∷ [];
+    values = 0 ∷ 0 ∷ 0 ∷ 18 ∷ [];
+    holders = [] ∷ [] ∷ [] ∷ [] ∷ [];
+    touched = [] ∷ [] ∷ [] ∷ [] ∷ [];
+    first_places = [];
+    places = [];
+    overdue = [];
+    starts = [];
+    ends = [];
+    whole_ends = [];
+    choices = Absent ∷ Moves (Arrived (run_no 1) 0 ∷ []) ∷ Moves (Arrived (run_no 2) 0 ∷ []) ∷ [];
+  };
   rows = still 0 no_grips 0
       ∷ row 1 no_grips 0 (λ p. record p { first_places = 0 ∷ []; places = At (split_at [] 0) ∷ []; choices = slice_set p.choices 1 (Moves (Placed (run_no 1) 0 0 ∷ [])) })
-      ∷ row 2 no_grips 0 (λ p. record p { line = Ran (run_no 1) ∷ []; holders = (1 ∷ []) ∷ (1 ∷ []) ∷ [] ∷ [] ∷ []; first_places = []; places = []; overdue = (None ∷ None ∷ None ∷ None ∷ []) ∷ []; starts = (100 ∷ 0 ∷ []) ∷ []; ends = (200 ∷ 100 ∷ []) ∷ []; whole_ends = 200 ∷ []; choices = slice_set p.choices 1 (HandsOut 1 (Commands 0)) })
+      ∷ row 2 no_grips 0 (λ p. record p {
+        line = Ran (run_no 1) ∷ [];
+        holders = (1 ∷ []) ∷ (1 ∷ []) ∷ [] ∷ [] ∷ [];
+        first_places = [];
+        places = [];
+        overdue = (None ∷ None ∷ None ∷ None ∷ []) ∷ [];
+        starts = (100 ∷ 0 ∷ []) ∷ [];
+        ends = (200 ∷ 100 ∷ []) ∷ [];
+        whole_ends = 200 ∷ [];
+        choices = slice_set p.choices 1 (HandsOut 1 (Commands 0));
+      })
       ∷ row 2 (held 1 1 (Commands 0) no_grips) 0 (λ p. record p { touched = [] ∷ (1 ∷ []) ∷ [] ∷ [] ∷ []; choices = slice_set p.choices 1 (Waits (Busy (device_no 1))) })
       ∷ row 3 no_grips 100 (λ p. record p { writers = None ∷ Some 1 ∷ None ∷ None ∷ []; values = 0 ∷ 1 ∷ 0 ∷ 18 ∷ []; holders = (1 ∷ []) ∷ [] ∷ [] ∷ [] ∷ []; choices = Absent ∷ HandsOut 0 (Commands 1) ∷ Moves (Arrived (run_no 2) 100 ∷ []) ∷ [] })
       ∷ row 4 no_grips 100 (λ p. record p { first_places = 0 ∷ []; places = At (split_at (Ran (run_no 1) ∷ []) 0) ∷ []; choices = slice_set p.choices 2 (Moves (Placed (run_no 2) 0 100 ∷ [])) })
-      ∷ row 5 no_grips 100 (λ p. record p { line = Ran (run_no 2) ∷ Ran (run_no 1) ∷ []; holders = (1 ∷ 2 ∷ []) ∷ [] ∷ (2 ∷ []) ∷ [] ∷ []; first_places = []; places = []; overdue = more 0 (None ∷ None ∷ None ∷ None ∷ []) p.overdue; starts = (100 ∷ 200 ∷ []) ∷ (100 ∷ 0 ∷ []) ∷ []; ends = (200 ∷ 300 ∷ []) ∷ (200 ∷ 100 ∷ []) ∷ []; whole_ends = 300 ∷ 200 ∷ []; choices = Absent ∷ Waits (Behind (device_no 0) (run_no 2)) ∷ Moves (Did (run_no 2) 0 Skipped ∷ []) ∷ [] })
+      ∷ row 5 no_grips 100 (λ p. record p {
+        line = Ran (run_no 2) ∷ Ran (run_no 1) ∷ [];
+        holders = (1 ∷ 2 ∷ []) ∷ [] ∷ (2 ∷ []) ∷ [] ∷ [];
+        first_places = [];
+        places = [];
+        overdue = more 0 (None ∷ None ∷ None ∷ None ∷ []) p.overdue;
+        starts = (100 ∷ 200 ∷ []) ∷ (100 ∷ 0 ∷ []) ∷ [];
+        ends = (200 ∷ 300 ∷ []) ∷ (200 ∷ 100 ∷ []) ∷ [];
+        whole_ends = 300 ∷ 200 ∷ [];
+        choices = Absent ∷ Waits (Behind (device_no 0) (run_no 2)) ∷ Moves (Did (run_no 2) 0 Skipped ∷ []) ∷ [];
+      })
       ∷ row 6 no_grips 100 (λ p. record p { holders = (1 ∷ []) ∷ [] ∷ (2 ∷ []) ∷ [] ∷ []; choices = Absent ∷ HandsOut 0 (Commands 1) ∷ HandsOut 2 (Commands 1) ∷ [] })
       ∷ row 6 (held 2 2 (Commands 1) no_grips) 100 (λ p. record p { touched = [] ∷ (1 ∷ []) ∷ (2 ∷ []) ∷ [] ∷ []; choices = slice_set p.choices 2 (Waits (Busy (device_no 2))) })
       ∷ row 7 no_grips 300 (λ p. record p { writers = None ∷ Some 1 ∷ Some 2 ∷ None ∷ []; values = 0 ∷ 1 ∷ 1 ∷ 18 ∷ []; holders = (1 ∷ []) ∷ [] ∷ [] ∷ [] ∷ []; choices = slice_set p.choices 2 (Over Committed (Ended (run_no 2) Committed ∷ [])) })
@@ -32,7 +66,11 @@ table = record {
   gives = give 2 1 1 (Commands 0) Worked (Did (run_no 1) 0 Fine ∷ []) ∷ give 6 2 2 (Commands 1) Worked (Did (run_no 2) 1 Fine ∷ [])
       ∷ give 7 0 1 (Commands 1) Worked (Did (run_no 1) 1 Fine ∷ []) ∷ [];
   calls = 1 ∷ 1 ∷ 1 ∷ 0 ∷ [];
-  outcome = record { order = Ran (run_no 2) ∷ Ran (run_no 1) ∷ []; home = record { value = 1; up = true } ∷ record { value = 1; up = true } ∷ record { value = 1; up = true } ∷ record { value = 18; up = true } ∷ []; answers = record { run = run_no 2; answers = Skipped ∷ Fine ∷ [] } ∷ record { run = run_no 1; answers = Fine ∷ Fine ∷ [] } ∷ [] };
+  outcome = record {
+    order = Ran (run_no 2) ∷ Ran (run_no 1) ∷ [];
+    home = record { value = 1; up = true } ∷ record { value = 1; up = true } ∷ record { value = 1; up = true } ∷ record { value = 18; up = true } ∷ [];
+    answers = record { run = run_no 2; answers = Skipped ∷ Fine ∷ [] } ∷ record { run = run_no 1; answers = Fine ∷ Fine ∷ [] } ∷ [];
+  };
 }
 
 is_worked : IsWorked window history table

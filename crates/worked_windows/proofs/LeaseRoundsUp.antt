@@ -17,15 +17,61 @@ history = Arrived (run_no 1) 0 ∷ Placed (run_no 1) 0 0 ∷ Arrived (run_no 2) 
 
 abbrev pub table : Table
 table = record {
-  first = record { line = []; up = true ∷ true ∷ true ∷ []; writers = None ∷ None ∷ None ∷ []; values = 0 ∷ 0 ∷ 0 ∷ []; holders = [] ∷ [] ∷ [] ∷ []; touched = [] ∷ [] ∷ [] ∷ []; first_places = []; places = []; overdue = []; starts = []; ends = []; whole_ends = []; choices = Absent ∷ Moves (Arrived (run_no 1) 0 ∷ []) ∷ Moves (Arrived (run_no 2) 0 ∷ []) ∷ [] };
+  first = record {
+    line = [];
+    up = true ∷ true ∷ true ∷ [];
+    writers = None ∷ None ∷ None ∷ [];
+    values = 0 ∷ 0 ∷ 0 ∷ [];
+    holders = [] ∷ [] ∷ [] ∷ [];
+    touched = [] ∷ [] ∷ [] ∷ [];
+    first_places = [];
+    places = [];
+    overdue = [];
+    starts = [];
+    ends = [];
+    whole_ends = [];
+    choices = Absent ∷ Moves (Arrived (run_no 1) 0 ∷ []) ∷ Moves (Arrived (run_no 2) 0 ∷ []) ∷ [];
+  };
   rows = still 0 no_grips 0
       ∷ row 1 no_grips 0 (λ p. record p { first_places = 0 ∷ []; places = At (split_at [] 0) ∷ []; choices = slice_set p.choices 1 (Moves (Placed (run_no 1) 0 0 ∷ [])) })
-      ∷ row 2 no_grips 0 (λ p. record p { line = Ran (run_no 1) ∷ []; holders = (1 ∷ []) ∷ (1 ∷ []) ∷ [] ∷ []; first_places = []; places = []; overdue = (None ∷ None ∷ None ∷ []) ∷ []; starts = (0 ∷ 100 ∷ []) ∷ []; ends = (100 ∷ 200 ∷ []) ∷ []; whole_ends = 200 ∷ []; choices = slice_set p.choices 1 (HandsOut 0 (Commands 0)) })
+      ∷ row 2 no_grips 0 (λ p. record p {
+        line = Ran (run_no 1) ∷ [];
+        holders = (1 ∷ []) ∷ (1 ∷ []) ∷ [] ∷ [];
+        first_places = [];
+        places = [];
+        overdue = (None ∷ None ∷ None ∷ []) ∷ [];
+        starts = (0 ∷ 100 ∷ []) ∷ [];
+        ends = (100 ∷ 200 ∷ []) ∷ [];
+        whole_ends = 200 ∷ [];
+        choices = slice_set p.choices 1 (HandsOut 0 (Commands 0));
+      })
       ∷ row 3 no_grips 0 (λ p. record p { first_places = 0 ∷ []; places = At (split_at (Ran (run_no 1) ∷ []) 0) ∷ []; choices = slice_set p.choices 2 (Moves (Placed (run_no 2) 0 0 ∷ [])) })
-      ∷ row 4 no_grips 0 (λ p. record p { line = Ran (run_no 2) ∷ Ran (run_no 1) ∷ []; holders = (1 ∷ []) ∷ (1 ∷ 2 ∷ []) ∷ (2 ∷ []) ∷ []; first_places = []; places = []; overdue = more 0 (None ∷ None ∷ None ∷ []) p.overdue; starts = (0 ∷ 105 ∷ []) ∷ (0 ∷ 100 ∷ []) ∷ []; ends = (105 ∷ 605 ∷ []) ∷ (100 ∷ 200 ∷ []) ∷ []; whole_ends = 605 ∷ 200 ∷ []; choices = slice_set p.choices 2 (HandsOut 1 (Commands 0)) })
+      ∷ row 4 no_grips 0 (λ p. record p {
+        line = Ran (run_no 2) ∷ Ran (run_no 1) ∷ [];
+        holders = (1 ∷ []) ∷ (1 ∷ 2 ∷ []) ∷ (2 ∷ []) ∷ [];
+        first_places = [];
+        places = [];
+        overdue = more 0 (None ∷ None ∷ None ∷ []) p.overdue;
+        starts = (0 ∷ 105 ∷ []) ∷ (0 ∷ 100 ∷ []) ∷ [];
+        ends = (105 ∷ 605 ∷ []) ∷ (100 ∷ 200 ∷ []) ∷ [];
+        whole_ends = 605 ∷ 200 ∷ [];
+        choices = slice_set p.choices 2 (HandsOut 1 (Commands 0));
+      })
       ∷ row 4 (held 0 1 (Commands 0) no_grips) 0 (λ p. record p { touched = (1 ∷ []) ∷ [] ∷ [] ∷ []; choices = slice_set p.choices 1 (Waits (Busy (device_no 0))) })
-      ∷ row 5 no_grips 117 (λ p. record p { writers = Some 1 ∷ None ∷ None ∷ []; values = 1 ∷ 0 ∷ 0 ∷ []; holders = [] ∷ (1 ∷ 2 ∷ []) ∷ (2 ∷ []) ∷ []; overdue = slice_set p.overdue 1 (None ∷ Some 2 ∷ None ∷ []); choices = slice_set p.choices 1 (Moves (Doomed (run_no 2) (Revoked (run_no 1) (device_no 1) 116 117) ∷ [])) })
-      ∷ row 6 no_grips 117 (λ p. record p { holders = [] ∷ (1 ∷ []) ∷ [] ∷ []; overdue = slice_set p.overdue 1 (None ∷ None ∷ None ∷ []); choices = Absent ∷ HandsOut 1 (Commands 1) ∷ Over (Aborted (Revoked (run_no 1) (device_no 1) 116 117)) (Ended (run_no 2) (Aborted (Revoked (run_no 1) (device_no 1) 116 117)) ∷ []) ∷ [] })
+      ∷ row 5 no_grips 117 (λ p. record p {
+        writers = Some 1 ∷ None ∷ None ∷ [];
+        values = 1 ∷ 0 ∷ 0 ∷ [];
+        holders = [] ∷ (1 ∷ 2 ∷ []) ∷ (2 ∷ []) ∷ [];
+        overdue = slice_set p.overdue 1 (None ∷ Some 2 ∷ None ∷ []);
+        choices = slice_set p.choices 1 (Moves (Doomed (run_no 2) (Revoked (run_no 1) (device_no 1) 116 117) ∷ []));
+      })
+      ∷ row 6 no_grips 117 (λ p. record p {
+        holders = [] ∷ (1 ∷ []) ∷ [] ∷ [];
+        overdue = slice_set p.overdue 1 (None ∷ None ∷ None ∷ []);
+        choices =
+            Absent ∷ HandsOut 1 (Commands 1)
+            ∷ Over (Aborted (Revoked (run_no 1) (device_no 1) 116 117)) (Ended (run_no 2) (Aborted (Revoked (run_no 1) (device_no 1) 116 117)) ∷ []) ∷ [];
+      })
       ∷ row 7 no_grips 117 (λ p. record p { line = Ran (run_no 1) ∷ []; overdue = (None ∷ None ∷ None ∷ []) ∷ []; starts = (0 ∷ 100 ∷ []) ∷ []; ends = (100 ∷ 200 ∷ []) ∷ []; whole_ends = 200 ∷ []; choices = slice_set p.choices 2 (Over (Aborted (Revoked (run_no 1) (device_no 1) 116 117)) []) })
       ∷ row 7 (held 1 1 (Commands 1) no_grips) 117 (λ p. record p { touched = (1 ∷ []) ∷ (1 ∷ []) ∷ [] ∷ []; choices = slice_set p.choices 1 (Waits (Busy (device_no 1))) })
       ∷ row 8 no_grips 217 (λ p. record p { writers = Some 1 ∷ Some 1 ∷ None ∷ []; values = 1 ∷ 1 ∷ 0 ∷ []; holders = [] ∷ [] ∷ [] ∷ []; choices = slice_set p.choices 1 (Over Committed (Ended (run_no 1) Committed ∷ [])) })

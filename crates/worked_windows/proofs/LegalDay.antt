@@ -50,7 +50,17 @@ script = record {
   devices = record { items = light ∷ fan ∷ lamp ∷ heat ∷ []; spare = 0 };
   routines = record {
     items =
-        record { name = codes "come in"; routine = record { commands = record { items = record { device = device_no 0; job = Set 1; when = Always; must = true; ms = 100; takes = 100 } ∷ record { device = device_no 1; job = Set 1; when = Always; must = true; ms = 100; takes = 100 } ∷ []; spare = 0 } } }
+        record {
+          name = codes "come in";
+          routine = record {
+            commands = record {
+              items =
+                  record { device = device_no 0; job = Set 1; when = Always; must = true; ms = 100; takes = 100 }
+                  ∷ record { device = device_no 1; job = Set 1; when = Always; must = true; ms = 100; takes = 100 } ∷ [];
+              spare = 0;
+            };
+          };
+        }
         ∷ record { name = codes "light off"; routine = record { commands = record { items = record { device = device_no 0; job = Set 0; when = Always; must = true; ms = 100; takes = 100 } ∷ []; spare = 0 } } }
         ∷ [];
     spare = 0;

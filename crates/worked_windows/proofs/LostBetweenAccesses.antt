@@ -4,7 +4,13 @@ use Rattle.worked_windows.proofs.Words.{Aborted, Absent, Arrived, At, Busy, Comm
 
 abbrev pub window : Setting
 window = record home_of_four {
-  runs = record { commands = record { device = device_no 0; job = Set 1; when = Always; must = true; ms = 100; takes = 100 } ∷ record { device = device_no 1; job = Set 1; when = Always; must = true; ms = 100; takes = 100 } ∷ record { device = device_no 0; job = Set 0; when = Always; must = false; ms = 100; takes = 100 } ∷ []; follows = None } ∷ [];
+  runs = record {
+    commands =
+        record { device = device_no 0; job = Set 1; when = Always; must = true; ms = 100; takes = 100 }
+        ∷ record { device = device_no 1; job = Set 1; when = Always; must = true; ms = 100; takes = 100 }
+        ∷ record { device = device_no 0; job = Set 0; when = Always; must = false; ms = 100; takes = 100 } ∷ [];
+    follows = None;
+  } ∷ [];
   mode = record { model = Eventual; scheduler = Fcfs };
 }
 
@@ -14,10 +20,34 @@ history = Arrived (run_no 1) 0 ∷ Placed (run_no 1) 0 0 ∷ Did (run_no 1) 0 Fi
 
 abbrev pub table : Table
 table = record {
-  first = record { line = []; up = true ∷ true ∷ true ∷ true ∷ []; writers = None ∷ None ∷ None ∷ None ∷ []; values = 0 ∷ 0 ∷ 0 ∷ 18 ∷ []; holders = [] ∷ [] ∷ [] ∷ [] ∷ []; touched = [] ∷ [] ∷ [] ∷ [] ∷ []; first_places = []; places = []; overdue = []; starts = []; ends = []; whole_ends = []; choices = Absent ∷ Moves (Arrived (run_no 1) 0 ∷ []) ∷ [] };
+  first = record {
+    line = [];
+    up = true ∷ true ∷ true ∷ true ∷ [];
+    writers = None ∷ None ∷ None ∷ None ∷ [];
+    values = 0 ∷ 0 ∷ 0 ∷ 18 ∷ [];
+    holders = [] ∷ [] ∷ [] ∷ [] ∷ [];
+    touched = [] ∷ [] ∷ [] ∷ [] ∷ [];
+    first_places = [];
+    places = [];
+    overdue = [];
+    starts = [];
+    ends = [];
+    whole_ends = [];
+    choices = Absent ∷ Moves (Arrived (run_no 1) 0 ∷ []) ∷ [];
+  };
   rows = still 0 no_grips 0
       ∷ row 1 no_grips 0 (λ p. record p { first_places = 0 ∷ []; places = At (split_at [] 0) ∷ []; choices = Absent ∷ Moves (Placed (run_no 1) 0 0 ∷ []) ∷ [] })
-      ∷ row 2 no_grips 0 (λ p. record p { line = Ran (run_no 1) ∷ []; holders = (1 ∷ []) ∷ (1 ∷ []) ∷ [] ∷ [] ∷ []; first_places = []; places = []; overdue = (None ∷ None ∷ None ∷ None ∷ []) ∷ []; starts = (0 ∷ 100 ∷ []) ∷ []; ends = (300 ∷ 200 ∷ []) ∷ []; whole_ends = 300 ∷ []; choices = Absent ∷ HandsOut 0 (Commands 0) ∷ [] })
+      ∷ row 2 no_grips 0 (λ p. record p {
+        line = Ran (run_no 1) ∷ [];
+        holders = (1 ∷ []) ∷ (1 ∷ []) ∷ [] ∷ [] ∷ [];
+        first_places = [];
+        places = [];
+        overdue = (None ∷ None ∷ None ∷ None ∷ []) ∷ [];
+        starts = (0 ∷ 100 ∷ []) ∷ [];
+        ends = (300 ∷ 200 ∷ []) ∷ [];
+        whole_ends = 300 ∷ [];
+        choices = Absent ∷ HandsOut 0 (Commands 0) ∷ [];
+      })
       ∷ row 2 (held 0 1 (Commands 0) no_grips) 0 (λ p. record p { touched = (1 ∷ []) ∷ [] ∷ [] ∷ [] ∷ []; choices = Absent ∷ Waits (Busy (device_no 0)) ∷ [] })
       ∷ row 3 no_grips 100 (λ p. record p { writers = Some 1 ∷ None ∷ None ∷ None ∷ []; values = 1 ∷ 0 ∷ 0 ∷ 18 ∷ []; choices = Absent ∷ HandsOut 1 (Commands 1) ∷ [] })
       ∷ still 3 (held 0 0 (Probes None) no_grips) 100

@@ -4,7 +4,13 @@ use Rattle.worked_windows.proofs.Words.{Aborted, Absent, Always, Arrived, At, Be
 abbrev pub window : Setting
 window = record home_of_four {
   runs = record { commands = record { device = device_no 0; job = Set 1; when = Is 5; must = true; ms = 100; takes = 100 } ∷ record { device = device_no 1; job = Set 1; when = Always; must = true; ms = 100; takes = 100 } ∷ []; follows = None }
-      ∷ record { commands = record { device = device_no 0; job = Set 1; when = Always; must = false; ms = 100; takes = 100 } ∷ record { device = device_no 0; job = Set 0; when = Is 5; must = true; ms = 100; takes = 100 } ∷ record { device = device_no 3; job = Set 20; when = Always; must = true; ms = 100; takes = 100 } ∷ []; follows = None } ∷ [];
+      ∷ record {
+        commands =
+            record { device = device_no 0; job = Set 1; when = Always; must = false; ms = 100; takes = 100 }
+            ∷ record { device = device_no 0; job = Set 0; when = Is 5; must = true; ms = 100; takes = 100 }
+            ∷ record { device = device_no 3; job = Set 20; when = Always; must = true; ms = 100; takes = 100 } ∷ [];
+        follows = None;
+      } ∷ [];
   mode = record { model = Global; scheduler = Fcfs };
 }
 
@@ -15,13 +21,47 @@ history = Fell (device_no 0) ∷ Arrived (run_no 1) 0 ∷ Placed (run_no 1) 1 0 
 
 abbrev pub table : Table
 table = record {
-  first = record { line = []; up = true ∷ true ∷ true ∷ true ∷ []; writers = None ∷ None ∷ None ∷ None ∷ []; values = 0 ∷ 0 ∷ 0 ∷ 18 ∷ []; holders = [] ∷ [] ∷ [] ∷ [] ∷ []; touched = [] ∷ [] ∷ [] ∷ [] ∷ []; first_places = []; places = []; overdue = []; starts = []; ends = []; whole_ends = []; choices = Absent ∷ Moves (Arrived (run_no 1) 0 ∷ []) ∷ Moves (Arrived (run_no 2) 0 ∷ []) ∷ [] };
+  first = record {
+    line = [];
+    up = true ∷ true ∷ true ∷ true ∷ [];
+    writers = None ∷ None ∷ None ∷ None ∷ [];
+    values = 0 ∷ 0 ∷ 0 ∷ 18 ∷ [];
+    holders = [] ∷ [] ∷ [] ∷ [] ∷ [];
+    touched = [] ∷ [] ∷ [] ∷ [] ∷ [];
+    first_places = [];
+    places = [];
+    overdue = [];
+    starts = [];
+    ends = [];
+    whole_ends = [];
+    choices = Absent ∷ Moves (Arrived (run_no 1) 0 ∷ []) ∷ Moves (Arrived (run_no 2) 0 ∷ []) ∷ [];
+  };
   rows = still 0 no_grips 0 ∷ still 0 (held 0 0 (Probes None) no_grips) 0
       ∷ row 1 no_grips 0 (λ p. record p { line = Failed (device_no 0) 1 ∷ []; up = false ∷ true ∷ true ∷ true ∷ [] })
       ∷ row 2 no_grips 0 (λ p. record p { first_places = 1 ∷ []; places = At (split_at (Failed (device_no 0) 1 ∷ []) 1) ∷ []; choices = slice_set p.choices 1 (Moves (Placed (run_no 1) 1 0 ∷ [])) })
-      ∷ row 3 no_grips 0 (λ p. record p { line = p.line ++ Ran (run_no 1) ∷ []; holders = (1 ∷ []) ∷ (1 ∷ []) ∷ [] ∷ [] ∷ []; first_places = []; places = []; overdue = (None ∷ None ∷ None ∷ None ∷ []) ∷ []; starts = (0 ∷ 100 ∷ []) ∷ []; ends = (100 ∷ 200 ∷ []) ∷ []; whole_ends = 200 ∷ []; choices = slice_set p.choices 1 (Moves (Did (run_no 1) 0 Skipped ∷ [])) })
+      ∷ row 3 no_grips 0 (λ p. record p {
+        line = p.line ++ Ran (run_no 1) ∷ [];
+        holders = (1 ∷ []) ∷ (1 ∷ []) ∷ [] ∷ [] ∷ [];
+        first_places = [];
+        places = [];
+        overdue = (None ∷ None ∷ None ∷ None ∷ []) ∷ [];
+        starts = (0 ∷ 100 ∷ []) ∷ [];
+        ends = (100 ∷ 200 ∷ []) ∷ [];
+        whole_ends = 200 ∷ [];
+        choices = slice_set p.choices 1 (Moves (Did (run_no 1) 0 Skipped ∷ []));
+      })
       ∷ row 4 no_grips 0 (λ p. record p { first_places = 1 ∷ []; places = At (split_at (Failed (device_no 0) 1 ∷ Ran (run_no 1) ∷ []) 2) ∷ []; choices = slice_set p.choices 2 (Moves (Placed (run_no 2) 2 0 ∷ [])) })
-      ∷ row 5 no_grips 0 (λ p. record p { line = p.line ++ Ran (run_no 2) ∷ []; holders = (1 ∷ 2 ∷ []) ∷ (1 ∷ []) ∷ [] ∷ (2 ∷ []) ∷ []; first_places = []; places = []; overdue = more 0 (None ∷ None ∷ None ∷ None ∷ []) p.overdue; starts = (0 ∷ 100 ∷ []) ∷ (0 ∷ 200 ∷ []) ∷ []; ends = (100 ∷ 200 ∷ []) ∷ (200 ∷ 300 ∷ []) ∷ []; whole_ends = 200 ∷ 300 ∷ []; choices = slice_set p.choices 2 (Waits (Behind (device_no 0) (run_no 1))) })
+      ∷ row 5 no_grips 0 (λ p. record p {
+        line = p.line ++ Ran (run_no 2) ∷ [];
+        holders = (1 ∷ 2 ∷ []) ∷ (1 ∷ []) ∷ [] ∷ (2 ∷ []) ∷ [];
+        first_places = [];
+        places = [];
+        overdue = more 0 (None ∷ None ∷ None ∷ None ∷ []) p.overdue;
+        starts = (0 ∷ 100 ∷ []) ∷ (0 ∷ 200 ∷ []) ∷ [];
+        ends = (100 ∷ 200 ∷ []) ∷ (200 ∷ 300 ∷ []) ∷ [];
+        whole_ends = 200 ∷ 300 ∷ [];
+        choices = slice_set p.choices 2 (Waits (Behind (device_no 0) (run_no 1)));
+      })
       ∷ row 6 no_grips 0 (λ p. record p { holders = (2 ∷ []) ∷ (1 ∷ []) ∷ [] ∷ (2 ∷ []) ∷ []; choices = Absent ∷ HandsOut 1 (Commands 1) ∷ Waits (Strict (run_no 1)) ∷ [] })
       ∷ row 6 (held 1 1 (Commands 1) no_grips) 0 (λ p. record p { touched = [] ∷ (1 ∷ []) ∷ [] ∷ [] ∷ []; choices = slice_set p.choices 1 (Waits (Busy (device_no 1))) })
       ∷ row 7 no_grips 100 (λ p. record p { writers = None ∷ Some 1 ∷ None ∷ None ∷ []; values = 0 ∷ 1 ∷ 0 ∷ 18 ∷ []; holders = (2 ∷ []) ∷ [] ∷ [] ∷ (2 ∷ []) ∷ []; choices = slice_set p.choices 1 (Over Committed (Ended (run_no 1) Committed ∷ [])) })

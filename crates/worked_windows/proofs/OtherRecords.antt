@@ -73,11 +73,14 @@ with_the_runs_exchanged : AgreesWithSerial released_lamp_overwritten.window rele
 unfolding split_of
 with_the_runs_exchanged agrees = differ 1 0 refl (ap (λ home. (stand_at home 0).value) agrees.home)
 
-with_another_last_value : AgreesWithSerial released_lamp_overwritten.window released_lamp_overwritten.history released_lamp_overwritten.table.outcome.order (record { value = 0; up = true } ∷ record { value = 0; up = true } ∷ record { value = 0; up = true } ∷ record { value = 18; up = true } ∷ []) → ⊥
+with_another_last_value : AgreesWithSerial released_lamp_overwritten.window released_lamp_overwritten.history released_lamp_overwritten.table.outcome.order
+    (record { value = 0; up = true } ∷ record { value = 0; up = true } ∷ record { value = 0; up = true } ∷ record { value = 18; up = true } ∷ []) → ⊥
 unfolding split_of
 with_another_last_value agrees = differ 1 0 refl (ap (λ home. (stand_at home 1).value) agrees.home)
 
-with_the_failure_before_the_run : AgreesWithSerial failure_after_last_access.window failure_after_last_access.history (Failed (device_no 0) 1 ∷ Ran (run_no 1) ∷ []) (record { value = 1; up = false } ∷ record { value = 1; up = true } ∷ record { value = 0; up = true } ∷ record { value = 18; up = true } ∷ []) → ⊥
+with_the_failure_before_the_run : AgreesWithSerial failure_after_last_access.window failure_after_last_access.history
+    (Failed (device_no 0) 1 ∷ Ran (run_no 1) ∷ [])
+    (record { value = 1; up = false } ∷ record { value = 1; up = true } ∷ record { value = 0; up = true } ∷ record { value = 18; up = true } ∷ []) → ⊥
 unfolding split_of
 with_the_failure_before_the_run agrees = let refused : true ≡ false = agrees.applies in absurd (cc)
 
@@ -85,7 +88,9 @@ with_another_answer : AgreesWithSerial no_dirty_read.window (replaced 8 (Did (ru
 unfolding split_of
 with_another_answer agrees = differ 18 20 refl (ap first_found agrees.answers)
 
-with_a_device_up_that_is_down : AgreesWithSerial failure_after_last_access.window failure_after_last_access.history failure_after_last_access.table.outcome.order (record { value = 1; up = true } ∷ record { value = 1; up = true } ∷ record { value = 0; up = true } ∷ record { value = 18; up = true } ∷ []) → ⊥
+with_a_device_up_that_is_down : AgreesWithSerial failure_after_last_access.window failure_after_last_access.history
+    failure_after_last_access.table.outcome.order
+    (record { value = 1; up = true } ∷ record { value = 1; up = true } ∷ record { value = 0; up = true } ∷ record { value = 18; up = true } ∷ []) → ⊥
 unfolding split_of
 with_a_device_up_that_is_down agrees = let up : false ≡ true = ap (λ home. (stand_at home 0).up) agrees.home in absurd (cc)
 

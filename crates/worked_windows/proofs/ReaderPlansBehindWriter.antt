@@ -17,14 +17,48 @@ history = Arrived (run_no 1) 0 ∷ Placed (run_no 1) 0 0 ∷ Did (run_no 1) 0 Fi
 
 abbrev pub table : Table
 table = record {
-  first = record { line = []; up = true ∷ true ∷ true ∷ []; writers = None ∷ None ∷ None ∷ []; values = 0 ∷ 18 ∷ 0 ∷ []; holders = [] ∷ [] ∷ [] ∷ []; touched = [] ∷ [] ∷ [] ∷ []; first_places = []; places = []; overdue = []; starts = []; ends = []; whole_ends = []; choices = Absent ∷ Moves (Arrived (run_no 1) 0 ∷ []) ∷ Moves (Arrived (run_no 2) 0 ∷ []) ∷ [] };
+  first = record {
+    line = [];
+    up = true ∷ true ∷ true ∷ [];
+    writers = None ∷ None ∷ None ∷ [];
+    values = 0 ∷ 18 ∷ 0 ∷ [];
+    holders = [] ∷ [] ∷ [] ∷ [];
+    touched = [] ∷ [] ∷ [] ∷ [];
+    first_places = [];
+    places = [];
+    overdue = [];
+    starts = [];
+    ends = [];
+    whole_ends = [];
+    choices = Absent ∷ Moves (Arrived (run_no 1) 0 ∷ []) ∷ Moves (Arrived (run_no 2) 0 ∷ []) ∷ [];
+  };
   rows = still 0 no_grips 0
       ∷ row 1 no_grips 0 (λ p. record p { first_places = 0 ∷ []; places = At (split_at [] 0) ∷ []; choices = slice_set p.choices 1 (Moves (Placed (run_no 1) 0 0 ∷ [])) })
-      ∷ row 2 no_grips 0 (λ p. record p { line = Ran (run_no 1) ∷ []; holders = (1 ∷ []) ∷ (1 ∷ []) ∷ [] ∷ []; first_places = []; places = []; overdue = (None ∷ None ∷ None ∷ []) ∷ []; starts = (100 ∷ 0 ∷ []) ∷ []; ends = (1100 ∷ 100 ∷ []) ∷ []; whole_ends = 1100 ∷ []; choices = slice_set p.choices 1 (HandsOut 1 (Commands 0)) })
+      ∷ row 2 no_grips 0 (λ p. record p {
+        line = Ran (run_no 1) ∷ [];
+        holders = (1 ∷ []) ∷ (1 ∷ []) ∷ [] ∷ [];
+        first_places = [];
+        places = [];
+        overdue = (None ∷ None ∷ None ∷ []) ∷ [];
+        starts = (100 ∷ 0 ∷ []) ∷ [];
+        ends = (1100 ∷ 100 ∷ []) ∷ [];
+        whole_ends = 1100 ∷ [];
+        choices = slice_set p.choices 1 (HandsOut 1 (Commands 0));
+      })
       ∷ row 2 (held 1 1 (Commands 0) no_grips) 0 (λ p. record p { touched = [] ∷ (1 ∷ []) ∷ [] ∷ []; choices = slice_set p.choices 1 (Waits (Busy (device_no 1))) })
       ∷ row 3 no_grips 100 (λ p. record p { writers = None ∷ Some 1 ∷ None ∷ []; values = 0 ∷ 20 ∷ 0 ∷ []; holders = (1 ∷ []) ∷ [] ∷ [] ∷ []; choices = Absent ∷ HandsOut 0 (Commands 1) ∷ Moves (Arrived (run_no 2) 100 ∷ []) ∷ [] })
       ∷ row 4 no_grips 100 (λ p. record p { first_places = 1 ∷ []; places = At (split_at (Ran (run_no 1) ∷ []) 1) ∷ []; choices = slice_set p.choices 2 (Moves (Placed (run_no 2) 1 100 ∷ [])) })
-      ∷ row 5 no_grips 100 (λ p. record p { line = Ran (run_no 1) ∷ Ran (run_no 2) ∷ []; holders = (1 ∷ []) ∷ (2 ∷ []) ∷ (2 ∷ []) ∷ []; first_places = []; places = []; overdue = more 0 (None ∷ None ∷ None ∷ []) p.overdue; starts = (100 ∷ 0 ∷ []) ∷ (1100 ∷ 1200 ∷ []) ∷ []; ends = (1100 ∷ 100 ∷ []) ∷ (1200 ∷ 1300 ∷ []) ∷ []; whole_ends = 1100 ∷ 1300 ∷ []; choices = slice_set p.choices 2 (Waits (Dirty (device_no 1) (run_no 1))) })
+      ∷ row 5 no_grips 100 (λ p. record p {
+        line = Ran (run_no 1) ∷ Ran (run_no 2) ∷ [];
+        holders = (1 ∷ []) ∷ (2 ∷ []) ∷ (2 ∷ []) ∷ [];
+        first_places = [];
+        places = [];
+        overdue = more 0 (None ∷ None ∷ None ∷ []) p.overdue;
+        starts = (100 ∷ 0 ∷ []) ∷ (1100 ∷ 1200 ∷ []) ∷ [];
+        ends = (1100 ∷ 100 ∷ []) ∷ (1200 ∷ 1300 ∷ []) ∷ [];
+        whole_ends = 1100 ∷ 1300 ∷ [];
+        choices = slice_set p.choices 2 (Waits (Dirty (device_no 1) (run_no 1)));
+      })
       ∷ row 5 (held 0 1 (Commands 1) no_grips) 100 (λ p. record p { touched = (1 ∷ []) ∷ (1 ∷ []) ∷ [] ∷ []; choices = slice_set p.choices 1 (Waits (Busy (device_no 0))) })
       ∷ row 6 no_grips 1100 (λ p. record p { writers = Some 1 ∷ Some 1 ∷ None ∷ []; values = 1 ∷ 20 ∷ 0 ∷ []; holders = [] ∷ (2 ∷ []) ∷ (2 ∷ []) ∷ []; choices = slice_set p.choices 1 (Over Committed (Ended (run_no 1) Committed ∷ [])) })
       ∷ row 7 no_grips 1100 (λ p. record p { overdue = (None ∷ None ∷ None ∷ []) ∷ []; starts = (1100 ∷ 1200 ∷ []) ∷ []; ends = (1200 ∷ 1300 ∷ []) ∷ []; whole_ends = 1300 ∷ []; choices = Absent ∷ Over Committed [] ∷ HandsOut 1 (Commands 0) ∷ [] })
@@ -37,7 +71,11 @@ table = record {
       ∷ give 7 1 2 (Commands 0) (Sensed 20) (Did (run_no 2) 0 (Found 20) ∷ [])
       ∷ give 8 2 2 (Commands 1) Worked (Did (run_no 2) 1 Fine ∷ []) ∷ [];
   calls = 1 ∷ 2 ∷ 1 ∷ [];
-  outcome = record { order = Ran (run_no 1) ∷ Ran (run_no 2) ∷ []; home = record { value = 1; up = true } ∷ record { value = 20; up = true } ∷ record { value = 1; up = true } ∷ []; answers = record { run = run_no 1; answers = Fine ∷ Fine ∷ [] } ∷ record { run = run_no 2; answers = (Found 20) ∷ Fine ∷ [] } ∷ [] };
+  outcome = record {
+    order = Ran (run_no 1) ∷ Ran (run_no 2) ∷ [];
+    home = record { value = 1; up = true } ∷ record { value = 20; up = true } ∷ record { value = 1; up = true } ∷ [];
+    answers = record { run = run_no 1; answers = Fine ∷ Fine ∷ [] } ∷ record { run = run_no 2; answers = (Found 20) ∷ Fine ∷ [] } ∷ [];
+  };
 }
 
 is_worked : IsWorked window history table

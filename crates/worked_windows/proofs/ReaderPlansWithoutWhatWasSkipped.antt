@@ -16,17 +16,61 @@ history = Arrived (run_no 1) 0 ∷ Placed (run_no 1) 0 0 ∷ Arrived (run_no 2) 
 
 abbrev pub table : Table
 table = record {
-  first = record { line = []; up = true ∷ true ∷ true ∷ true ∷ []; writers = None ∷ None ∷ None ∷ None ∷ []; values = 0 ∷ 0 ∷ 0 ∷ 18 ∷ []; holders = [] ∷ [] ∷ [] ∷ [] ∷ []; touched = [] ∷ [] ∷ [] ∷ [] ∷ []; first_places = []; places = []; overdue = []; starts = []; ends = []; whole_ends = []; choices = Absent ∷ Moves (Arrived (run_no 1) 0 ∷ []) ∷ Moves (Arrived (run_no 2) 0 ∷ []) ∷ Moves (Arrived (run_no 3) 0 ∷ []) ∷ [] };
+  first = record {
+    line = [];
+    up = true ∷ true ∷ true ∷ true ∷ [];
+    writers = None ∷ None ∷ None ∷ None ∷ [];
+    values = 0 ∷ 0 ∷ 0 ∷ 18 ∷ [];
+    holders = [] ∷ [] ∷ [] ∷ [] ∷ [];
+    touched = [] ∷ [] ∷ [] ∷ [] ∷ [];
+    first_places = [];
+    places = [];
+    overdue = [];
+    starts = [];
+    ends = [];
+    whole_ends = [];
+    choices = Absent ∷ Moves (Arrived (run_no 1) 0 ∷ []) ∷ Moves (Arrived (run_no 2) 0 ∷ []) ∷ Moves (Arrived (run_no 3) 0 ∷ []) ∷ [];
+  };
   rows = still 0 no_grips 0
       ∷ row 1 no_grips 0 (λ p. record p { first_places = 0 ∷ []; places = At (split_at [] 0) ∷ []; choices = slice_set p.choices 1 (Moves (Placed (run_no 1) 0 0 ∷ [])) })
-      ∷ row 2 no_grips 0 (λ p. record p { line = Ran (run_no 1) ∷ []; holders = (1 ∷ []) ∷ [] ∷ [] ∷ (1 ∷ []) ∷ []; first_places = []; places = []; overdue = (None ∷ None ∷ None ∷ None ∷ []) ∷ []; starts = (100 ∷ 0 ∷ []) ∷ []; ends = (1100 ∷ 100 ∷ []) ∷ []; whole_ends = 1100 ∷ []; choices = slice_set p.choices 1 (HandsOut 3 (Commands 0)) })
+      ∷ row 2 no_grips 0 (λ p. record p {
+        line = Ran (run_no 1) ∷ [];
+        holders = (1 ∷ []) ∷ [] ∷ [] ∷ (1 ∷ []) ∷ [];
+        first_places = [];
+        places = [];
+        overdue = (None ∷ None ∷ None ∷ None ∷ []) ∷ [];
+        starts = (100 ∷ 0 ∷ []) ∷ [];
+        ends = (1100 ∷ 100 ∷ []) ∷ [];
+        whole_ends = 1100 ∷ [];
+        choices = slice_set p.choices 1 (HandsOut 3 (Commands 0));
+      })
       ∷ row 3 no_grips 0 (λ p. record p { first_places = 0 ∷ []; places = At (split_at (Ran (run_no 1) ∷ []) 0) ∷ []; choices = slice_set p.choices 2 (Moves (Placed (run_no 2) 0 0 ∷ [])) })
-      ∷ row 4 no_grips 0 (λ p. record p { line = Ran (run_no 2) ∷ Ran (run_no 1) ∷ []; holders = (1 ∷ []) ∷ (2 ∷ []) ∷ (2 ∷ []) ∷ (1 ∷ []) ∷ []; first_places = []; places = []; overdue = more 0 (None ∷ None ∷ None ∷ None ∷ []) p.overdue; starts = (0 ∷ 600 ∷ []) ∷ (100 ∷ 0 ∷ []) ∷ []; ends = (600 ∷ 700 ∷ []) ∷ (1100 ∷ 100 ∷ []) ∷ []; whole_ends = 700 ∷ 1100 ∷ []; choices = slice_set p.choices 2 (HandsOut 1 (Commands 0)) })
+      ∷ row 4 no_grips 0 (λ p. record p {
+        line = Ran (run_no 2) ∷ Ran (run_no 1) ∷ [];
+        holders = (1 ∷ []) ∷ (2 ∷ []) ∷ (2 ∷ []) ∷ (1 ∷ []) ∷ [];
+        first_places = [];
+        places = [];
+        overdue = more 0 (None ∷ None ∷ None ∷ None ∷ []) p.overdue;
+        starts = (0 ∷ 600 ∷ []) ∷ (100 ∷ 0 ∷ []) ∷ [];
+        ends = (600 ∷ 700 ∷ []) ∷ (1100 ∷ 100 ∷ []) ∷ [];
+        whole_ends = 700 ∷ 1100 ∷ [];
+        choices = slice_set p.choices 2 (HandsOut 1 (Commands 0));
+      })
       ∷ row 4 (held 3 1 (Commands 0) no_grips) 0 (λ p. record p { touched = [] ∷ [] ∷ [] ∷ (1 ∷ []) ∷ []; choices = slice_set p.choices 1 (Waits (Busy (device_no 3))) })
       ∷ row 5 no_grips 100 (λ p. record p { writers = None ∷ None ∷ None ∷ Some 1 ∷ []; values = 0 ∷ 0 ∷ 0 ∷ 20 ∷ []; holders = slice_set p.holders 3 []; choices = slice_set (slice_set p.choices 1 (Moves (Did (run_no 1) 1 Skipped ∷ []))) 3 (Moves (Arrived (run_no 3) 100 ∷ [])) })
       ∷ row 6 no_grips 100 (λ p. record p { holders = [] ∷ (2 ∷ []) ∷ (2 ∷ []) ∷ [] ∷ []; whole_ends = 700 ∷ 100 ∷ []; choices = slice_set p.choices 1 (Over Committed (Ended (run_no 1) Committed ∷ [])) })
       ∷ row 7 no_grips 100 (λ p. record p { first_places = 2 ∷ []; places = At (record { front = Ran (run_no 1) ∷ []; back = Ran (run_no 2) ∷ [] }) ∷ []; choices = slice_set p.choices 3 (Moves (Placed (run_no 3) 1 100 ∷ [])) })
-      ∷ row 8 no_grips 100 (λ p. record p { line = Ran (run_no 1) ∷ Ran (run_no 3) ∷ Ran (run_no 2) ∷ []; holders = [] ∷ (2 ∷ []) ∷ (2 ∷ 3 ∷ []) ∷ (3 ∷ []) ∷ []; first_places = []; places = []; overdue = more 0 (None ∷ None ∷ None ∷ None ∷ []) p.overdue; starts = (100 ∷ 0 ∷ []) ∷ (200 ∷ 100 ∷ []) ∷ (0 ∷ 600 ∷ []) ∷ []; ends = (1100 ∷ 100 ∷ []) ∷ (300 ∷ 200 ∷ []) ∷ (600 ∷ 700 ∷ []) ∷ []; whole_ends = 100 ∷ 300 ∷ 700 ∷ []; choices = slice_set p.choices 3 (Waits (Dirty (device_no 3) (run_no 1))) })
+      ∷ row 8 no_grips 100 (λ p. record p {
+        line = Ran (run_no 1) ∷ Ran (run_no 3) ∷ Ran (run_no 2) ∷ [];
+        holders = [] ∷ (2 ∷ []) ∷ (2 ∷ 3 ∷ []) ∷ (3 ∷ []) ∷ [];
+        first_places = [];
+        places = [];
+        overdue = more 0 (None ∷ None ∷ None ∷ None ∷ []) p.overdue;
+        starts = (100 ∷ 0 ∷ []) ∷ (200 ∷ 100 ∷ []) ∷ (0 ∷ 600 ∷ []) ∷ [];
+        ends = (1100 ∷ 100 ∷ []) ∷ (300 ∷ 200 ∷ []) ∷ (600 ∷ 700 ∷ []) ∷ [];
+        whole_ends = 100 ∷ 300 ∷ 700 ∷ [];
+        choices = slice_set p.choices 3 (Waits (Dirty (device_no 3) (run_no 1)));
+      })
       ∷ row 9 no_grips 100 (λ p. record p { overdue = less 0 p.overdue; starts = less 0 p.starts; ends = less 0 p.ends; whole_ends = 300 ∷ 700 ∷ []; choices = slice_set (slice_set p.choices 1 (Over Committed [])) 3 (HandsOut 3 (Commands 0)) })
       ∷ row 9 (held 3 3 (Commands 0) no_grips) 100 (λ p. record p { touched = [] ∷ [] ∷ [] ∷ (1 ∷ 3 ∷ []) ∷ []; choices = slice_set p.choices 3 (Waits (Busy (device_no 3))) })
       ∷ row 10 no_grips 200 (λ p. record p { holders = [] ∷ (2 ∷ []) ∷ (2 ∷ 3 ∷ []) ∷ [] ∷ []; choices = slice_set p.choices 3 (HandsOut 2 (Commands 1)) })
@@ -43,7 +87,13 @@ table = record {
       ∷ give 10 2 3 (Commands 1) Worked (Did (run_no 3) 1 Fine ∷ []) ∷ give 12 1 2 (Commands 0) Worked (Did (run_no 2) 0 Fine ∷ [])
       ∷ give 13 2 2 (Commands 1) Worked (Did (run_no 2) 1 Fine ∷ []) ∷ [];
   calls = 0 ∷ 1 ∷ 2 ∷ 2 ∷ [];
-  outcome = record { order = Ran (run_no 1) ∷ Ran (run_no 3) ∷ Ran (run_no 2) ∷ []; home = record { value = 0; up = true } ∷ record { value = 1; up = true } ∷ record { value = 1; up = true } ∷ record { value = 20; up = true } ∷ []; answers = record { run = run_no 1; answers = Fine ∷ Skipped ∷ [] } ∷ record { run = run_no 3; answers = (Found 20) ∷ Fine ∷ [] } ∷ record { run = run_no 2; answers = Fine ∷ Fine ∷ [] } ∷ [] };
+  outcome = record {
+    order = Ran (run_no 1) ∷ Ran (run_no 3) ∷ Ran (run_no 2) ∷ [];
+    home = record { value = 0; up = true } ∷ record { value = 1; up = true } ∷ record { value = 1; up = true } ∷ record { value = 20; up = true } ∷ [];
+    answers =
+        record { run = run_no 1; answers = Fine ∷ Skipped ∷ [] } ∷ record { run = run_no 3; answers = (Found 20) ∷ Fine ∷ [] }
+        ∷ record { run = run_no 2; answers = Fine ∷ Fine ∷ [] } ∷ [];
+  };
 }
 
 is_worked : IsWorked window history table

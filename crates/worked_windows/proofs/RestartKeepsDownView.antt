@@ -4,7 +4,13 @@ use Rattle.worked_windows.proofs.Words.{Absent, Arrived, At, Back, Busy, Command
 
 abbrev pub window : Setting
 window = record home_of_four {
-  runs = record { commands = record { device = device_no 0; job = Set 1; when = Always; must = false; ms = 100; takes = 100 } ∷ record { device = device_no 1; job = Set 1; when = Always; must = true; ms = 100; takes = 100 } ∷ record { device = device_no 0; job = Set 1; when = Always; must = false; ms = 100; takes = 100 } ∷ []; follows = None } ∷ [];
+  runs = record {
+    commands =
+        record { device = device_no 0; job = Set 1; when = Always; must = false; ms = 100; takes = 100 }
+        ∷ record { device = device_no 1; job = Set 1; when = Always; must = true; ms = 100; takes = 100 }
+        ∷ record { device = device_no 0; job = Set 1; when = Always; must = false; ms = 100; takes = 100 } ∷ [];
+    follows = None;
+  } ∷ [];
   mode = record { model = Eventual; scheduler = Fcfs };
 }
 
@@ -14,10 +20,34 @@ history = Arrived (run_no 1) 0 ∷ Placed (run_no 1) 0 0 ∷ Fell (device_no 0) 
 
 abbrev pub table : Table
 table = record {
-  first = record { line = []; up = true ∷ true ∷ true ∷ true ∷ []; writers = None ∷ None ∷ None ∷ None ∷ []; values = 0 ∷ 0 ∷ 0 ∷ 18 ∷ []; holders = [] ∷ [] ∷ [] ∷ [] ∷ []; touched = [] ∷ [] ∷ [] ∷ [] ∷ []; first_places = []; places = []; overdue = []; starts = []; ends = []; whole_ends = []; choices = Absent ∷ Moves (Arrived (run_no 1) 0 ∷ []) ∷ [] };
+  first = record {
+    line = [];
+    up = true ∷ true ∷ true ∷ true ∷ [];
+    writers = None ∷ None ∷ None ∷ None ∷ [];
+    values = 0 ∷ 0 ∷ 0 ∷ 18 ∷ [];
+    holders = [] ∷ [] ∷ [] ∷ [] ∷ [];
+    touched = [] ∷ [] ∷ [] ∷ [] ∷ [];
+    first_places = [];
+    places = [];
+    overdue = [];
+    starts = [];
+    ends = [];
+    whole_ends = [];
+    choices = Absent ∷ Moves (Arrived (run_no 1) 0 ∷ []) ∷ [];
+  };
   rows = still 0 no_grips 0
       ∷ row 1 no_grips 0 (λ p. record p { first_places = 0 ∷ []; places = At (split_at [] 0) ∷ []; choices = Absent ∷ Moves (Placed (run_no 1) 0 0 ∷ []) ∷ [] })
-      ∷ row 2 no_grips 0 (λ p. record p { line = Ran (run_no 1) ∷ []; holders = (1 ∷ []) ∷ (1 ∷ []) ∷ [] ∷ [] ∷ []; first_places = []; places = []; overdue = (None ∷ None ∷ None ∷ None ∷ []) ∷ []; starts = (0 ∷ 100 ∷ []) ∷ []; ends = (300 ∷ 200 ∷ []) ∷ []; whole_ends = 300 ∷ []; choices = Absent ∷ HandsOut 0 (Commands 0) ∷ [] })
+      ∷ row 2 no_grips 0 (λ p. record p {
+        line = Ran (run_no 1) ∷ [];
+        holders = (1 ∷ []) ∷ (1 ∷ []) ∷ [] ∷ [] ∷ [];
+        first_places = [];
+        places = [];
+        overdue = (None ∷ None ∷ None ∷ None ∷ []) ∷ [];
+        starts = (0 ∷ 100 ∷ []) ∷ [];
+        ends = (300 ∷ 200 ∷ []) ∷ [];
+        whole_ends = 300 ∷ [];
+        choices = Absent ∷ HandsOut 0 (Commands 0) ∷ [];
+      })
       ∷ row 2 (held 0 1 (Commands 0) no_grips) 0 (λ p. record p { touched = (1 ∷ []) ∷ [] ∷ [] ∷ [] ∷ []; choices = Absent ∷ Waits (Busy (device_no 0)) ∷ [] })
       ∷ row 4 no_grips 100 (λ p. record p { line = Failed (device_no 0) 1 ∷ Ran (run_no 1) ∷ []; up = false ∷ true ∷ true ∷ true ∷ []; choices = Absent ∷ HandsOut 1 (Commands 1) ∷ [] })
       ∷ still 4 (held 0 0 (Probes (Some 0)) no_grips) 100
@@ -33,7 +63,11 @@ table = record {
       ∷ give 4 0 0 (Probes (Some 0)) Worked (Rose (device_no 0) ∷ []) ∷ give 5 1 1 (Commands 1) Worked (Did (run_no 1) 1 Fine ∷ [])
       ∷ give 8 1 0 (Probes None) Worked [] ∷ give 8 2 0 (Probes None) Worked [] ∷ give 8 3 0 (Probes None) Worked [] ∷ [];
   calls = 1 ∷ 1 ∷ 0 ∷ 0 ∷ [];
-  outcome = record { order = Failed (device_no 0) 1 ∷ Ran (run_no 1) ∷ Back (device_no 0) 1 ∷ []; home = record { value = 0; up = true } ∷ record { value = 1; up = true } ∷ record { value = 0; up = true } ∷ record { value = 18; up = true } ∷ []; answers = record { run = run_no 1; answers = Down ∷ Fine ∷ Down ∷ [] } ∷ [] };
+  outcome = record {
+    order = Failed (device_no 0) 1 ∷ Ran (run_no 1) ∷ Back (device_no 0) 1 ∷ [];
+    home = record { value = 0; up = true } ∷ record { value = 1; up = true } ∷ record { value = 0; up = true } ∷ record { value = 18; up = true } ∷ [];
+    answers = record { run = run_no 1; answers = Down ∷ Fine ∷ Down ∷ [] } ∷ [];
+  };
 }
 
 is_worked : IsWorked window history table

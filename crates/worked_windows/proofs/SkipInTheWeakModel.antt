@@ -3,8 +3,20 @@ use Rattle.worked_windows.proofs.Words.{Absent, Always, Arrived, At, Busy, Comma
 
 abbrev pub window : Setting
 window = record home_of_four {
-  runs = record { commands = record { device = device_no 0; job = Set 1; when = Always; must = true; ms = 100; takes = 100 } ∷ record { device = device_no 1; job = Set 1; when = Always; must = true; ms = 100; takes = 100 } ∷ record { device = device_no 0; job = Set 0; when = Always; must = true; ms = 100; takes = 100 } ∷ []; follows = None }
-      ∷ record { commands = record { device = device_no 0; job = Set 1; when = Is 5; must = true; ms = 100; takes = 100 } ∷ record { device = device_no 3; job = Load; when = Always; must = true; ms = 100; takes = 100 } ∷ record { device = device_no 0; job = Set 1; when = Is 18; must = true; ms = 100; takes = 100 } ∷ []; follows = None } ∷ [];
+  runs = record {
+    commands =
+        record { device = device_no 0; job = Set 1; when = Always; must = true; ms = 100; takes = 100 }
+        ∷ record { device = device_no 1; job = Set 1; when = Always; must = true; ms = 100; takes = 100 }
+        ∷ record { device = device_no 0; job = Set 0; when = Always; must = true; ms = 100; takes = 100 } ∷ [];
+    follows = None;
+  }
+      ∷ record {
+        commands =
+            record { device = device_no 0; job = Set 1; when = Is 5; must = true; ms = 100; takes = 100 }
+            ∷ record { device = device_no 3; job = Load; when = Always; must = true; ms = 100; takes = 100 }
+            ∷ record { device = device_no 0; job = Set 1; when = Is 18; must = true; ms = 100; takes = 100 } ∷ [];
+        follows = None;
+      } ∷ [];
   mode = record { model = Weak; scheduler = Fcfs };
 }
 
@@ -15,13 +27,47 @@ history = Arrived (run_no 1) 0 ∷ Placed (run_no 1) 0 0 ∷ Arrived (run_no 2) 
 
 abbrev pub table : WeakTable
 table = record {
-  first = record { line = []; up = true ∷ true ∷ true ∷ true ∷ []; writers = None ∷ None ∷ None ∷ None ∷ []; values = 0 ∷ 0 ∷ 0 ∷ 18 ∷ []; holders = [] ∷ [] ∷ [] ∷ [] ∷ []; touched = [] ∷ [] ∷ [] ∷ [] ∷ []; first_places = []; places = []; overdue = []; starts = []; ends = []; whole_ends = []; choices = Absent ∷ Moves (Arrived (run_no 1) 0 ∷ []) ∷ Moves (Arrived (run_no 2) 0 ∷ []) ∷ [] };
+  first = record {
+    line = [];
+    up = true ∷ true ∷ true ∷ true ∷ [];
+    writers = None ∷ None ∷ None ∷ None ∷ [];
+    values = 0 ∷ 0 ∷ 0 ∷ 18 ∷ [];
+    holders = [] ∷ [] ∷ [] ∷ [] ∷ [];
+    touched = [] ∷ [] ∷ [] ∷ [] ∷ [];
+    first_places = [];
+    places = [];
+    overdue = [];
+    starts = [];
+    ends = [];
+    whole_ends = [];
+    choices = Absent ∷ Moves (Arrived (run_no 1) 0 ∷ []) ∷ Moves (Arrived (run_no 2) 0 ∷ []) ∷ [];
+  };
   rows = still 0 no_grips 0
       ∷ row 1 no_grips 0 (λ p. record p { first_places = 0 ∷ []; places = At (split_at [] 0) ∷ []; choices = slice_set p.choices 1 (Moves (Placed (run_no 1) 0 0 ∷ [])) })
-      ∷ row 2 no_grips 0 (λ p. record p { line = Ran (run_no 1) ∷ []; holders = (1 ∷ []) ∷ (1 ∷ []) ∷ [] ∷ [] ∷ []; first_places = []; places = []; overdue = (None ∷ None ∷ None ∷ None ∷ []) ∷ []; starts = (0 ∷ 100 ∷ []) ∷ []; ends = (300 ∷ 200 ∷ []) ∷ []; whole_ends = 300 ∷ []; choices = slice_set p.choices 1 (HandsOut 0 (Commands 0)) })
+      ∷ row 2 no_grips 0 (λ p. record p {
+        line = Ran (run_no 1) ∷ [];
+        holders = (1 ∷ []) ∷ (1 ∷ []) ∷ [] ∷ [] ∷ [];
+        first_places = [];
+        places = [];
+        overdue = (None ∷ None ∷ None ∷ None ∷ []) ∷ [];
+        starts = (0 ∷ 100 ∷ []) ∷ [];
+        ends = (300 ∷ 200 ∷ []) ∷ [];
+        whole_ends = 300 ∷ [];
+        choices = slice_set p.choices 1 (HandsOut 0 (Commands 0));
+      })
       ∷ row 2 (held 0 1 (Commands 0) no_grips) 0 (λ p. record p { touched = (1 ∷ []) ∷ [] ∷ [] ∷ [] ∷ []; choices = slice_set p.choices 1 (Waits (Busy (device_no 0))) })
       ∷ row 3 (held 0 1 (Commands 0) no_grips) 0 (λ p. record p { first_places = 1 ∷ []; places = At (split_at (Ran (run_no 1) ∷ []) 1) ∷ []; choices = slice_set p.choices 2 (Moves (Placed (run_no 2) 1 0 ∷ [])) })
-      ∷ row 4 (held 0 1 (Commands 0) no_grips) 0 (λ p. record p { line = Ran (run_no 1) ∷ Ran (run_no 2) ∷ []; holders = (1 ∷ 2 ∷ []) ∷ (1 ∷ []) ∷ [] ∷ (2 ∷ []) ∷ []; first_places = []; places = []; overdue = more 0 (None ∷ None ∷ None ∷ None ∷ []) p.overdue; starts = (0 ∷ 100 ∷ []) ∷ (0 ∷ 100 ∷ []) ∷ []; ends = (300 ∷ 200 ∷ []) ∷ (300 ∷ 200 ∷ []) ∷ []; whole_ends = 300 ∷ 300 ∷ []; choices = slice_set p.choices 2 (Moves (Did (run_no 2) 0 Skipped ∷ [])) })
+      ∷ row 4 (held 0 1 (Commands 0) no_grips) 0 (λ p. record p {
+        line = Ran (run_no 1) ∷ Ran (run_no 2) ∷ [];
+        holders = (1 ∷ 2 ∷ []) ∷ (1 ∷ []) ∷ [] ∷ (2 ∷ []) ∷ [];
+        first_places = [];
+        places = [];
+        overdue = more 0 (None ∷ None ∷ None ∷ None ∷ []) p.overdue;
+        starts = (0 ∷ 100 ∷ []) ∷ (0 ∷ 100 ∷ []) ∷ [];
+        ends = (300 ∷ 200 ∷ []) ∷ (300 ∷ 200 ∷ []) ∷ [];
+        whole_ends = 300 ∷ 300 ∷ [];
+        choices = slice_set p.choices 2 (Moves (Did (run_no 2) 0 Skipped ∷ []));
+      })
       ∷ row 5 (held 0 1 (Commands 0) no_grips) 0 (λ p. record p { choices = slice_set p.choices 2 (HandsOut 3 (Commands 1)) })
       ∷ row 5 (held 3 2 (Commands 1) (held 0 1 (Commands 0) no_grips)) 0 (λ p. record p { touched = (1 ∷ []) ∷ [] ∷ [] ∷ (2 ∷ []) ∷ []; choices = slice_set p.choices 2 (Waits (Busy (device_no 3))) })
       ∷ row 6 (held 0 1 (Commands 0) no_grips) 100 (λ p. record p { holders = (1 ∷ 2 ∷ []) ∷ (1 ∷ []) ∷ [] ∷ [] ∷ []; choices = slice_set p.choices 2 (Waits (Busy (device_no 0))) })

@@ -18,7 +18,21 @@ history = Arrived (run_no 1) 0 ∷ Placed (run_no 1) 0 0 ∷ Did (run_no 1) 0 Fi
 
 abbrev pub table : Table
 table = record {
-  first = record { line = []; up = true ∷ true ∷ []; writers = None ∷ None ∷ []; values = 0 ∷ 0 ∷ []; holders = [] ∷ [] ∷ []; touched = [] ∷ [] ∷ []; first_places = []; places = []; overdue = []; starts = []; ends = []; whole_ends = []; choices = Absent ∷ Moves (Arrived (run_no 1) 0 ∷ []) ∷ Moves (Arrived (run_no 2) 0 ∷ []) ∷ [] };
+  first = record {
+    line = [];
+    up = true ∷ true ∷ [];
+    writers = None ∷ None ∷ [];
+    values = 0 ∷ 0 ∷ [];
+    holders = [] ∷ [] ∷ [];
+    touched = [] ∷ [] ∷ [];
+    first_places = [];
+    places = [];
+    overdue = [];
+    starts = [];
+    ends = [];
+    whole_ends = [];
+    choices = Absent ∷ Moves (Arrived (run_no 1) 0 ∷ []) ∷ Moves (Arrived (run_no 2) 0 ∷ []) ∷ [];
+  };
   rows = still 0 no_grips 0
       ∷ row 1 no_grips 0 (λ p. record p { first_places = 0 ∷ []; places = At (split_at [] 0) ∷ []; choices = slice_set p.choices 1 (Moves (Placed (run_no 1) 0 0 ∷ [])) })
       ∷ row 2 no_grips 0 (λ p. record p { line = Ran (run_no 1) ∷ []; holders = (1 ∷ []) ∷ [] ∷ []; first_places = []; places = []; overdue = (None ∷ None ∷ []) ∷ []; starts = (0 ∷ []) ∷ []; ends = (200 ∷ []) ∷ []; whole_ends = 200 ∷ []; choices = slice_set p.choices 1 (HandsOut 0 (Commands 0)) })
@@ -31,7 +45,17 @@ table = record {
       ∷ still 6 (held 1 0 (Probes None) (held 0 1 (Undoes 0) no_grips)) 200
       ∷ still 6 (held 0 1 (Undoes 0) no_grips) 200
       ∷ row 7 no_grips 200 (λ p. record p { choices = slice_set p.choices 1 (Over (Aborted (Refuted 1 2)) (Ended (run_no 1) (Aborted (Refuted 1 2)) ∷ [])) })
-      ∷ row 8 no_grips 200 (λ p. record p { line = Ran (run_no 1) ∷ Ran (run_no 2) ∷ []; holders = (2 ∷ []) ∷ (2 ∷ []) ∷ []; first_places = []; places = []; overdue = (None ∷ None ∷ []) ∷ (None ∷ None ∷ []) ∷ []; starts = (0 ∷ []) ∷ (200 ∷ 300 ∷ []) ∷ []; ends = (200 ∷ []) ∷ (300 ∷ 400 ∷ []) ∷ []; whole_ends = 200 ∷ 400 ∷ []; choices = slice_set p.choices 2 (Waits (Strict (run_no 1))) })
+      ∷ row 8 no_grips 200 (λ p. record p {
+        line = Ran (run_no 1) ∷ Ran (run_no 2) ∷ [];
+        holders = (2 ∷ []) ∷ (2 ∷ []) ∷ [];
+        first_places = [];
+        places = [];
+        overdue = (None ∷ None ∷ []) ∷ (None ∷ None ∷ []) ∷ [];
+        starts = (0 ∷ []) ∷ (200 ∷ 300 ∷ []) ∷ [];
+        ends = (200 ∷ []) ∷ (300 ∷ 400 ∷ []) ∷ [];
+        whole_ends = 200 ∷ 400 ∷ [];
+        choices = slice_set p.choices 2 (Waits (Strict (run_no 1)));
+      })
       ∷ row 9 no_grips 200 (λ p. record p { line = Ran (run_no 2) ∷ []; overdue = (None ∷ None ∷ []) ∷ []; starts = (200 ∷ 300 ∷ []) ∷ []; ends = (300 ∷ 400 ∷ []) ∷ []; whole_ends = 400 ∷ []; choices = Absent ∷ Over (Aborted (Refuted 1 2)) [] ∷ HandsOut 0 (Commands 0) ∷ [] })
       ∷ row 9 (held 0 2 (Commands 0) no_grips) 200 (λ p. record p { touched = (1 ∷ 2 ∷ []) ∷ [] ∷ []; choices = slice_set p.choices 2 (Waits (Busy (device_no 0))) })
       ∷ row 11 no_grips 300 (λ p. record p { line = Failed (device_no 0) 1 ∷ Ran (run_no 2) ∷ []; up = false ∷ true ∷ []; holders = [] ∷ (2 ∷ []) ∷ []; choices = slice_set p.choices 2 (HandsOut 1 (Commands 1)) })

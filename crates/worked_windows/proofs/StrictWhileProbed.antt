@@ -17,12 +17,36 @@ history = Arrived (run_no 1) 0 ∷ Placed (run_no 1) 0 0 ∷ Arrived (run_no 2) 
 
 abbrev pub table : Table
 table = record {
-  first = record { line = []; up = true ∷ true ∷ []; writers = None ∷ None ∷ []; values = 0 ∷ 0 ∷ []; holders = [] ∷ [] ∷ []; touched = [] ∷ [] ∷ []; first_places = []; places = []; overdue = []; starts = []; ends = []; whole_ends = []; choices = Absent ∷ Moves (Arrived (run_no 1) 0 ∷ []) ∷ Moves (Arrived (run_no 2) 0 ∷ []) ∷ [] };
+  first = record {
+    line = [];
+    up = true ∷ true ∷ [];
+    writers = None ∷ None ∷ [];
+    values = 0 ∷ 0 ∷ [];
+    holders = [] ∷ [] ∷ [];
+    touched = [] ∷ [] ∷ [];
+    first_places = [];
+    places = [];
+    overdue = [];
+    starts = [];
+    ends = [];
+    whole_ends = [];
+    choices = Absent ∷ Moves (Arrived (run_no 1) 0 ∷ []) ∷ Moves (Arrived (run_no 2) 0 ∷ []) ∷ [];
+  };
   rows = still 0 no_grips 0
       ∷ row 1 no_grips 0 (λ p. record p { first_places = 0 ∷ []; places = At (split_at [] 0) ∷ []; choices = slice_set p.choices 1 (Moves (Placed (run_no 1) 0 0 ∷ [])) })
       ∷ row 2 no_grips 0 (λ p. record p { line = Ran (run_no 1) ∷ []; holders = (1 ∷ []) ∷ [] ∷ []; first_places = []; places = []; overdue = (None ∷ None ∷ []) ∷ []; starts = (0 ∷ []) ∷ []; ends = (100 ∷ []) ∷ []; whole_ends = 100 ∷ []; choices = slice_set p.choices 1 (HandsOut 0 (Commands 0)) })
       ∷ row 3 no_grips 0 (λ p. record p { first_places = 0 ∷ []; places = At (split_at (Ran (run_no 1) ∷ []) 1) ∷ []; choices = slice_set p.choices 2 (Moves (Placed (run_no 2) 1 0 ∷ [])) })
-      ∷ row 4 no_grips 0 (λ p. record p { line = Ran (run_no 1) ∷ Ran (run_no 2) ∷ []; holders = (1 ∷ []) ∷ (2 ∷ []) ∷ []; first_places = []; places = []; overdue = (None ∷ None ∷ []) ∷ (None ∷ None ∷ []) ∷ []; starts = (0 ∷ []) ∷ (0 ∷ []) ∷ []; ends = (100 ∷ []) ∷ (100 ∷ []) ∷ []; whole_ends = 100 ∷ 100 ∷ []; choices = slice_set p.choices 2 (Waits (Strict (run_no 1))) })
+      ∷ row 4 no_grips 0 (λ p. record p {
+        line = Ran (run_no 1) ∷ Ran (run_no 2) ∷ [];
+        holders = (1 ∷ []) ∷ (2 ∷ []) ∷ [];
+        first_places = [];
+        places = [];
+        overdue = (None ∷ None ∷ []) ∷ (None ∷ None ∷ []) ∷ [];
+        starts = (0 ∷ []) ∷ (0 ∷ []) ∷ [];
+        ends = (100 ∷ []) ∷ (100 ∷ []) ∷ [];
+        whole_ends = 100 ∷ 100 ∷ [];
+        choices = slice_set p.choices 2 (Waits (Strict (run_no 1)));
+      })
       ∷ row 4 (held 0 0 (Probes None) no_grips) 0 (λ p. record p { choices = slice_set p.choices 1 (Waits (Busy (device_no 0))) })
       ∷ row 4 no_grips 0 (λ p. record p { choices = slice_set p.choices 1 (HandsOut 0 (Commands 0)) })
       ∷ still 4 (held 1 0 (Probes None) no_grips) 0 ∷ still 4 no_grips 0

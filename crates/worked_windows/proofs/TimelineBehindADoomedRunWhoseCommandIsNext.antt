@@ -17,14 +17,48 @@ history = Arrived (run_no 1) 0 ∷ Placed (run_no 1) 0 0 ∷ Did (run_no 1) 0 (F
 
 abbrev pub table : Table
 table = record {
-  first = record { line = []; up = true ∷ true ∷ []; writers = None ∷ None ∷ []; values = 0 ∷ 0 ∷ []; holders = [] ∷ [] ∷ []; touched = [] ∷ [] ∷ []; first_places = []; places = []; overdue = []; starts = []; ends = []; whole_ends = []; choices = Absent ∷ Moves (Arrived (run_no 1) 0 ∷ []) ∷ Moves (Arrived (run_no 2) 0 ∷ []) ∷ [] };
+  first = record {
+    line = [];
+    up = true ∷ true ∷ [];
+    writers = None ∷ None ∷ [];
+    values = 0 ∷ 0 ∷ [];
+    holders = [] ∷ [] ∷ [];
+    touched = [] ∷ [] ∷ [];
+    first_places = [];
+    places = [];
+    overdue = [];
+    starts = [];
+    ends = [];
+    whole_ends = [];
+    choices = Absent ∷ Moves (Arrived (run_no 1) 0 ∷ []) ∷ Moves (Arrived (run_no 2) 0 ∷ []) ∷ [];
+  };
   rows = still 0 no_grips 0
       ∷ row 1 no_grips 0 (λ p. record p { first_places = 0 ∷ []; places = At (split_at [] 0) ∷ []; choices = slice_set p.choices 1 (Moves (Placed (run_no 1) 0 0 ∷ [])) })
-      ∷ row 2 no_grips 0 (λ p. record p { line = Ran (run_no 1) ∷ []; holders = (1 ∷ []) ∷ (1 ∷ []) ∷ []; first_places = []; places = []; overdue = (None ∷ None ∷ []) ∷ []; starts = (100 ∷ 0 ∷ []) ∷ []; ends = (200 ∷ 100 ∷ []) ∷ []; whole_ends = 200 ∷ []; choices = slice_set p.choices 1 (HandsOut 1 (Commands 0)) })
+      ∷ row 2 no_grips 0 (λ p. record p {
+        line = Ran (run_no 1) ∷ [];
+        holders = (1 ∷ []) ∷ (1 ∷ []) ∷ [];
+        first_places = [];
+        places = [];
+        overdue = (None ∷ None ∷ []) ∷ [];
+        starts = (100 ∷ 0 ∷ []) ∷ [];
+        ends = (200 ∷ 100 ∷ []) ∷ [];
+        whole_ends = 200 ∷ [];
+        choices = slice_set p.choices 1 (HandsOut 1 (Commands 0));
+      })
       ∷ row 2 (held 1 1 (Commands 0) no_grips) 0 (λ p. record p { touched = [] ∷ (1 ∷ []) ∷ []; choices = slice_set p.choices 1 (Waits (Busy (device_no 1))) })
       ∷ row 4 no_grips 0 (λ p. record p { holders = [] ∷ [] ∷ []; choices = slice_set p.choices 1 (Over (Aborted (Refuted 0 0)) (Ended (run_no 1) (Aborted (Refuted 0 0)) ∷ [])) })
       ∷ row 5 no_grips 0 (λ p. record p { first_places = 0 ∷ []; places = At (split_at (Ran (run_no 1) ∷ []) 1) ∷ []; choices = slice_set p.choices 2 (Moves (Placed (run_no 2) 1 0 ∷ [])) })
-      ∷ row 6 no_grips 0 (λ p. record p { line = Ran (run_no 1) ∷ Ran (run_no 2) ∷ []; holders = (2 ∷ []) ∷ [] ∷ []; first_places = []; places = []; overdue = (None ∷ None ∷ []) ∷ (None ∷ None ∷ []) ∷ []; starts = (100 ∷ 0 ∷ []) ∷ (0 ∷ []) ∷ []; ends = (200 ∷ 100 ∷ []) ∷ (10 ∷ []) ∷ []; whole_ends = 200 ∷ 10 ∷ []; choices = slice_set p.choices 2 (HandsOut 0 (Commands 0)) })
+      ∷ row 6 no_grips 0 (λ p. record p {
+        line = Ran (run_no 1) ∷ Ran (run_no 2) ∷ [];
+        holders = (2 ∷ []) ∷ [] ∷ [];
+        first_places = [];
+        places = [];
+        overdue = (None ∷ None ∷ []) ∷ (None ∷ None ∷ []) ∷ [];
+        starts = (100 ∷ 0 ∷ []) ∷ (0 ∷ []) ∷ [];
+        ends = (200 ∷ 100 ∷ []) ∷ (10 ∷ []) ∷ [];
+        whole_ends = 200 ∷ 10 ∷ [];
+        choices = slice_set p.choices 2 (HandsOut 0 (Commands 0));
+      })
       ∷ row 7 no_grips 0 (λ p. record p { line = Ran (run_no 2) ∷ []; overdue = (None ∷ None ∷ []) ∷ []; starts = (0 ∷ []) ∷ []; ends = (10 ∷ []) ∷ []; whole_ends = 10 ∷ []; choices = slice_set p.choices 1 (Over (Aborted (Refuted 0 0)) []) })
       ∷ row 7 (held 0 2 (Commands 0) no_grips) 0 (λ p. record p { touched = (2 ∷ []) ∷ (1 ∷ []) ∷ []; choices = slice_set p.choices 2 (Waits (Busy (device_no 0))) })
       ∷ row 8 no_grips 10 (λ p. record p { writers = Some 2 ∷ None ∷ []; holders = [] ∷ [] ∷ []; choices = slice_set p.choices 2 (Over Committed (Ended (run_no 2) Committed ∷ [])) })

@@ -5,7 +5,13 @@ use Rattle.worked_windows.proofs.Words.{Absent, Arrived, At, Behind, Busy, Check
 abbrev pub window : Setting
 window = record {
   runs = record { commands = record { device = device_no 2; job = Set 20; when = Always; must = true; ms = 100; takes = 100 } ∷ []; follows = None }
-      ∷ record { commands = record { device = device_no 3; job = Check 0; when = Always; must = false; ms = 0; takes = 0 } ∷ record { device = device_no 2; job = Set 25; when = Always; must = true; ms = 100; takes = 100 } ∷ record { device = device_no 1; job = Set 1; when = Always; must = true; ms = 0; takes = 0 } ∷ []; follows = None }
+      ∷ record {
+        commands =
+            record { device = device_no 3; job = Check 0; when = Always; must = false; ms = 0; takes = 0 }
+            ∷ record { device = device_no 2; job = Set 25; when = Always; must = true; ms = 100; takes = 100 }
+            ∷ record { device = device_no 1; job = Set 1; when = Always; must = true; ms = 0; takes = 0 } ∷ [];
+        follows = None;
+      }
       ∷ record { commands = record { device = device_no 0; job = Set 1; when = Always; must = true; ms = 150; takes = 150 } ∷ record { device = device_no 1; job = Set 0; when = Always; must = true; ms = 100; takes = 100 } ∷ []; follows = None }
       ∷ record { commands = record { device = device_no 0; job = Set 0; when = Always; must = true; ms = 100; takes = 100 } ∷ []; follows = None } ∷ [];
   mode = record { model = Eventual; scheduler = Timeline };
@@ -21,16 +27,72 @@ history = Arrived (run_no 1) 0 ∷ Placed (run_no 1) 0 0 ∷ Arrived (run_no 2) 
 
 abbrev pub table : Table
 table = record {
-  first = record { line = []; up = true ∷ true ∷ true ∷ true ∷ []; writers = None ∷ None ∷ None ∷ None ∷ []; values = 0 ∷ 0 ∷ 18 ∷ 0 ∷ []; holders = [] ∷ [] ∷ [] ∷ [] ∷ []; touched = [] ∷ [] ∷ [] ∷ [] ∷ []; first_places = []; places = []; overdue = []; starts = []; ends = []; whole_ends = []; choices = Absent ∷ Moves (Arrived (run_no 1) 0 ∷ []) ∷ Moves (Arrived (run_no 2) 0 ∷ []) ∷ Moves (Arrived (run_no 3) 0 ∷ []) ∷ Moves (Arrived (run_no 4) 0 ∷ []) ∷ [] };
+  first = record {
+    line = [];
+    up = true ∷ true ∷ true ∷ true ∷ [];
+    writers = None ∷ None ∷ None ∷ None ∷ [];
+    values = 0 ∷ 0 ∷ 18 ∷ 0 ∷ [];
+    holders = [] ∷ [] ∷ [] ∷ [] ∷ [];
+    touched = [] ∷ [] ∷ [] ∷ [] ∷ [];
+    first_places = [];
+    places = [];
+    overdue = [];
+    starts = [];
+    ends = [];
+    whole_ends = [];
+    choices =
+        Absent ∷ Moves (Arrived (run_no 1) 0 ∷ []) ∷ Moves (Arrived (run_no 2) 0 ∷ []) ∷ Moves (Arrived (run_no 3) 0 ∷ [])
+        ∷ Moves (Arrived (run_no 4) 0 ∷ []) ∷ [];
+  };
   rows = still 0 no_grips 0
       ∷ row 1 no_grips 0 (λ p. record p { first_places = 0 ∷ []; places = At (split_at [] 0) ∷ []; choices = slice_set p.choices 1 (Moves (Placed (run_no 1) 0 0 ∷ [])) })
-      ∷ row 2 no_grips 0 (λ p. record p { line = Ran (run_no 1) ∷ []; holders = [] ∷ [] ∷ (1 ∷ []) ∷ [] ∷ []; first_places = []; places = []; overdue = (None ∷ None ∷ None ∷ None ∷ []) ∷ []; starts = (0 ∷ []) ∷ []; ends = (100 ∷ []) ∷ []; whole_ends = 100 ∷ []; choices = slice_set p.choices 1 (HandsOut 2 (Commands 0)) })
+      ∷ row 2 no_grips 0 (λ p. record p {
+        line = Ran (run_no 1) ∷ [];
+        holders = [] ∷ [] ∷ (1 ∷ []) ∷ [] ∷ [];
+        first_places = [];
+        places = [];
+        overdue = (None ∷ None ∷ None ∷ None ∷ []) ∷ [];
+        starts = (0 ∷ []) ∷ [];
+        ends = (100 ∷ []) ∷ [];
+        whole_ends = 100 ∷ [];
+        choices = slice_set p.choices 1 (HandsOut 2 (Commands 0));
+      })
       ∷ row 3 no_grips 0 (λ p. record p { first_places = 0 ∷ []; places = At (split_at (Ran (run_no 1) ∷ []) 1) ∷ []; choices = slice_set p.choices 2 (Moves (Placed (run_no 2) 1 0 ∷ [])) })
-      ∷ row 4 no_grips 0 (λ p. record p { line = Ran (run_no 1) ∷ Ran (run_no 2) ∷ []; holders = [] ∷ (2 ∷ []) ∷ (1 ∷ 2 ∷ []) ∷ (2 ∷ []) ∷ []; first_places = []; places = []; overdue = more 0 (None ∷ None ∷ None ∷ None ∷ []) p.overdue; starts = (0 ∷ []) ∷ (200 ∷ 100 ∷ 0 ∷ []) ∷ []; ends = (100 ∷ []) ∷ (200 ∷ 200 ∷ 0 ∷ []) ∷ []; whole_ends = 100 ∷ 200 ∷ []; choices = slice_set p.choices 2 (HandsOut 3 (Commands 0)) })
+      ∷ row 4 no_grips 0 (λ p. record p {
+        line = Ran (run_no 1) ∷ Ran (run_no 2) ∷ [];
+        holders = [] ∷ (2 ∷ []) ∷ (1 ∷ 2 ∷ []) ∷ (2 ∷ []) ∷ [];
+        first_places = [];
+        places = [];
+        overdue = more 0 (None ∷ None ∷ None ∷ None ∷ []) p.overdue;
+        starts = (0 ∷ []) ∷ (200 ∷ 100 ∷ 0 ∷ []) ∷ [];
+        ends = (100 ∷ []) ∷ (200 ∷ 200 ∷ 0 ∷ []) ∷ [];
+        whole_ends = 100 ∷ 200 ∷ [];
+        choices = slice_set p.choices 2 (HandsOut 3 (Commands 0));
+      })
       ∷ row 5 no_grips 0 (λ p. record p { first_places = 0 ∷ []; places = At (split_at (Ran (run_no 1) ∷ Ran (run_no 2) ∷ []) 2) ∷ []; choices = slice_set p.choices 3 (Moves (Placed (run_no 3) 2 0 ∷ [])) })
-      ∷ row 6 no_grips 0 (λ p. record p { line = p.line ++ Ran (run_no 3) ∷ []; holders = (3 ∷ []) ∷ (2 ∷ 3 ∷ []) ∷ (1 ∷ 2 ∷ []) ∷ (2 ∷ []) ∷ []; first_places = []; places = []; overdue = more 0 (None ∷ None ∷ None ∷ None ∷ []) p.overdue; starts = more 2 (0 ∷ 200 ∷ []) p.starts; ends = more 2 (150 ∷ 300 ∷ []) p.ends; whole_ends = 100 ∷ 200 ∷ 300 ∷ []; choices = slice_set p.choices 3 (HandsOut 0 (Commands 0)) })
+      ∷ row 6 no_grips 0 (λ p. record p {
+        line = p.line ++ Ran (run_no 3) ∷ [];
+        holders = (3 ∷ []) ∷ (2 ∷ 3 ∷ []) ∷ (1 ∷ 2 ∷ []) ∷ (2 ∷ []) ∷ [];
+        first_places = [];
+        places = [];
+        overdue = more 0 (None ∷ None ∷ None ∷ None ∷ []) p.overdue;
+        starts = more 2 (0 ∷ 200 ∷ []) p.starts;
+        ends = more 2 (150 ∷ 300 ∷ []) p.ends;
+        whole_ends = 100 ∷ 200 ∷ 300 ∷ [];
+        choices = slice_set p.choices 3 (HandsOut 0 (Commands 0));
+      })
       ∷ row 7 no_grips 0 (λ p. record p { first_places = 0 ∷ []; places = At (split_at (Ran (run_no 1) ∷ Ran (run_no 2) ∷ Ran (run_no 3) ∷ []) 3) ∷ []; choices = slice_set p.choices 4 (Moves (Placed (run_no 4) 3 0 ∷ [])) })
-      ∷ row 8 no_grips 0 (λ p. record p { line = p.line ++ Ran (run_no 4) ∷ []; holders = slice_set p.holders 0 (3 ∷ 4 ∷ []); first_places = []; places = []; overdue = more 0 (None ∷ None ∷ None ∷ None ∷ []) p.overdue; starts = more 3 (150 ∷ []) p.starts; ends = more 3 (250 ∷ []) p.ends; whole_ends = 100 ∷ 200 ∷ 300 ∷ 250 ∷ []; choices = slice_set p.choices 4 (Waits (Behind (device_no 0) (run_no 3))) })
+      ∷ row 8 no_grips 0 (λ p. record p {
+        line = p.line ++ Ran (run_no 4) ∷ [];
+        holders = slice_set p.holders 0 (3 ∷ 4 ∷ []);
+        first_places = [];
+        places = [];
+        overdue = more 0 (None ∷ None ∷ None ∷ None ∷ []) p.overdue;
+        starts = more 3 (150 ∷ []) p.starts;
+        ends = more 3 (250 ∷ []) p.ends;
+        whole_ends = 100 ∷ 200 ∷ 300 ∷ 250 ∷ [];
+        choices = slice_set p.choices 4 (Waits (Behind (device_no 0) (run_no 3)));
+      })
       ∷ row 8 (held 2 1 (Commands 0) no_grips) 0 (λ p. record p { touched = [] ∷ [] ∷ (1 ∷ []) ∷ [] ∷ []; choices = slice_set p.choices 1 (Waits (Busy (device_no 2))) })
       ∷ row 9 no_grips 100 (λ p. record p { writers = None ∷ None ∷ Some 1 ∷ None ∷ []; values = 0 ∷ 0 ∷ 20 ∷ 0 ∷ []; holders = slice_set p.holders 2 (2 ∷ []); choices = slice_set p.choices 1 (Over Committed (Ended (run_no 1) Committed ∷ [])) })
       ∷ row 10 no_grips 100 (λ p. record p { overdue = less 0 p.overdue; starts = less 0 p.starts; ends = less 0 p.ends; whole_ends = 200 ∷ 300 ∷ 250 ∷ []; choices = slice_set p.choices 1 (Over Committed []) })
@@ -54,7 +116,13 @@ table = record {
       ∷ give 14 0 3 (Commands 0) Worked (Did (run_no 3) 0 Fine ∷ []) ∷ give 15 1 3 (Commands 1) Worked (Did (run_no 3) 1 Fine ∷ [])
       ∷ give 17 0 4 (Commands 0) Worked (Did (run_no 4) 0 Fine ∷ []) ∷ [];
   calls = 2 ∷ 2 ∷ 2 ∷ 1 ∷ [];
-  outcome = record { order = Ran (run_no 1) ∷ Ran (run_no 2) ∷ Ran (run_no 3) ∷ Ran (run_no 4) ∷ []; home = record { value = 0; up = true } ∷ record { value = 0; up = true } ∷ record { value = 25; up = true } ∷ record { value = 0; up = true } ∷ []; answers = record { run = run_no 1; answers = Fine ∷ [] } ∷ record { run = run_no 2; answers = (Found 0) ∷ Fine ∷ Fine ∷ [] } ∷ record { run = run_no 3; answers = Fine ∷ Fine ∷ [] } ∷ record { run = run_no 4; answers = Fine ∷ [] } ∷ [] };
+  outcome = record {
+    order = Ran (run_no 1) ∷ Ran (run_no 2) ∷ Ran (run_no 3) ∷ Ran (run_no 4) ∷ [];
+    home = record { value = 0; up = true } ∷ record { value = 0; up = true } ∷ record { value = 25; up = true } ∷ record { value = 0; up = true } ∷ [];
+    answers =
+        record { run = run_no 1; answers = Fine ∷ [] } ∷ record { run = run_no 2; answers = (Found 0) ∷ Fine ∷ Fine ∷ [] }
+        ∷ record { run = run_no 3; answers = Fine ∷ Fine ∷ [] } ∷ record { run = run_no 4; answers = Fine ∷ [] } ∷ [];
+  };
 }
 
 is_worked : IsWorked window history table

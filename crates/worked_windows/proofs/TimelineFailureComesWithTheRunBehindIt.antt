@@ -19,18 +19,62 @@ history = Arrived (run_no 1) 0 ∷ Placed (run_no 1) 0 0 ∷ Arrived (run_no 2) 
 
 abbrev pub table : Table
 table = record {
-  first = record { line = []; up = true ∷ true ∷ true ∷ []; writers = None ∷ None ∷ None ∷ []; values = 0 ∷ 0 ∷ 18 ∷ []; holders = [] ∷ [] ∷ [] ∷ []; touched = [] ∷ [] ∷ [] ∷ []; first_places = []; places = []; overdue = []; starts = []; ends = []; whole_ends = []; choices = Absent ∷ Moves (Arrived (run_no 1) 0 ∷ []) ∷ Moves (Arrived (run_no 2) 0 ∷ []) ∷ Moves (Arrived (run_no 3) 0 ∷ []) ∷ [] };
+  first = record {
+    line = [];
+    up = true ∷ true ∷ true ∷ [];
+    writers = None ∷ None ∷ None ∷ [];
+    values = 0 ∷ 0 ∷ 18 ∷ [];
+    holders = [] ∷ [] ∷ [] ∷ [];
+    touched = [] ∷ [] ∷ [] ∷ [];
+    first_places = [];
+    places = [];
+    overdue = [];
+    starts = [];
+    ends = [];
+    whole_ends = [];
+    choices = Absent ∷ Moves (Arrived (run_no 1) 0 ∷ []) ∷ Moves (Arrived (run_no 2) 0 ∷ []) ∷ Moves (Arrived (run_no 3) 0 ∷ []) ∷ [];
+  };
   rows = still 0 no_grips 0
       ∷ row 1 no_grips 0 (λ p. record p { first_places = 0 ∷ []; places = At (split_at [] 0) ∷ []; choices = slice_set p.choices 1 (Moves (Placed (run_no 1) 0 0 ∷ [])) })
-      ∷ row 2 no_grips 0 (λ p. record p { line = Ran (run_no 1) ∷ []; holders = (1 ∷ []) ∷ [] ∷ (1 ∷ []) ∷ []; first_places = []; places = []; overdue = (None ∷ None ∷ None ∷ []) ∷ []; starts = (0 ∷ 100 ∷ []) ∷ []; ends = (100 ∷ 1100 ∷ []) ∷ []; whole_ends = 1100 ∷ []; choices = slice_set p.choices 1 (HandsOut 0 (Commands 0)) })
+      ∷ row 2 no_grips 0 (λ p. record p {
+        line = Ran (run_no 1) ∷ [];
+        holders = (1 ∷ []) ∷ [] ∷ (1 ∷ []) ∷ [];
+        first_places = [];
+        places = [];
+        overdue = (None ∷ None ∷ None ∷ []) ∷ [];
+        starts = (0 ∷ 100 ∷ []) ∷ [];
+        ends = (100 ∷ 1100 ∷ []) ∷ [];
+        whole_ends = 1100 ∷ [];
+        choices = slice_set p.choices 1 (HandsOut 0 (Commands 0));
+      })
       ∷ row 3 no_grips 0 (λ p. record p { first_places = 0 ∷ []; places = At (split_at (Ran (run_no 1) ∷ []) 1) ∷ []; choices = slice_set p.choices 2 (Moves (Placed (run_no 2) 1 0 ∷ [])) })
-      ∷ row 4 no_grips 0 (λ p. record p { line = Ran (run_no 1) ∷ Ran (run_no 2) ∷ []; holders = (1 ∷ 2 ∷ []) ∷ (2 ∷ []) ∷ (1 ∷ []) ∷ []; first_places = []; places = []; overdue = more 0 (None ∷ None ∷ None ∷ []) p.overdue; starts = (0 ∷ 100 ∷ []) ∷ (100 ∷ 0 ∷ []) ∷ []; ends = (100 ∷ 1100 ∷ []) ∷ (200 ∷ 100 ∷ []) ∷ []; whole_ends = 1100 ∷ 200 ∷ []; choices = slice_set p.choices 2 (HandsOut 1 (Commands 0)) })
+      ∷ row 4 no_grips 0 (λ p. record p {
+        line = Ran (run_no 1) ∷ Ran (run_no 2) ∷ [];
+        holders = (1 ∷ 2 ∷ []) ∷ (2 ∷ []) ∷ (1 ∷ []) ∷ [];
+        first_places = [];
+        places = [];
+        overdue = more 0 (None ∷ None ∷ None ∷ []) p.overdue;
+        starts = (0 ∷ 100 ∷ []) ∷ (100 ∷ 0 ∷ []) ∷ [];
+        ends = (100 ∷ 1100 ∷ []) ∷ (200 ∷ 100 ∷ []) ∷ [];
+        whole_ends = 1100 ∷ 200 ∷ [];
+        choices = slice_set p.choices 2 (HandsOut 1 (Commands 0));
+      })
       ∷ row 4 (held 0 1 (Commands 0) no_grips) 0 (λ p. record p { touched = (1 ∷ []) ∷ [] ∷ [] ∷ []; choices = slice_set p.choices 1 (Waits (Busy (device_no 0))) })
       ∷ row 5 no_grips 0 (λ p. record p { writers = Some 1 ∷ None ∷ None ∷ []; values = 1 ∷ 0 ∷ 18 ∷ []; holders = (2 ∷ []) ∷ (2 ∷ []) ∷ (1 ∷ []) ∷ []; choices = slice_set p.choices 1 (HandsOut 2 (Commands 1)) })
       ∷ still 5 (held 0 0 (Probes None) no_grips) 0
       ∷ row 6 no_grips 0 (λ p. record p { line = more 1 (Failed (device_no 0) 1) p.line; up = false ∷ true ∷ true ∷ [] })
       ∷ row 7 no_grips 0 (λ p. record p { first_places = 0 ∷ []; places = At (split_at (Ran (run_no 1) ∷ Failed (device_no 0) 1 ∷ Ran (run_no 2) ∷ []) 3) ∷ []; choices = slice_set p.choices 3 (Moves (Placed (run_no 3) 3 0 ∷ [])) })
-      ∷ row 8 no_grips 0 (λ p. record p { line = p.line ++ Ran (run_no 3) ∷ []; holders = (2 ∷ []) ∷ (2 ∷ 3 ∷ []) ∷ (1 ∷ []) ∷ []; first_places = []; places = []; overdue = more 0 (None ∷ None ∷ None ∷ []) p.overdue; starts = more 2 (100 ∷ []) p.starts; ends = more 2 (200 ∷ []) p.ends; whole_ends = 1100 ∷ 200 ∷ 200 ∷ []; choices = slice_set p.choices 3 (Waits (Behind (device_no 1) (run_no 2))) })
+      ∷ row 8 no_grips 0 (λ p. record p {
+        line = p.line ++ Ran (run_no 3) ∷ [];
+        holders = (2 ∷ []) ∷ (2 ∷ 3 ∷ []) ∷ (1 ∷ []) ∷ [];
+        first_places = [];
+        places = [];
+        overdue = more 0 (None ∷ None ∷ None ∷ []) p.overdue;
+        starts = more 2 (100 ∷ []) p.starts;
+        ends = more 2 (200 ∷ []) p.ends;
+        whole_ends = 1100 ∷ 200 ∷ 200 ∷ [];
+        choices = slice_set p.choices 3 (Waits (Behind (device_no 1) (run_no 2)));
+      })
       ∷ row 8 (held 2 1 (Commands 1) no_grips) 0 (λ p. record p { touched = (1 ∷ []) ∷ [] ∷ (1 ∷ []) ∷ []; choices = slice_set p.choices 1 (Waits (Busy (device_no 2))) })
       ∷ row 9 no_grips 1000 (λ p. record p { writers = Some 1 ∷ None ∷ Some 1 ∷ []; values = 1 ∷ 0 ∷ 20 ∷ []; holders = (2 ∷ []) ∷ (2 ∷ 3 ∷ []) ∷ [] ∷ []; choices = slice_set p.choices 1 (Over Committed (Ended (run_no 1) Committed ∷ [])) })
       ∷ row 10 no_grips 1000 (λ p. record p { overdue = less 0 p.overdue; starts = less 0 p.starts; ends = less 0 p.ends; whole_ends = 200 ∷ 200 ∷ []; choices = slice_set p.choices 1 (Over Committed []) })
@@ -49,7 +93,13 @@ table = record {
       ∷ give 8 2 1 (Commands 1) Worked (Did (run_no 1) 1 Fine ∷ []) ∷ give 10 1 2 (Commands 0) Worked (Did (run_no 2) 0 Fine ∷ [])
       ∷ give 13 1 3 (Commands 0) Worked (Did (run_no 3) 0 Fine ∷ []) ∷ give 15 1 0 (Probes None) Worked [] ∷ give 15 2 0 (Probes None) Worked [] ∷ [];
   calls = 1 ∷ 2 ∷ 1 ∷ [];
-  outcome = record { order = Ran (run_no 1) ∷ Failed (device_no 0) 1 ∷ Ran (run_no 2) ∷ Ran (run_no 3) ∷ []; home = record { value = 1; up = false } ∷ record { value = 0; up = true } ∷ record { value = 20; up = true } ∷ []; answers = record { run = run_no 1; answers = Fine ∷ Fine ∷ [] } ∷ record { run = run_no 2; answers = Fine ∷ Down ∷ [] } ∷ record { run = run_no 3; answers = Fine ∷ [] } ∷ [] };
+  outcome = record {
+    order = Ran (run_no 1) ∷ Failed (device_no 0) 1 ∷ Ran (run_no 2) ∷ Ran (run_no 3) ∷ [];
+    home = record { value = 1; up = false } ∷ record { value = 0; up = true } ∷ record { value = 20; up = true } ∷ [];
+    answers =
+        record { run = run_no 1; answers = Fine ∷ Fine ∷ [] } ∷ record { run = run_no 2; answers = Fine ∷ Down ∷ [] }
+        ∷ record { run = run_no 3; answers = Fine ∷ [] } ∷ [];
+  };
 }
 
 is_worked : IsWorked window history table

@@ -21,19 +21,83 @@ history = Arrived (run_no 2) 0 ∷ Placed (run_no 2) 0 0 ∷ Arrived (run_no 1) 
 
 abbrev pub table : Table
 table = record {
-  first = record { line = []; up = true ∷ true ∷ true ∷ true ∷ []; writers = None ∷ None ∷ None ∷ None ∷ []; values = 0 ∷ 0 ∷ 18 ∷ 0 ∷ []; holders = [] ∷ [] ∷ [] ∷ [] ∷ []; touched = [] ∷ [] ∷ [] ∷ [] ∷ []; first_places = []; places = []; overdue = []; starts = []; ends = []; whole_ends = []; choices = Absent ∷ Moves (Arrived (run_no 1) 0 ∷ []) ∷ Moves (Arrived (run_no 2) 0 ∷ []) ∷ Moves (Arrived (run_no 3) 0 ∷ []) ∷ Moves (Arrived (run_no 4) 0 ∷ []) ∷ [] };
+  first = record {
+    line = [];
+    up = true ∷ true ∷ true ∷ true ∷ [];
+    writers = None ∷ None ∷ None ∷ None ∷ [];
+    values = 0 ∷ 0 ∷ 18 ∷ 0 ∷ [];
+    holders = [] ∷ [] ∷ [] ∷ [] ∷ [];
+    touched = [] ∷ [] ∷ [] ∷ [] ∷ [];
+    first_places = [];
+    places = [];
+    overdue = [];
+    starts = [];
+    ends = [];
+    whole_ends = [];
+    choices =
+        Absent ∷ Moves (Arrived (run_no 1) 0 ∷ []) ∷ Moves (Arrived (run_no 2) 0 ∷ []) ∷ Moves (Arrived (run_no 3) 0 ∷ [])
+        ∷ Moves (Arrived (run_no 4) 0 ∷ []) ∷ [];
+  };
   rows = still 0 no_grips 0
       ∷ row 1 no_grips 0 (λ p. record p { first_places = 0 ∷ []; places = At (split_at [] 0) ∷ []; choices = slice_set p.choices 2 (Moves (Placed (run_no 2) 0 0 ∷ [])) })
-      ∷ row 2 no_grips 0 (λ p. record p { line = Ran (run_no 2) ∷ []; holders = [] ∷ (2 ∷ []) ∷ [] ∷ [] ∷ []; first_places = []; places = []; overdue = (None ∷ None ∷ None ∷ None ∷ []) ∷ []; starts = (0 ∷ []) ∷ []; ends = (100 ∷ []) ∷ []; whole_ends = 100 ∷ []; choices = slice_set p.choices 2 (HandsOut 1 (Commands 0)) })
+      ∷ row 2 no_grips 0 (λ p. record p {
+        line = Ran (run_no 2) ∷ [];
+        holders = [] ∷ (2 ∷ []) ∷ [] ∷ [] ∷ [];
+        first_places = [];
+        places = [];
+        overdue = (None ∷ None ∷ None ∷ None ∷ []) ∷ [];
+        starts = (0 ∷ []) ∷ [];
+        ends = (100 ∷ []) ∷ [];
+        whole_ends = 100 ∷ [];
+        choices = slice_set p.choices 2 (HandsOut 1 (Commands 0));
+      })
       ∷ row 3 no_grips 0 (λ p. record p { first_places = 0 ∷ []; places = At (split_at (Ran (run_no 2) ∷ []) 0) ∷ []; choices = slice_set p.choices 1 (Moves (Placed (run_no 1) 0 0 ∷ [])) })
-      ∷ row 4 no_grips 0 (λ p. record p { line = Ran (run_no 1) ∷ Ran (run_no 2) ∷ []; holders = [] ∷ (2 ∷ []) ∷ (1 ∷ []) ∷ (1 ∷ []) ∷ []; first_places = []; places = []; overdue = more 0 (None ∷ None ∷ None ∷ None ∷ []) p.overdue; starts = (0 ∷ 1000 ∷ []) ∷ (0 ∷ []) ∷ []; ends = (1000 ∷ 1100 ∷ []) ∷ (100 ∷ []) ∷ []; whole_ends = 1100 ∷ 100 ∷ []; choices = slice_set p.choices 1 (HandsOut 2 (Commands 0)) })
+      ∷ row 4 no_grips 0 (λ p. record p {
+        line = Ran (run_no 1) ∷ Ran (run_no 2) ∷ [];
+        holders = [] ∷ (2 ∷ []) ∷ (1 ∷ []) ∷ (1 ∷ []) ∷ [];
+        first_places = [];
+        places = [];
+        overdue = more 0 (None ∷ None ∷ None ∷ None ∷ []) p.overdue;
+        starts = (0 ∷ 1000 ∷ []) ∷ (0 ∷ []) ∷ [];
+        ends = (1000 ∷ 1100 ∷ []) ∷ (100 ∷ []) ∷ [];
+        whole_ends = 1100 ∷ 100 ∷ [];
+        choices = slice_set p.choices 1 (HandsOut 2 (Commands 0));
+      })
       ∷ row 5 no_grips 0 (λ p. record p { first_places = 0 ∷ []; places = At (split_at (Ran (run_no 1) ∷ Ran (run_no 2) ∷ []) 1) ∷ []; choices = slice_set p.choices 3 (Waits (Follow (run_no 2))) })
       ∷ row 5 (held 1 2 (Commands 0) no_grips) 0 (λ p. record p { touched = [] ∷ (2 ∷ []) ∷ [] ∷ [] ∷ []; choices = slice_set p.choices 2 (Waits (Busy (device_no 1))) })
       ∷ row 6 no_grips 0 (λ p. record p { writers = None ∷ Some 2 ∷ None ∷ None ∷ []; values = 0 ∷ 1 ∷ 18 ∷ 0 ∷ []; holders = [] ∷ [] ∷ (1 ∷ []) ∷ (1 ∷ []) ∷ []; choices = slice_set p.choices 2 (Over Committed (Ended (run_no 2) Committed ∷ [])) })
-      ∷ row 7 no_grips 0 (λ p. record p { first_places = 2 ∷ []; places = At (split_at (Ran (run_no 1) ∷ Ran (run_no 2) ∷ []) 2) ∷ []; overdue = less 0 p.overdue; starts = (0 ∷ 1000 ∷ []) ∷ []; ends = (1000 ∷ 1100 ∷ []) ∷ []; whole_ends = 1100 ∷ []; choices = slice_set (slice_set p.choices 2 (Over Committed [])) 3 (Moves (Placed (run_no 3) 2 0 ∷ [])) })
-      ∷ row 8 no_grips 0 (λ p. record p { line = p.line ++ Ran (run_no 3) ∷ []; holders = (3 ∷ []) ∷ [] ∷ (1 ∷ []) ∷ (1 ∷ 3 ∷ []) ∷ []; first_places = []; places = []; overdue = more 0 (None ∷ None ∷ None ∷ None ∷ []) p.overdue; starts = (0 ∷ 1000 ∷ []) ∷ (0 ∷ 1100 ∷ []) ∷ []; ends = (1000 ∷ 1100 ∷ []) ∷ (950 ∷ 1200 ∷ []) ∷ []; whole_ends = 1100 ∷ 1200 ∷ []; choices = slice_set p.choices 3 (HandsOut 0 (Commands 0)) })
+      ∷ row 7 no_grips 0 (λ p. record p {
+        first_places = 2 ∷ [];
+        places = At (split_at (Ran (run_no 1) ∷ Ran (run_no 2) ∷ []) 2) ∷ [];
+        overdue = less 0 p.overdue;
+        starts = (0 ∷ 1000 ∷ []) ∷ [];
+        ends = (1000 ∷ 1100 ∷ []) ∷ [];
+        whole_ends = 1100 ∷ [];
+        choices = slice_set (slice_set p.choices 2 (Over Committed [])) 3 (Moves (Placed (run_no 3) 2 0 ∷ []));
+      })
+      ∷ row 8 no_grips 0 (λ p. record p {
+        line = p.line ++ Ran (run_no 3) ∷ [];
+        holders = (3 ∷ []) ∷ [] ∷ (1 ∷ []) ∷ (1 ∷ 3 ∷ []) ∷ [];
+        first_places = [];
+        places = [];
+        overdue = more 0 (None ∷ None ∷ None ∷ None ∷ []) p.overdue;
+        starts = (0 ∷ 1000 ∷ []) ∷ (0 ∷ 1100 ∷ []) ∷ [];
+        ends = (1000 ∷ 1100 ∷ []) ∷ (950 ∷ 1200 ∷ []) ∷ [];
+        whole_ends = 1100 ∷ 1200 ∷ [];
+        choices = slice_set p.choices 3 (HandsOut 0 (Commands 0));
+      })
       ∷ row 9 no_grips 0 (λ p. record p { first_places = 0 ∷ []; places = At (split_at (Ran (run_no 1) ∷ Ran (run_no 2) ∷ Ran (run_no 3) ∷ []) 3) ∷ []; choices = slice_set p.choices 4 (Moves (Placed (run_no 4) 3 0 ∷ [])) })
-      ∷ row 10 no_grips 0 (λ p. record p { line = p.line ++ Ran (run_no 4) ∷ []; holders = slice_set p.holders 0 (3 ∷ 4 ∷ []); first_places = []; places = []; overdue = more 0 (None ∷ None ∷ None ∷ None ∷ []) p.overdue; starts = more 2 (950 ∷ []) p.starts; ends = more 2 (1050 ∷ []) p.ends; whole_ends = 1100 ∷ 1200 ∷ 1050 ∷ []; choices = slice_set p.choices 4 (Waits (Behind (device_no 0) (run_no 3))) })
+      ∷ row 10 no_grips 0 (λ p. record p {
+        line = p.line ++ Ran (run_no 4) ∷ [];
+        holders = slice_set p.holders 0 (3 ∷ 4 ∷ []);
+        first_places = [];
+        places = [];
+        overdue = more 0 (None ∷ None ∷ None ∷ None ∷ []) p.overdue;
+        starts = more 2 (950 ∷ []) p.starts;
+        ends = more 2 (1050 ∷ []) p.ends;
+        whole_ends = 1100 ∷ 1200 ∷ 1050 ∷ [];
+        choices = slice_set p.choices 4 (Waits (Behind (device_no 0) (run_no 3)));
+      })
       ∷ row 10 (held 2 1 (Commands 0) no_grips) 0 (λ p. record p { touched = [] ∷ (2 ∷ []) ∷ (1 ∷ []) ∷ [] ∷ []; choices = slice_set p.choices 1 (Waits (Busy (device_no 2))) })
       ∷ row 11 no_grips 1000 (λ p. record p { writers = None ∷ Some 2 ∷ Some 1 ∷ None ∷ []; values = 0 ∷ 1 ∷ 20 ∷ 0 ∷ []; holders = slice_set p.holders 2 []; choices = slice_set p.choices 1 (HandsOut 3 (Commands 1)) })
       ∷ row 11 (held 3 1 (Commands 1) no_grips) 1000 (λ p. record p { touched = [] ∷ (2 ∷ []) ∷ (1 ∷ []) ∷ (1 ∷ []) ∷ []; choices = slice_set p.choices 1 (Waits (Busy (device_no 3))) })
@@ -51,7 +115,13 @@ table = record {
       ∷ give 11 3 1 (Commands 1) Worked (Did (run_no 1) 1 Fine ∷ []) ∷ give 13 0 3 (Commands 0) Worked (Did (run_no 3) 0 Fine ∷ [])
       ∷ give 14 3 3 (Commands 1) Worked (Did (run_no 3) 1 Fine ∷ []) ∷ give 16 0 4 (Commands 0) Worked (Did (run_no 4) 0 Fine ∷ []) ∷ [];
   calls = 2 ∷ 1 ∷ 1 ∷ 2 ∷ [];
-  outcome = record { order = Ran (run_no 1) ∷ Ran (run_no 2) ∷ Ran (run_no 3) ∷ Ran (run_no 4) ∷ []; home = record { value = 0; up = true } ∷ record { value = 1; up = true } ∷ record { value = 20; up = true } ∷ record { value = 0; up = true } ∷ []; answers = record { run = run_no 1; answers = Fine ∷ Fine ∷ [] } ∷ record { run = run_no 2; answers = Fine ∷ [] } ∷ record { run = run_no 3; answers = Fine ∷ Fine ∷ [] } ∷ record { run = run_no 4; answers = Fine ∷ [] } ∷ [] };
+  outcome = record {
+    order = Ran (run_no 1) ∷ Ran (run_no 2) ∷ Ran (run_no 3) ∷ Ran (run_no 4) ∷ [];
+    home = record { value = 0; up = true } ∷ record { value = 1; up = true } ∷ record { value = 20; up = true } ∷ record { value = 0; up = true } ∷ [];
+    answers =
+        record { run = run_no 1; answers = Fine ∷ Fine ∷ [] } ∷ record { run = run_no 2; answers = Fine ∷ [] }
+        ∷ record { run = run_no 3; answers = Fine ∷ Fine ∷ [] } ∷ record { run = run_no 4; answers = Fine ∷ [] } ∷ [];
+  };
 }
 
 is_worked : IsWorked window history table

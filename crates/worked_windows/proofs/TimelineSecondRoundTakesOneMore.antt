@@ -5,7 +5,13 @@ use Rattle.worked_windows.proofs.Words.{Absent, Arrived, At, Behind, Busy, Check
 abbrev pub window : Setting
 window = record {
   runs = record { commands = record { device = device_no 3; job = Check 0; when = Always; must = false; ms = 0; takes = 0 } ∷ record { device = device_no 0; job = Set 1; when = Always; must = true; ms = 500; takes = 500 } ∷ []; follows = None }
-      ∷ record { commands = record { device = device_no 2; job = Set 20; when = Always; must = true; ms = 500; takes = 500 } ∷ record { device = device_no 0; job = Set 0; when = Always; must = true; ms = 100; takes = 100 } ∷ record { device = device_no 1; job = Set 1; when = Always; must = true; ms = 100; takes = 100 } ∷ []; follows = None }
+      ∷ record {
+        commands =
+            record { device = device_no 2; job = Set 20; when = Always; must = true; ms = 500; takes = 500 }
+            ∷ record { device = device_no 0; job = Set 0; when = Always; must = true; ms = 100; takes = 100 }
+            ∷ record { device = device_no 1; job = Set 1; when = Always; must = true; ms = 100; takes = 100 } ∷ [];
+        follows = None;
+      }
       ∷ record { commands = record { device = device_no 0; job = Set 1; when = Always; must = true; ms = 100; takes = 100 } ∷ []; follows = None } ∷ [];
   mode = record { model = Eventual; scheduler = Timeline };
   kinds = States 2 ∷ States 2 ∷ Range 10 30 ∷ States 2 ∷ [];
@@ -19,18 +25,67 @@ history = Arrived (run_no 1) 0 ∷ Placed (run_no 1) 0 0 ∷ Arrived (run_no 2) 
 
 abbrev pub table : Table
 table = record {
-  first = record { line = []; up = true ∷ true ∷ true ∷ true ∷ []; writers = None ∷ None ∷ None ∷ None ∷ []; values = 0 ∷ 0 ∷ 18 ∷ 0 ∷ []; holders = [] ∷ [] ∷ [] ∷ [] ∷ []; touched = [] ∷ [] ∷ [] ∷ [] ∷ []; first_places = []; places = []; overdue = []; starts = []; ends = []; whole_ends = []; choices = Absent ∷ Moves (Arrived (run_no 1) 0 ∷ []) ∷ Moves (Arrived (run_no 2) 0 ∷ []) ∷ Moves (Arrived (run_no 3) 0 ∷ []) ∷ [] };
+  first = record {
+    line = [];
+    up = true ∷ true ∷ true ∷ true ∷ [];
+    writers = None ∷ None ∷ None ∷ None ∷ [];
+    values = 0 ∷ 0 ∷ 18 ∷ 0 ∷ [];
+    holders = [] ∷ [] ∷ [] ∷ [] ∷ [];
+    touched = [] ∷ [] ∷ [] ∷ [] ∷ [];
+    first_places = [];
+    places = [];
+    overdue = [];
+    starts = [];
+    ends = [];
+    whole_ends = [];
+    choices = Absent ∷ Moves (Arrived (run_no 1) 0 ∷ []) ∷ Moves (Arrived (run_no 2) 0 ∷ []) ∷ Moves (Arrived (run_no 3) 0 ∷ []) ∷ [];
+  };
   rows = still 0 no_grips 0
       ∷ row 1 no_grips 0 (λ p. record p { first_places = 0 ∷ []; places = At (split_at [] 0) ∷ []; choices = slice_set p.choices 1 (Moves (Placed (run_no 1) 0 0 ∷ [])) })
-      ∷ row 2 no_grips 0 (λ p. record p { line = Ran (run_no 1) ∷ []; holders = (1 ∷ []) ∷ [] ∷ [] ∷ (1 ∷ []) ∷ []; first_places = []; places = []; overdue = (None ∷ None ∷ None ∷ None ∷ []) ∷ []; starts = (0 ∷ 0 ∷ []) ∷ []; ends = (500 ∷ 0 ∷ []) ∷ []; whole_ends = 500 ∷ []; choices = slice_set p.choices 1 (HandsOut 3 (Commands 0)) })
+      ∷ row 2 no_grips 0 (λ p. record p {
+        line = Ran (run_no 1) ∷ [];
+        holders = (1 ∷ []) ∷ [] ∷ [] ∷ (1 ∷ []) ∷ [];
+        first_places = [];
+        places = [];
+        overdue = (None ∷ None ∷ None ∷ None ∷ []) ∷ [];
+        starts = (0 ∷ 0 ∷ []) ∷ [];
+        ends = (500 ∷ 0 ∷ []) ∷ [];
+        whole_ends = 500 ∷ [];
+        choices = slice_set p.choices 1 (HandsOut 3 (Commands 0));
+      })
       ∷ row 3 no_grips 0 (λ p. record p { first_places = 0 ∷ []; places = At (split_at (Ran (run_no 1) ∷ []) 1) ∷ []; choices = slice_set p.choices 2 (Moves (Placed (run_no 2) 1 0 ∷ [])) })
-      ∷ row 4 no_grips 0 (λ p. record p { line = Ran (run_no 1) ∷ Ran (run_no 2) ∷ []; holders = (1 ∷ 2 ∷ []) ∷ (2 ∷ []) ∷ (2 ∷ []) ∷ (1 ∷ []) ∷ []; first_places = []; places = []; overdue = more 0 (None ∷ None ∷ None ∷ None ∷ []) p.overdue; starts = (0 ∷ 0 ∷ []) ∷ (500 ∷ 600 ∷ 0 ∷ []) ∷ []; ends = (500 ∷ 0 ∷ []) ∷ (600 ∷ 700 ∷ 500 ∷ []) ∷ []; whole_ends = 500 ∷ 700 ∷ []; choices = slice_set p.choices 2 (HandsOut 2 (Commands 0)) })
+      ∷ row 4 no_grips 0 (λ p. record p {
+        line = Ran (run_no 1) ∷ Ran (run_no 2) ∷ [];
+        holders = (1 ∷ 2 ∷ []) ∷ (2 ∷ []) ∷ (2 ∷ []) ∷ (1 ∷ []) ∷ [];
+        first_places = [];
+        places = [];
+        overdue = more 0 (None ∷ None ∷ None ∷ None ∷ []) p.overdue;
+        starts = (0 ∷ 0 ∷ []) ∷ (500 ∷ 600 ∷ 0 ∷ []) ∷ [];
+        ends = (500 ∷ 0 ∷ []) ∷ (600 ∷ 700 ∷ 500 ∷ []) ∷ [];
+        whole_ends = 500 ∷ 700 ∷ [];
+        choices = slice_set p.choices 2 (HandsOut 2 (Commands 0));
+      })
       ∷ row 5 no_grips 0 (λ p. record p { first_places = 0 ∷ []; places = At (split_at (Ran (run_no 1) ∷ Ran (run_no 2) ∷ []) 2) ∷ []; choices = slice_set p.choices 3 (Moves (Placed (run_no 3) 2 0 ∷ [])) })
-      ∷ row 6 no_grips 0 (λ p. record p { line = p.line ++ Ran (run_no 3) ∷ []; holders = slice_set p.holders 0 (1 ∷ 2 ∷ 3 ∷ []); first_places = []; places = []; overdue = more 0 (None ∷ None ∷ None ∷ None ∷ []) p.overdue; starts = more 2 (600 ∷ []) p.starts; ends = more 2 (700 ∷ []) p.ends; whole_ends = 500 ∷ 700 ∷ 700 ∷ []; choices = slice_set p.choices 3 (Waits (Behind (device_no 0) (run_no 1))) })
+      ∷ row 6 no_grips 0 (λ p. record p {
+        line = p.line ++ Ran (run_no 3) ∷ [];
+        holders = slice_set p.holders 0 (1 ∷ 2 ∷ 3 ∷ []);
+        first_places = [];
+        places = [];
+        overdue = more 0 (None ∷ None ∷ None ∷ None ∷ []) p.overdue;
+        starts = more 2 (600 ∷ []) p.starts;
+        ends = more 2 (700 ∷ []) p.ends;
+        whole_ends = 500 ∷ 700 ∷ 700 ∷ [];
+        choices = slice_set p.choices 3 (Waits (Behind (device_no 0) (run_no 1)));
+      })
       ∷ row 6 (held 3 1 (Commands 0) no_grips) 0 (λ p. record p { touched = [] ∷ [] ∷ [] ∷ (1 ∷ []) ∷ []; choices = slice_set p.choices 1 (Waits (Busy (device_no 3))) })
       ∷ row 7 no_grips 0 (λ p. record p { holders = slice_set p.holders 3 []; choices = slice_set p.choices 1 (HandsOut 0 (Commands 1)) })
       ∷ row 7 (held 0 1 (Commands 1) no_grips) 0 (λ p. record p { touched = (1 ∷ []) ∷ [] ∷ [] ∷ (1 ∷ []) ∷ []; choices = slice_set p.choices 1 (Waits (Busy (device_no 0))) })
-      ∷ row 8 no_grips 500 (λ p. record p { writers = Some 1 ∷ None ∷ None ∷ None ∷ []; values = 1 ∷ 0 ∷ 18 ∷ 0 ∷ []; holders = (2 ∷ 3 ∷ []) ∷ (2 ∷ []) ∷ (2 ∷ []) ∷ [] ∷ []; choices = Absent ∷ Over Committed (Ended (run_no 1) Committed ∷ []) ∷ HandsOut 2 (Commands 0) ∷ Waits (Behind (device_no 0) (run_no 2)) ∷ [] })
+      ∷ row 8 no_grips 500 (λ p. record p {
+        writers = Some 1 ∷ None ∷ None ∷ None ∷ [];
+        values = 1 ∷ 0 ∷ 18 ∷ 0 ∷ [];
+        holders = (2 ∷ 3 ∷ []) ∷ (2 ∷ []) ∷ (2 ∷ []) ∷ [] ∷ [];
+        choices = Absent ∷ Over Committed (Ended (run_no 1) Committed ∷ []) ∷ HandsOut 2 (Commands 0) ∷ Waits (Behind (device_no 0) (run_no 2)) ∷ [];
+      })
       ∷ row 9 no_grips 500 (λ p. record p { overdue = less 0 p.overdue; starts = less 0 p.starts; ends = less 0 p.ends; whole_ends = 700 ∷ 700 ∷ []; choices = slice_set p.choices 1 (Over Committed []) })
       ∷ row 9 (held 2 2 (Commands 0) no_grips) 500 (λ p. record p { touched = (1 ∷ []) ∷ [] ∷ (2 ∷ []) ∷ (1 ∷ []) ∷ []; choices = slice_set p.choices 2 (Waits (Busy (device_no 2))) })
       ∷ row 10 no_grips 1000 (λ p. record p { writers = Some 1 ∷ None ∷ Some 2 ∷ None ∷ []; values = 1 ∷ 0 ∷ 20 ∷ 0 ∷ []; holders = slice_set p.holders 2 []; choices = slice_set p.choices 2 (HandsOut 0 (Commands 1)) })
@@ -46,7 +101,13 @@ table = record {
       ∷ give 9 2 2 (Commands 0) Worked (Did (run_no 2) 0 Fine ∷ []) ∷ give 10 0 2 (Commands 1) Worked (Did (run_no 2) 1 Fine ∷ [])
       ∷ give 11 1 2 (Commands 2) Worked (Did (run_no 2) 2 Fine ∷ []) ∷ give 13 0 3 (Commands 0) Worked (Did (run_no 3) 0 Fine ∷ []) ∷ [];
   calls = 3 ∷ 1 ∷ 1 ∷ 1 ∷ [];
-  outcome = record { order = Ran (run_no 1) ∷ Ran (run_no 2) ∷ Ran (run_no 3) ∷ []; home = record { value = 1; up = true } ∷ record { value = 1; up = true } ∷ record { value = 20; up = true } ∷ record { value = 0; up = true } ∷ []; answers = record { run = run_no 1; answers = (Found 0) ∷ Fine ∷ [] } ∷ record { run = run_no 2; answers = Fine ∷ Fine ∷ Fine ∷ [] } ∷ record { run = run_no 3; answers = Fine ∷ [] } ∷ [] };
+  outcome = record {
+    order = Ran (run_no 1) ∷ Ran (run_no 2) ∷ Ran (run_no 3) ∷ [];
+    home = record { value = 1; up = true } ∷ record { value = 1; up = true } ∷ record { value = 20; up = true } ∷ record { value = 0; up = true } ∷ [];
+    answers =
+        record { run = run_no 1; answers = (Found 0) ∷ Fine ∷ [] } ∷ record { run = run_no 2; answers = Fine ∷ Fine ∷ Fine ∷ [] }
+        ∷ record { run = run_no 3; answers = Fine ∷ [] } ∷ [];
+  };
 }
 
 is_worked : IsWorked window history table

@@ -18,16 +18,50 @@ history = Arrived (run_no 1) 0 ∷ Placed (run_no 1) 0 0 ∷ Did (run_no 1) 0 Fi
 
 abbrev pub table : Table
 table = record {
-  first = record { line = []; up = true ∷ true ∷ []; writers = None ∷ None ∷ []; values = 1 ∷ 1 ∷ []; holders = [] ∷ [] ∷ []; touched = [] ∷ [] ∷ []; first_places = []; places = []; overdue = []; starts = []; ends = []; whole_ends = []; choices = Absent ∷ Moves (Arrived (run_no 1) 0 ∷ []) ∷ Moves (Arrived (run_no 2) 0 ∷ []) ∷ [] };
+  first = record {
+    line = [];
+    up = true ∷ true ∷ [];
+    writers = None ∷ None ∷ [];
+    values = 1 ∷ 1 ∷ [];
+    holders = [] ∷ [] ∷ [];
+    touched = [] ∷ [] ∷ [];
+    first_places = [];
+    places = [];
+    overdue = [];
+    starts = [];
+    ends = [];
+    whole_ends = [];
+    choices = Absent ∷ Moves (Arrived (run_no 1) 0 ∷ []) ∷ Moves (Arrived (run_no 2) 0 ∷ []) ∷ [];
+  };
   rows = still 0 no_grips 0
       ∷ row 1 no_grips 0 (λ p. record p { first_places = 0 ∷ []; places = At (split_at [] 0) ∷ []; choices = slice_set p.choices 1 (Moves (Placed (run_no 1) 0 0 ∷ [])) })
-      ∷ row 2 no_grips 0 (λ p. record p { line = Ran (run_no 1) ∷ []; holders = (1 ∷ []) ∷ (1 ∷ []) ∷ []; first_places = []; places = []; overdue = (None ∷ None ∷ []) ∷ []; starts = (100 ∷ 0 ∷ []) ∷ []; ends = (200 ∷ 100 ∷ []) ∷ []; whole_ends = 200 ∷ []; choices = slice_set p.choices 1 (HandsOut 1 (Commands 0)) })
+      ∷ row 2 no_grips 0 (λ p. record p {
+        line = Ran (run_no 1) ∷ [];
+        holders = (1 ∷ []) ∷ (1 ∷ []) ∷ [];
+        first_places = [];
+        places = [];
+        overdue = (None ∷ None ∷ []) ∷ [];
+        starts = (100 ∷ 0 ∷ []) ∷ [];
+        ends = (200 ∷ 100 ∷ []) ∷ [];
+        whole_ends = 200 ∷ [];
+        choices = slice_set p.choices 1 (HandsOut 1 (Commands 0));
+      })
       ∷ row 2 (held 1 1 (Commands 0) no_grips) 0 (λ p. record p { touched = [] ∷ (1 ∷ []) ∷ []; choices = slice_set p.choices 1 (Waits (Busy (device_no 1))) })
       ∷ still 2 (held 0 0 (Probes None) (held 1 1 (Commands 0) no_grips)) 0
       ∷ still 2 (held 1 1 (Commands 0) no_grips) 0 ∷ still 2 (held 0 0 (Probes None) (held 1 1 (Commands 0) no_grips)) 0
       ∷ row 3 (held 0 0 (Probes None) no_grips) 100 (λ p. record p { writers = None ∷ Some 1 ∷ []; values = 1 ∷ 0 ∷ []; holders = (1 ∷ []) ∷ [] ∷ []; choices = Absent ∷ Waits (Busy (device_no 0)) ∷ Moves (Arrived (run_no 2) 100 ∷ []) ∷ [] })
       ∷ row 4 (held 0 0 (Probes None) no_grips) 100 (λ p. record p { first_places = 1 ∷ []; places = At (split_at (Ran (run_no 1) ∷ []) 1) ∷ []; choices = slice_set p.choices 2 (Moves (Placed (run_no 2) 1 100 ∷ [])) })
-      ∷ row 5 (held 0 0 (Probes None) no_grips) 100 (λ p. record p { line = Ran (run_no 1) ∷ Ran (run_no 2) ∷ []; holders = (1 ∷ []) ∷ (2 ∷ []) ∷ []; first_places = []; places = []; overdue = (None ∷ None ∷ []) ∷ (None ∷ None ∷ []) ∷ []; starts = (100 ∷ 0 ∷ []) ∷ (100 ∷ []) ∷ []; ends = (200 ∷ 100 ∷ []) ∷ (200 ∷ []) ∷ []; whole_ends = 200 ∷ 200 ∷ []; choices = slice_set p.choices 2 (Waits (Dirty (device_no 1) (run_no 1))) })
+      ∷ row 5 (held 0 0 (Probes None) no_grips) 100 (λ p. record p {
+        line = Ran (run_no 1) ∷ Ran (run_no 2) ∷ [];
+        holders = (1 ∷ []) ∷ (2 ∷ []) ∷ [];
+        first_places = [];
+        places = [];
+        overdue = (None ∷ None ∷ []) ∷ (None ∷ None ∷ []) ∷ [];
+        starts = (100 ∷ 0 ∷ []) ∷ (100 ∷ []) ∷ [];
+        ends = (200 ∷ 100 ∷ []) ∷ (200 ∷ []) ∷ [];
+        whole_ends = 200 ∷ 200 ∷ [];
+        choices = slice_set p.choices 2 (Waits (Dirty (device_no 1) (run_no 1)));
+      })
       ∷ row 6 no_grips 100 (λ p. record p { line = more 0 (Failed (device_no 0) 1) p.line; up = false ∷ true ∷ []; choices = slice_set p.choices 1 (Moves (Did (run_no 1) 1 Down ∷ Doomed (run_no 1) (MustDown 1) ∷ [])) })
       ∷ still 6 (held 1 0 (Probes None) no_grips) 100
       ∷ row 8 (held 1 0 (Probes None) no_grips) 100 (λ p. record p { holders = [] ∷ (1 ∷ 2 ∷ []) ∷ []; touched = (1 ∷ []) ∷ (1 ∷ []) ∷ []; choices = Absent ∷ Waits (Busy (device_no 1)) ∷ Waits (Behind (device_no 1) (run_no 1)) ∷ [] })

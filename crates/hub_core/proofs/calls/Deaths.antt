@@ -81,14 +81,21 @@ dead_turn : {D : Type 0} {stands turns probes faults : D → ℕ} (h : Inside D)
     → (dead_first h grip.slip ≡ not (did (read_in h.history) grip.slip.maker (command_at h.history.setting.runs grip.slip.maker k).device.0)) × MayNote grip.slip.maker (lineage_at h.order.table grip.slip.device.0)
 dead_turn h k tag grip returned strong whole =
     let for = for_command _ _ _ _ (open_of h) grip.slip grip.task k whole.shown returned.there returned.purpose in
-    let turn = may_note h.history.setting (read_in h.history) (configuration_of (open_of h)).grips (held_in (open_of h)) grip.slip.device.0 grip.slip.maker k h.order.table (read_whole h whole) (whole.shown.configuration.ordered strong).order for.grip (returned_for h (ForCommand k) tag grip returned whole).below (whole.order.table_is.ordered strong) in
+    let turn = may_note h.history.setting (read_in h.history) (configuration_of (open_of h)).grips
+    (held_in (open_of h)) grip.slip.device.0 grip.slip.maker k h.order.table (read_whole h whole) (whole.shown.configuration.ordered strong).order for.grip
+    (returned_for h (ForCommand k) tag grip returned whole).below (whole.order.table_is.ordered strong) in
     (turn.0 ∙ ap (λ x. not (did (read_in h.history) grip.slip.maker x)) (sym for.on), turn.1)
 
 -- the doom, by whether the run was doomed before, has had an answer there, and must not fail; under the weak model no access is lost
 dooms_are : (w : Setting) (n : Reading) (r k : ℕ) (d : DeviceNo) (doomed had weak must first : Bool) → (weak ≡ false → first ≡ not had)
-    → (if doomed then [] else (if had && not weak then Doomed (run_no r) (Lost d) ∷ [] else (if must then Doomed (run_no r) (MustDown k) ∷ [] else []))) ≡ option_to_list (option_map (λ c. Doomed (run_no r) c) (if doomed then None else (if first || weak then (if must then Some (MustDown k) else None) else Some (Lost d))))
+    → (if doomed then [] else (if had && not weak then Doomed (run_no r) (Lost d) ∷ [] else (if must then Doomed (run_no r) (MustDown k) ∷ [] else [])))
+    ≡ option_to_list
+    (option_map (λ c. Doomed (run_no r) c) (if doomed then None else (if first || weak then (if must then Some (MustDown k) else None) else Some (Lost d))))
 dooms_are w n r k d true had weak must first told = refl
-dooms_are w n r k d false had true must first told = ap (λ b. if b then Doomed (run_no r) (Lost d) ∷ [] else (if must then Doomed (run_no r) (MustDown k) ∷ [] else [])) (never had) ∙ by_must must ∙ ap (λ b. option_to_list (option_map (λ c. Doomed (run_no r) c) (if b then (if must then Some (MustDown k) else None) else Some (Lost d)))) (sym (or-true first))
+dooms_are w n r k d false had true must first told =
+    ap (λ b. if b then Doomed (run_no r) (Lost d) ∷ [] else (if must then Doomed (run_no r) (MustDown k) ∷ [] else [])) (never had) ∙ by_must must
+    ∙ ap (λ b. option_to_list (option_map (λ c. Doomed (run_no r) c) (if b then (if must then Some (MustDown k) else None) else Some (Lost d))))
+    (sym (or-true first))
   where
     never : (b : Bool) → (b && not true) ≡ false
     never true = refl
@@ -164,8 +171,12 @@ pub record AfterDeath (k : ℕ) (slip : Slip) (cause : Option Cause) (fell : His
   pub turn : is_weak fell.setting.mode ≡ false → MayNote slip.maker (lineage_at table slip.device.0)
   pub doom_room : IsSome cause → 1 < fell.spare
 
-pub after_death : {D : Type 0} {stands turns probes faults : D → ℕ} (h : Inside D) (k tag : ℕ) (grip : Gripped D Done) (slip : Slip) (first : Bool) (cause : Option Cause) (fell : HistoryState) (table : List LineageState) → IsReturned stands turns probes faults h (ForCommand k) tag grip → slip ≡ grip.slip → has_died grip.stage.told ≡ true
-    → first ≡ dead_first h slip → cause ≡ died_by h.history.setting (read_in h.history) slip.maker k (first || is_weak h.history.setting.mode) → fell ≡ with_entry h.history slip.maker (Fell slip.device) → table ≡ with_lineage h.order.table slip.device.0 (counted_up false) → IsWhole stands turns probes faults h → AfterDeath k slip cause fell table
+pub after_death : {D : Type 0} {stands turns probes faults : D → ℕ} (h : Inside D) (k tag : ℕ) (grip : Gripped D Done) (slip : Slip) (first : Bool)
+    (cause : Option Cause) (fell : HistoryState) (table : List LineageState) → IsReturned stands turns probes faults h (ForCommand k) tag grip
+    → slip ≡ grip.slip → has_died grip.stage.told ≡ true
+    → first ≡ dead_first h slip → cause ≡ died_by h.history.setting (read_in h.history) slip.maker k (first || is_weak h.history.setting.mode)
+    → fell ≡ with_entry h.history slip.maker (Fell slip.device) → table ≡ with_lineage h.order.table slip.device.0 (counted_up false)
+    → IsWhole stands turns probes faults h → AfterDeath k slip cause fell table
 after_death h k tag grip slip first cause fell table returned same died first_is because told counted whole =
     subst (λ (z : Slip). AfterDeath k z cause fell table) (sym same)
     (subst (λ c. AfterDeath k grip.slip c fell table) (sym cause_is)
@@ -178,7 +189,10 @@ after_death h k tag grip slip first cause fell table returned same died first_is
       next = next_is;
       on = for.on;
       device = let size = length_set h.order.table grip.slip.device.0 (counted_up false) in let devices : length h.order.table ≡ length h.history.setting.first = whole.order.table_is.devices in omega (arith, below, size, devices);
-      turn = λ strong. subst (λ (s : LineageState). MayNote r s) (sym (lineage_set h.order.table grip.slip.device.0 (counted_up false) (let devices : length h.order.table ≡ length h.history.setting.first = whole.order.table_is.devices in omega (arith, below, devices)))) (counted_turn (dead_turn h k tag grip returned strong whole).1);
+      turn =
+          λ strong. subst (λ (s : LineageState). MayNote r s) (sym (lineage_set h.order.table grip.slip.device.0 (counted_up false)
+          (let devices : length h.order.table ≡ length h.history.setting.first = whole.order.table_is.devices in omega (arith, below, devices))))
+          (counted_turn (dead_turn h k tag grip returned strong whole).1);
       doom_room = λ some. doomed_room (death_of h grip.slip k) some places;
     }))))
   where
@@ -226,7 +240,9 @@ pub record IsDead {D : Type 0} (h : Inside D) (grip : Gripped D Done) (k : ℕ) 
   pub answered : mid ≡ with_entry fell slip.maker (Did (run_no slip.maker) k Down)
   pub doomed : after ≡ with_doom mid slip.maker cause
 
-pub died_back : {D : Type 0} {stands turns probes faults : D → ℕ} (h t : Inside D) (k tag : ℕ) (grip : Gripped D Done) (slip : Slip) (events : Events) (first : Bool) (cause : Option Cause) (fell mid : HistoryState) → IsReturned stands turns probes faults h (ForCommand k) tag grip → IsHome h t grip → IsDead h grip k slip events first cause fell mid t.history → IsWhole stands turns probes faults h
+pub died_back : {D : Type 0} {stands turns probes faults : D → ℕ} (h t : Inside D) (k tag : ℕ) (grip : Gripped D Done) (slip : Slip) (events : Events)
+    (first : Bool) (cause : Option Cause) (fell mid : HistoryState) → IsReturned stands turns probes faults h (ForCommand k) tag grip → IsHome h t grip
+    → IsDead h grip k slip events first cause fell mid t.history → IsWhole stands turns probes faults h
     → CameHome stands turns probes faults h t (ForCommand k) tag grip (death_entries slip k cause)
 died_back h t k tag grip slip events first cause fell mid returned parts dead whole =
     record {
@@ -300,7 +316,9 @@ pub record DeathNoted {D : Type 0} (h t : Inside D) (slip : Slip) (events : Even
 -- .. as its own slip says
 order_dead : {D : Type 0} {stands turns probes faults : D → ℕ} (h t : Inside D) (k tag : ℕ) (grip : Gripped D Done) (events : Events) (first : Bool) (died : Option RunNo) (cause : Option Cause) (fell mid : HistoryState) (view : View) (wrote : Option ℕ) (last : Bool) (fallen noted : KeptOrder)
     → IsReturned stands turns probes faults h (ForCommand k) tag grip → IsHome h t grip → IsDead h grip k grip.slip events first cause fell mid t.history → DeathNoted h t grip.slip events first died cause mid view wrote last fallen noted
-    → IsWellFormed t.history.setting (entries_of t.history.history) → (configuration_of (open_of t)).grips ≡ put (configuration_of (open_of h)).grips grip.slip.device.0 None → IsWhole stands turns probes faults h → OrderIsBeside h.rounds t.history (configuration_of (open_of t)).grips t.order.line t.order.table
+    → IsWellFormed t.history.setting (entries_of t.history.history)
+    → (configuration_of (open_of t)).grips ≡ put (configuration_of (open_of h)).grips grip.slip.device.0 None → IsWhole stands turns probes faults h
+    → OrderIsBeside h.rounds t.history (configuration_of (open_of t)).grips t.order.line t.order.table
 order_dead {D = D} h t k tag grip events first died cause fell mid view wrote last fallen noted returned home dead notes formed gripped whole =
     order_dies h.history fell mid t.history g f grip.slip.device r k cause noted.line t.order.line noted.table t.order.table
     whole.shown.configuration.grips for.run for.grip dead.told dead.answered dead.doomed formed gripped notes.line_after notes.unchanged notes.changed
@@ -346,12 +364,17 @@ order_dead {D = D} h t k tag grip events first died cause fell mid view wrote la
     reads : (mid.setting ≡ w) × (read_in mid ≡ entry w (entry w n (Fell grip.slip.device)) (Did (run_no r) k Down))
     reads = (
       ap (λ (x : HistoryState). x.setting) dead.answered ∙ ap (λ (x : HistoryState). x.setting) dead.told,
-      ap read_in dead.answered ∙ ap (λ (x : HistoryState). read_in (with_entry x r (Did (run_no r) k Down))) dead.told ∙ read_more w (with_entry h.history r (Fell grip.slip.device)).history r (Did (run_no r) k Down) ∙ ap (λ x. entry w x (Did (run_no r) k Down)) (read_more w h.history.history r (Fell grip.slip.device)),
+      ap read_in dead.answered ∙ ap (λ (x : HistoryState). read_in (with_entry x r (Did (run_no r) k Down))) dead.told
+          ∙ read_more w (with_entry h.history r (Fell grip.slip.device)).history r (Did (run_no r) k Down)
+          ∙ ap (λ x. entry w x (Did (run_no r) k Down)) (read_more w h.history.history r (Fell grip.slip.device)),
     )
 
 -- a command died: what is kept is kept
-pub died_whole : {D : Type 0} {stands turns probes faults : D → ℕ} (h t : Inside D) (k tag : ℕ) (grip : Gripped D Done) (slip : Slip) (events : Events) (first : Bool) (died : Option RunNo) (cause : Option Cause) (fell mid : HistoryState) (view : View) (wrote : Option ℕ) (last : Bool) (fallen noted : KeptOrder)
-    → IsReturned stands turns probes faults h (ForCommand k) tag grip → IsHome h t grip → IsDead h grip k slip events first cause fell mid t.history → DeathNoted h t slip events first died cause mid view wrote last fallen noted → IsWhole stands turns probes faults h → IsWhole stands turns probes faults t
+pub died_whole : {D : Type 0} {stands turns probes faults : D → ℕ} (h t : Inside D) (k tag : ℕ) (grip : Gripped D Done) (slip : Slip) (events : Events)
+    (first : Bool) (died : Option RunNo) (cause : Option Cause) (fell mid : HistoryState) (view : View) (wrote : Option ℕ) (last : Bool)
+    (fallen noted : KeptOrder)
+    → IsReturned stands turns probes faults h (ForCommand k) tag grip → IsHome h t grip → IsDead h grip k slip events first cause fell mid t.history
+    → DeathNoted h t slip events first died cause mid view wrote last fallen noted → IsWhole stands turns probes faults h → IsWhole stands turns probes faults t
 died_whole h t k tag grip slip events first died cause fell mid view wrote last fallen noted returned home dead notes whole =
     came_whole h t (ForCommand k) tag grip (death_entries slip k cause) (died_back h t k tag grip slip events first cause fell mid returned home dead whole)
     (λ formed gripped. order_dead h t k tag grip events first died cause fell mid view wrote last fallen noted returned home
@@ -375,7 +398,9 @@ drop_may h v tag grip slip events returned falls whole =
     may_fall h (ForUndo v) tag grip (Undid (run_no grip.slip.maker) grip.slip.device false ∷ []) slip events (record { returned = returned; gives = drop_gives h v grip falls.died; leave = refl }) falls whole
 
 -- behind the failure there is a place for the undo
-pub drop_place : {D : Type 0} {stands turns probes faults : D → ℕ} (h : Inside D) (v tag : ℕ) (grip : Gripped D Done) (slip : Slip) (fell : HistoryState) → IsReturned stands turns probes faults h (ForUndo v) tag grip → has_died grip.stage.told ≡ true → fell ≡ with_entry h.history slip.maker (Fell slip.device) → IsWhole stands turns probes faults h → 0 < fell.spare
+pub drop_place : {D : Type 0} {stands turns probes faults : D → ℕ} (h : Inside D) (v tag : ℕ) (grip : Gripped D Done) (slip : Slip) (fell : HistoryState)
+    → IsReturned stands turns probes faults h (ForUndo v) tag grip → has_died grip.stage.told ≡ true → fell ≡ with_entry h.history slip.maker (Fell slip.device)
+    → IsWhole stands turns probes faults h → 0 < fell.spare
 drop_place h v tag grip slip fell returned died told whole =
     let places : length (dropped_entries grip.slip) ≤ h.history.spare = subst (λ es. length es ≤ h.history.spare) (drop_gives h v grip died) (returned_places h (ForUndo v) tag grip returned whole) in
     let two : 2 ≤ h.history.spare = places in
@@ -401,7 +426,9 @@ dropped_back h t v tag grip slip events fell returned parts drops =
           ∙ ap (λ (y : Slip). with_more h.history y.maker (dropped_entries slip)) drops.falls.same;
     }
 
-pub dropped_whole : {D : Type 0} {stands turns probes faults : D → ℕ} (h t : Inside D) (v tag : ℕ) (grip : Gripped D Done) (slip : Slip) (events : Events) (fell : HistoryState) → IsReturned stands turns probes faults h (ForUndo v) tag grip → IsHome h t grip → IsDropped h t v grip slip events fell → IsWhole stands turns probes faults h → IsWhole stands turns probes faults t
+pub dropped_whole : {D : Type 0} {stands turns probes faults : D → ℕ} (h t : Inside D) (v tag : ℕ) (grip : Gripped D Done) (slip : Slip) (events : Events)
+    (fell : HistoryState) → IsReturned stands turns probes faults h (ForUndo v) tag grip → IsHome h t grip → IsDropped h t v grip slip events fell
+    → IsWhole stands turns probes faults h → IsWhole stands turns probes faults t
 dropped_whole h t v tag grip slip events fell returned parts drops whole =
     came_whole h t (ForUndo v) tag grip (dropped_entries slip) (dropped_back h t v tag grip slip events fell returned parts drops)
     (λ formed gripped. order_dropped_dead (subst (λ (z : Slip). IsDropped h t v grip z events fell) drops.falls.same drops) gripped) whole

@@ -188,7 +188,9 @@ turn_sealed stands turns probes faults s t r m NoRun is kept = took_sealed (conf
 
 -- A device comes home
 
-back_sealed : (b : Bool) (s t : HubState) (c : Configuration) (told : Carried) (result : Told) (entries : List Entry) → Returned (Gave entries) ≡ Returned (give_if b s c told result).answer → t ≡ (give_if b s c told result).next → IsFormed t.configuration → StaysSealed (read_of c) (read_of t.configuration)
+back_sealed : (b : Bool) (s t : HubState) (c : Configuration) (told : Carried) (result : Told) (entries : List Entry) → Returned (Gave entries)
+    ≡ Returned (give_if b s c told result).answer → t ≡ (give_if b s c told result).next → IsFormed t.configuration
+    → StaysSealed (read_of c) (read_of t.configuration)
 back_sealed true s t c told result entries answer next formed = by_grip (c.grips told.slip.device.0) refl
   where
     came : Option Grip → Configuration
@@ -214,11 +216,15 @@ pub seen_so : {D : Type 0} {s t u v : OpenHub D} → s ≡ u → v ≡ t → Sta
 seen_so {D = D} {s = s} {t = t} {u = u} {v = v} before after stays =
     subst (λ (x : OpenHub D). StaysSealed (read_of (configuration_of u)) (read_of (configuration_of x))) (sym after) (subst (λ (x : OpenHub D). StaysSealed (read_of (configuration_of x)) (read_of (configuration_of t))) before stays)
 
-pub given_sealed : {D : Type 0} (stands turns probes faults : D → ℕ) (s t : OpenHub D) (grip : Gripped D Done) (m : ℕ) (result : Result Made (Gripped D Done × Stranger)) → IsGiven s grip m result t → HubIsKept stands turns probes faults t → StaysSealed (read_of (configuration_of s)) (read_of (configuration_of t))
+pub given_sealed : {D : Type 0} (stands turns probes faults : D → ℕ) (s t : OpenHub D) (grip : Gripped D Done) (m : ℕ)
+    (result : Result Made (Gripped D Done × Stranger)) → IsGiven s grip m result t → HubIsKept stands turns probes faults t
+    → StaysSealed (read_of (configuration_of s)) (read_of (configuration_of t))
 given_sealed stands turns probes faults s t grip m (Ok made) is kept = back_sealed _ (hub_state_of s) (hub_state_of t) (at_moment (configuration_of s) m) (carried_by grip) grip.stage.told _ is.0.0 is.0.1 (formed_hub stands turns probes faults t kept)
 given_sealed stands turns probes faults s t grip m (Err refused) is kept = same_hub s t is.2
 
-pub probe_given_sealed : {D : Type 0} (stands turns probes faults : D → ℕ) (s t : OpenHub D) (grip : Gripped D Done) (result : Result Made (Gripped D Done × Stranger)) → IsProbeGiven s grip result t → HubIsKept stands turns probes faults t → StaysSealed (read_of (configuration_of s)) (read_of (configuration_of t))
+pub probe_given_sealed : {D : Type 0} (stands turns probes faults : D → ℕ) (s t : OpenHub D) (grip : Gripped D Done)
+    (result : Result Made (Gripped D Done × Stranger)) → IsProbeGiven s grip result t → HubIsKept stands turns probes faults t
+    → StaysSealed (read_of (configuration_of s)) (read_of (configuration_of t))
 probe_given_sealed stands turns probes faults s t grip (Ok made) is kept = back_sealed _ (hub_state_of s) (hub_state_of t) (configuration_of s) (carried_by grip) grip.stage.told _ is.0.0 is.0.1 (formed_hub stands turns probes faults t kept)
 probe_given_sealed stands turns probes faults s t grip (Err refused) is kept = same_hub s t is.2
 

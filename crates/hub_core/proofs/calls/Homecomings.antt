@@ -204,7 +204,9 @@ back_kept {D = D} stands turns probes faults s grip entries t at known back' kep
 -- What it told
 
 -- another device is not out for the same run
-other_maker : {D : Type 0} (stands turns probes faults : D → ℕ) (s : OpenHub D) (slip : Slip) (task : Task) (purpose : Purpose) (e : ℕ) (other : Slip) (does : Task) → HubIsKept stands turns probes faults s → IsFor s slip task purpose → is_of_run purpose ≡ true → e ≢ slip.device.0 → slice_get s.places e ≡ Some (Out other does) → other.maker ≢ slip.maker
+other_maker : {D : Type 0} (stands turns probes faults : D → ℕ) (s : OpenHub D) (slip : Slip) (task : Task) (purpose : Purpose) (e : ℕ) (other : Slip)
+    (does : Task) → HubIsKept stands turns probes faults s → IsFor s slip task purpose → is_of_run purpose ≡ true → e ≢ slip.device.0
+    → slice_get s.places e ≡ Some (Out other does) → other.maker ≢ slip.maker
 other_maker stands turns probes faults s slip task purpose e other does kept for of_run apart there same =
     apart (kept.configuration.grips.runs.one e slip.device.0 (slip.maker - 1) (purpose_of (progress_at s.devices e).purpose) purpose
     (ap (λ o. grip_in o (progress_at s.devices e).purpose) there ∙ ap (λ m. Some (record { maker = m; purpose = purpose_of (progress_at s.devices e).purpose })) (same ∙ first))
@@ -229,7 +231,10 @@ pub comes_back : {D : Type 0} (stands turns probes faults : D → ℕ) (s : Open
     → HubIsKept stands turns probes faults s → ComesBack stands turns probes faults s grip (entries_for s grip purpose) t
 comes_back {D = D} stands turns probes faults s grip purpose t tag for called later kept =
     record {
-      configuration = given_kept (configuration_of s) s.rounds s.opened (held_in s) d t (held_back s grip) out told for.grip (brings_back s grip.slip grip.task purpose told for called.fits) (λ died. ap (λ b. if b then held_in s d else value_after grip.task (held_in s d)) died) fits later kept.configuration;
+      configuration =
+          given_kept (configuration_of s) s.rounds s.opened (held_in s) d t (held_back s grip) out told for.grip
+          (brings_back s grip.slip grip.task purpose told for called.fits)
+          (λ died. ap (λ b. if b then held_in s d else value_after grip.task (held_in s d)) died) fits later kept.configuration;
       value = fits;
       stand = by_told (has_died told) refl;
       turns_rose =
@@ -271,7 +276,9 @@ comes_back {D = D} stands turns probes faults s grip purpose t tag for called la
 
     by_told : (b : Bool) → has_died told ≡ b → (read_of after).up d ≡ true → stands grip.device ≡ held_back s grip
     by_told true died up = absurd (let both : true ≡ false = sym up ∙ give_down (configuration_of s) d out told for.on died in cc)
-    by_told false lives up = subst (λ b. IfSome (if b then None else Some (value_after grip.task grip.slip.stood)) (λ v. stands grip.device ≡ v)) lives called.stands_there ∙ value_same grip.task grip.slip.stood (held_in s d) for.stood ∙ sym (ap (λ b. if b then held_in s d else value_after grip.task (held_in s d)) lives)
+    by_told false lives up =
+        subst (λ b. IfSome (if b then None else Some (value_after grip.task grip.slip.stood)) (λ v. stands grip.device ≡ v)) lives called.stands_there
+        ∙ value_same grip.task grip.slip.stood (held_in s d) for.stood ∙ sym (ap (λ b. if b then held_in s d else value_after grip.task (held_in s d)) lives)
 
     -- what is more of this device alone
     more_other : (x k e : ℕ) → e ≢ d → x + (if d == e then k else 0) ≡ x
@@ -370,11 +377,14 @@ may_come {D = D} h s grip seen kept k =
     by_maker false none = let detector : nat_lt 0 grip.slip.maker ≡ false = sym for.maker ∙ none in let zero' : grip.slip.maker ≡ 0 = grind (arith, common_steps) in omega (arith, zero')
 
 -- the history has a place for each entry
-pub returned_places : {D : Type 0} {stands turns probes faults : D → ℕ} (h : Inside D) (why : KeptPurpose) (tag : ℕ) (grip : Gripped D Done) → IsReturned stands turns probes faults h why tag grip → IsWhole stands turns probes faults h → length (returned_entries (open_of h) grip why) ≤ h.history.spare
+pub returned_places : {D : Type 0} {stands turns probes faults : D → ℕ} (h : Inside D) (why : KeptPurpose) (tag : ℕ) (grip : Gripped D Done) → IsReturned stands
+    turns probes faults h why tag grip → IsWhole stands turns probes faults h → length (returned_entries (open_of h) grip why) ≤ h.history.spare
 returned_places h why tag grip returned k =
     let entries = returned_entries (open_of h) grip why in
     let comes = returned_comes h h.moment why tag grip returned (omega arith) k in
-    let fits : length (h.history.history ++ kept_by grip.slip.maker entries) ≤ most_entries (length h.history.setting.runs) (length h.history.setting.first) h.rounds = history_fits (after_back (open_of h) grip.slip entries h.moment) h.rounds h.opened (put (held_in (open_of h)) grip.slip.device.0 (held_back (open_of h) grip)) comes.configuration in
+    let fits : length (h.history.history ++ kept_by grip.slip.maker entries)
+    ≤ most_entries (length h.history.setting.runs) (length h.history.setting.first) h.rounds = history_fits (after_back (open_of h) grip.slip entries h.moment)
+    h.rounds h.opened (put (held_in (open_of h)) grip.slip.device.0 (held_back (open_of h) grip)) comes.configuration in
     let long = length_with h.history.history grip.slip.maker entries in
     omega (arith, fits, long, k.room.history)
 
@@ -405,7 +415,9 @@ came_shows {D = D} h t why tag grip entries came =
       tickets = came.parts.home.tickets i;
     }
 
-came_within : {D : Type 0} {stands turns probes faults : D → ℕ} (h t : Inside D) (why : KeptPurpose) (tag : ℕ) (grip : Gripped D Done) (entries : List Entry) → CameHome stands turns probes faults h t why tag grip entries → IsWhole stands turns probes faults h → (grip.slip.device.0 < length h.away.gate.places) × (grip.slip.device.0 < length h.away.known.items)
+came_within : {D : Type 0} {stands turns probes faults : D → ℕ} (h t : Inside D) (why : KeptPurpose) (tag : ℕ) (grip : Gripped D Done) (entries : List Entry)
+    → CameHome stands turns probes faults h t why tag grip entries → IsWhole stands turns probes faults h
+    → (grip.slip.device.0 < length h.away.gate.places) × (grip.slip.device.0 < length h.away.known.items)
 came_within h t why tag grip entries came k =
     let for = returned_for h why tag grip came.returned k in
     (omega (arith, for.below, k.shown.places_size), omega (arith, for.below, k.shown.devices_size))
@@ -420,7 +432,9 @@ came_grips {D = D} h t why tag grip entries came k =
 
 -- what is kept is kept then, where line and table are
 pub came_whole : {D : Type 0} {stands turns probes faults : D → ℕ} (h t : Inside D) (why : KeptPurpose) (tag : ℕ) (grip : Gripped D Done) (entries : List Entry) → CameHome stands turns probes faults h t why tag grip entries
-    → (IsWellFormed t.history.setting (entries_of t.history.history) → (configuration_of (open_of t)).grips ≡ put (configuration_of (open_of h)).grips grip.slip.device.0 None → OrderIsBeside h.rounds t.history (configuration_of (open_of t)).grips t.order.line t.order.table) → IsWhole stands turns probes faults h → IsWhole stands turns probes faults t
+    → (IsWellFormed t.history.setting (entries_of t.history.history) → (configuration_of (open_of t)).grips ≡ put (configuration_of (open_of h)).grips
+    grip.slip.device.0 None → OrderIsBeside h.rounds t.history (configuration_of (open_of t)).grips t.order.line t.order.table)
+    → IsWhole stands turns probes faults h → IsWhole stands turns probes faults t
 came_whole {D = D} {stands = stands} {turns = turns} {probes = probes} {faults = faults} h t why tag grip entries came order k =
     subst (λ (x : Inside D). IsWhole stands turns probes faults x) (sym came.parts.new) (record {
       shown = subst (λ (x : Inside D). HubIsKept stands turns probes faults (open_of x)) came.parts.new shown;
@@ -495,7 +509,9 @@ pub record CameBack {D : Type 0} (s t : OpenHub D) (grip : Gripped D Done) (m : 
   pub given : IsGiven s grip m (Ok made) t
   pub window : SameWindow s t
 
-pub back_given : {D : Type 0} {stands turns probes faults : D → ℕ} (h t : Inside D) (s₀ : OpenHub D) (m : ℕ) (why : KeptPurpose) (tag : ℕ) (grip : Gripped D Done) (entries : List Entry) (made : Made) → open_of h ≡ s₀ → 0 < grip.slip.maker → t.moment ≡ max h.moment m → CameHome stands turns probes faults h t why tag grip entries → entries_made made ≡ entries → IsPacked made
+pub back_given : {D : Type 0} {stands turns probes faults : D → ℕ} (h t : Inside D) (s₀ : OpenHub D) (m : ℕ) (why : KeptPurpose) (tag : ℕ)
+    (grip : Gripped D Done) (entries : List Entry) (made : Made) → open_of h ≡ s₀ → 0 < grip.slip.maker → t.moment ≡ max h.moment m
+    → CameHome stands turns probes faults h t why tag grip entries → entries_made made ≡ entries → IsPacked made
     → IsWhole stands turns probes faults h → CameBack s₀ (open_of t) grip m made
 back_given {D = D} h t s₀ m why tag grip entries made seen maker moment_is came made_is packed k =
     subst (λ (x : OpenHub D). CameBack x (open_of t) grip m made) seen (record {
@@ -523,7 +539,9 @@ pub record ProbeBack {D : Type 0} (s t : OpenHub D) (grip : Gripped D Done) (mad
   pub given : IsProbeGiven s grip (Ok made) t
   pub window : SameWindow s t
 
-pub probe_given : {D : Type 0} {stands turns probes faults : D → ℕ} (h t : Inside D) (s₀ : OpenHub D) (why : KeptPurpose) (tag : ℕ) (grip : Gripped D Done) (entries : List Entry) (made : Made) → open_of h ≡ s₀ → grip.slip.maker ≡ 0 → t.moment ≡ h.moment → CameHome stands turns probes faults h t why tag grip entries → entries_made made ≡ entries → IsPacked made
+pub probe_given : {D : Type 0} {stands turns probes faults : D → ℕ} (h t : Inside D) (s₀ : OpenHub D) (why : KeptPurpose) (tag : ℕ) (grip : Gripped D Done)
+    (entries : List Entry) (made : Made) → open_of h ≡ s₀ → grip.slip.maker ≡ 0 → t.moment ≡ h.moment
+    → CameHome stands turns probes faults h t why tag grip entries → entries_made made ≡ entries → IsPacked made
     → IsWhole stands turns probes faults h → ProbeBack s₀ (open_of t) grip made
 probe_given {D = D} h t s₀ why tag grip entries made seen maker moment_is came made_is packed k =
     subst (λ (x : OpenHub D). ProbeBack x (open_of t) grip made) seen (record {

@@ -173,7 +173,9 @@ command_stays w n g r m k c x none is = is ∙ sym (command_current w n g r m k 
 
 -- what was told of the hub's own parts
 
-pub touch_said : (s : Configuration) (table : List LineageState) (line : List Mark) (history : List Kept) (runs : List Run) (r k : ℕ) (c : Command) (touch : Touch) → IsStandingOf s table line history runs → IsAtCommand s r k → command_at s.setting.runs r k ≡ c → IsTouchOf table line history runs r k touch
+pub touch_said : (s : Configuration) (table : List LineageState) (line : List Mark) (history : List Kept) (runs : List Run) (r k : ℕ) (c : Command)
+    (touch : Touch) → IsStandingOf s table line history runs → IsAtCommand s r k → command_at s.setting.runs r k ≡ c
+    → IsTouchOf table line history runs r k touch
     → touch ≡ touch_of s.setting (read_of s) s.grips r c
 touch_said s table line history runs r k c touch parts turn command told = told s parts turn ∙ ap (touch_of s.setting (read_of s) s.grips r) (ap (λ x. command_at x r k) (sym parts.its_roster) ∙ command)
 
@@ -181,7 +183,8 @@ pub strict_said : (s : Configuration) (table : List LineageState) (line : List M
     → run ≡ option_map run_no (strict_wait s.setting (read_of s) r)
 strict_said s table line history runs r model run parts same told = told s parts ∙ ap (λ m. option_map run_no (strict_wait (under m s.setting) (read_of s) r)) same
 
-pub down_said : (s : Configuration) (table : List LineageState) (line : List Mark) (history : List Kept) (runs : List Run) (r : ℕ) (model : Visibility) (device : Option DeviceNo) → IsStandingOf s table line history runs → model ≡ s.setting.mode.model → IsDownAtEndOf model table line history runs r device
+pub down_said : (s : Configuration) (table : List LineageState) (line : List Mark) (history : List Kept) (runs : List Run) (r : ℕ) (model : Visibility)
+    (device : Option DeviceNo) → IsStandingOf s table line history runs → model ≡ s.setting.mode.model → IsDownAtEndOf model table line history runs r device
     → device ≡ option_map device_no (down_at_end s.setting (read_of s) s.grips r)
 down_said s table line history runs r model device parts same told = told s parts ∙ ap (λ m. option_map device_no (down_at_end (under m s.setting) (read_of s) s.grips r)) same
 
@@ -335,7 +338,8 @@ pub hub_commands : {D : Type 0} (s t : OpenHub D) (r m : ℕ) (p : RunProgress) 
     → x ≡ choice_of (configuration_of t) r m
 hub_commands {D = D} s t r m p c x same strong run known going free there placed sound next guard is =
     hub_goes_on s t r m p c x same run known going free there placed sound next
-    (is ∙ ap (λ (y : OpenHub D). strong_command y.setting (read_of (configuration_of y)) (configuration_of y).grips r (max y.moment m) p.answered c) (sym same) ∙ ap (λ (y : RunProgress). strong_command s.setting (read_of (configuration_of s)) (configuration_of s).grips r (max s.moment m) y.answered c) known
+    (is ∙ ap (λ (y : OpenHub D). strong_command y.setting (read_of (configuration_of y)) (configuration_of y).grips r (max y.moment m) p.answered c) (sym same)
+    ∙ ap (λ (y : RunProgress). strong_command s.setting (read_of (configuration_of s)) (configuration_of s).grips r (max s.moment m) y.answered c) known
     ∙ sym (command_is s.setting (read_of (configuration_of s)) (configuration_of s).grips r (max s.moment m) (next_of (read_of (configuration_of s)) r) c strong (ap (λ (y : RunProgress). holds c.when y.register) (sym known) ∙ guard)))
 
 -- .. or skips it
@@ -439,7 +443,9 @@ pub finished_is : (s : Configuration) (r : ℕ) (cause : Cause) → is_weak s.se
 finished_is s r cause strong ends = ap (undo_by (read_of s) (value_without s.setting (read_of s) s.grips r)) (ends.over strong)
 
 -- the run is at its next command, whose guard holds
-pub hub_at_command : {D : Type 0} (stands turns probes faults : D → ℕ) (s t : OpenHub D) (r : ℕ) (p : RunProgress) (c : Command) → s ≡ t → HubIsKept stands turns probes faults s → p ≡ progress_of ((read_of (configuration_of s)).run r) → p.ended ≡ None → is_some p.placed ≡ true → p.doomed ≡ None → Some c ≡ next_command s.setting (read_of (configuration_of s)) r → holds c.when p.register ≡ true
+pub hub_at_command : {D : Type 0} (stands turns probes faults : D → ℕ) (s t : OpenHub D) (r : ℕ) (p : RunProgress) (c : Command) → s ≡ t
+    → HubIsKept stands turns probes faults s → p ≡ progress_of ((read_of (configuration_of s)).run r) → p.ended ≡ None → is_some p.placed ≡ true
+    → p.doomed ≡ None → Some c ≡ next_command s.setting (read_of (configuration_of s)) r → holds c.when p.register ≡ true
     → IsAtCommand (configuration_of t) r p.answered × (command_at t.setting.runs r p.answered ≡ c)
 hub_at_command {D = D} stands turns probes faults s t r p c same k known going placed sound next guard =
     subst (λ (x : OpenHub D). IsAtCommand (configuration_of x) r p.answered × (command_at x.setting.runs r p.answered ≡ c)) same (

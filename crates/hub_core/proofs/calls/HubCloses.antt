@@ -118,13 +118,22 @@ hub_leaves h last k quiet are known = either_model (IsLastState (configuration_o
       size = ap length (known weak) ∙ known_size (length h.order.table) ∙ k.order.table_is.devices;
       each = λ d below.
           ap (λ l. stand_at l d) (known weak) ∙ known_at (length h.order.table) d (omega (arith, below, k.order.table_is.devices))
-          ∙ (λ i. record { value = ((k.shown.configuration.weakly weak).held_is d below ∙ sym (weak_standing (configuration_of (open_of h)) h.rounds h.opened (held_in (open_of h)) d (k.shown.configuration.weakly weak))) i; up = counted_told h.history.setting (read_in h.history) (configuration_of (open_of h)).grips h.order.table d below k.order.table_is i });
+          ∙ (λ i. record {
+            value =
+                ((k.shown.configuration.weakly weak).held_is d below
+                ∙ sym (weak_standing (configuration_of (open_of h)) h.rounds h.opened (held_in (open_of h)) d (k.shown.configuration.weakly weak))) i;
+            up = counted_told h.history.setting (read_in h.history) (configuration_of (open_of h)).grips h.order.table d below k.order.table_is i;
+          });
     })
     (λ strong. table_leaves (configuration_of (open_of h)) h.rounds h.opened (held_in (open_of h)) h.order.table last (k.shown.configuration.ordered strong) (quiet_is (configuration_of (open_of h)) quiet) (k.order.table_is.ordered strong) (are strong))
   where
     known_size : (n : ℕ) → length (all_known_left h.away.known.items h.order.table n) ≡ n
     known_size zero = refl
-    known_size (suc n) = let long : length (all_known_left h.away.known.items h.order.table n ++ known_left h.away.known.items h.order.table n ∷ []) ≡ length (all_known_left h.away.known.items h.order.table n) + 1 = length-append (all_known_left h.away.known.items h.order.table n) (known_left h.away.known.items h.order.table n ∷ []) in omega (arith, long, known_size n)
+    known_size (suc n) =
+        let long : length (all_known_left h.away.known.items h.order.table n ++ known_left h.away.known.items h.order.table n ∷ [])
+        ≡ length (all_known_left h.away.known.items h.order.table n) + 1 =
+        length-append (all_known_left h.away.known.items h.order.table n) (known_left h.away.known.items h.order.table n ∷ []) in
+        omega (arith, long, known_size n)
 
     known_at : (n d : ℕ) → d < n → stand_at (all_known_left h.away.known.items h.order.table n) d ≡ known_left h.away.known.items h.order.table d
     known_at zero d less = absurd (omega (arith, less))
@@ -173,7 +182,10 @@ home_left {D = D} tag stands turns probes faults s devices kinds world c kinds_a
 
     counts : (d : ℕ) (device : D) → FitsAtHome stands turns probes faults s d device → CountsAreLow (s.opened + 1) (turns device) (probes device) (faults device)
     counts d device fits = record {
-      few_turns = still_low s.opened (turns device) (progress_at s.devices d).at_opening.turns (told_calls s.setting.runs (entries_of s.history) d) (c.kept.low d).few_turns (omega (arith, fits.turns_are)) (let few = few_calls stands turns probes faults s (tells_call s.setting.runs d) c.kept in omega (arith, few));
+      few_turns =
+          still_low s.opened (turns device) (progress_at s.devices d).at_opening.turns (told_calls s.setting.runs (entries_of s.history) d)
+          (c.kept.low d).few_turns (omega (arith, fits.turns_are))
+          (let few = few_calls stands turns probes faults s (tells_call s.setting.runs d) c.kept in omega (arith, few));
       few_probes = still_low s.opened (probes device) (progress_at s.devices d).at_opening.probes (probes_taken s d) (c.kept.low d).few_probes (omega (arith, fits.probes_are)) (let few = c.kept.configuration.opens.few_rounds in omega (arith, few));
       few_faults = still_low s.opened (faults device) (progress_at s.devices d).at_opening.faults (told_falls (entries_of s.history) d + probes_taken s d) (c.kept.low d).few_faults (omega (arith, fits.few_faults))
           (let few = c.kept.configuration.opens.few_rounds in let falls = few_calls stands turns probes faults s (is_fall_of d) c.kept in omega (arith, few, falls));

@@ -65,32 +65,42 @@ made_marks s u r m entries b after was now is are left =
     subst (λ x. AreBlocked x after) (sym is) (moved s r m entries b after was (subst IsKept is now) are (subst (λ (x : Configuration). AreLeft b after (λ d. EndNoWait x.setting (read_of x) d entries)) is left))
 
 -- which makes entries
-pub marks_moved : {D : Type 0} (stands turns probes faults : D → ℕ) (s t : OpenHub D) (r m : ℕ) (made : Made) (b after : BlockedState) → is_weak s.setting.mode ≡ false → is_weak t.setting.mode ≡ false → HubIsKept stands turns probes faults s → HubIsKept stands turns probes faults t → Answers s r m (Moves (entries_made made)) t → AreBlocked (configuration_of s) b
+pub marks_moved : {D : Type 0} (stands turns probes faults : D → ℕ) (s t : OpenHub D) (r m : ℕ) (made : Made) (b after : BlockedState) → is_weak s.setting.mode
+    ≡ false → is_weak t.setting.mode ≡ false → HubIsKept stands turns probes faults s → HubIsKept stands turns probes faults t
+    → Answers s r m (Moves (entries_made made)) t → AreBlocked (configuration_of s) b
     → AreLeft b after (λ d. EndNoWait t.setting (read_of (configuration_of t)) d (entries_made made)) → AreBlocked (configuration_of t) after
 marks_moved stands turns probes faults s t r m made b after before then' was now answers are left =
     made_marks (configuration_of s) (configuration_of t) r m (entries_made made) b after (is_kept stands turns probes faults s before was) (is_kept stands turns probes faults t then' now) (after_answer s t r m (Moves (entries_made made)) answers) are left
 
 -- or ends its run
-pub marks_over : {D : Type 0} (stands turns probes faults : D → ℕ) (s t : OpenHub D) (r m : ℕ) (end : End) (made : Made) (b after : BlockedState) → is_weak s.setting.mode ≡ false → is_weak t.setting.mode ≡ false → HubIsKept stands turns probes faults s → HubIsKept stands turns probes faults t → Answers s r m (Over end (entries_made made)) t → AreBlocked (configuration_of s) b
+pub marks_over : {D : Type 0} (stands turns probes faults : D → ℕ) (s t : OpenHub D) (r m : ℕ) (end : End) (made : Made) (b after : BlockedState)
+    → is_weak s.setting.mode ≡ false → is_weak t.setting.mode ≡ false → HubIsKept stands turns probes faults s → HubIsKept stands turns probes faults t
+    → Answers s r m (Over end (entries_made made)) t → AreBlocked (configuration_of s) b
     → AreLeft b after (λ d. EndNoWait t.setting (read_of (configuration_of t)) d (entries_made made)) → AreBlocked (configuration_of t) after
 marks_over stands turns probes faults s t r m end made b after before then' was now answers are left =
     made_marks (configuration_of s) (configuration_of t) r m (entries_made made) b after (is_kept stands turns probes faults s before was) (is_kept stands turns probes faults t then' now) (after_answer s t r m (Over end (entries_made made)) answers) are left
 
 -- or waits, and the run may be marked
-pub marks_wait : {D : Type 0} (stands turns probes faults : D → ℕ) (s t : OpenHub D) (r m : ℕ) (why : Why) (b after : BlockedState) → is_weak s.setting.mode ≡ false → is_weak t.setting.mode ≡ false → HubIsKept stands turns probes faults s → HubIsKept stands turns probes faults t → Answers s r m (Waits why) t → AreBlocked (configuration_of s) b
+pub marks_wait : {D : Type 0} (stands turns probes faults : D → ℕ) (s t : OpenHub D) (r m : ℕ) (why : Why) (b after : BlockedState) → is_weak s.setting.mode
+    ≡ false → is_weak t.setting.mode ≡ false → HubIsKept stands turns probes faults s → HubIsKept stands turns probes faults t → Answers s r m (Waits why) t
+    → AreBlocked (configuration_of s) b
     → MayBeMarked (configuration_of t) b r after → AreBlocked (configuration_of t) after
 marks_wait stands turns probes faults s t r m why b after before then' was now answers are may =
     let is : configuration_of t ≡ at_moment (configuration_of s) m = after_answer s t r m (Waits why) answers in
     subst (λ x. AreBlocked x after) (sym is) (waits (configuration_of s) r m why b after (is_kept stands turns probes faults s before was) (subst IsKept is (is_kept stands turns probes faults t then' now)) (sym (chosen s t r m (Waits why) answers)) are (subst (λ x. MayBeMarked x b r after) is may))
 
 -- or is of no run
-pub marks_absent : {D : Type 0} (stands turns probes faults : D → ℕ) (s t : OpenHub D) (r m : ℕ) (b : BlockedState) → is_weak s.setting.mode ≡ false → is_weak t.setting.mode ≡ false → HubIsKept stands turns probes faults s → HubIsKept stands turns probes faults t → Answers s r m Absent t → AreBlocked (configuration_of s) b → AreBlocked (configuration_of t) b
+pub marks_absent : {D : Type 0} (stands turns probes faults : D → ℕ) (s t : OpenHub D) (r m : ℕ) (b : BlockedState) → is_weak s.setting.mode ≡ false
+    → is_weak t.setting.mode ≡ false → HubIsKept stands turns probes faults s → HubIsKept stands turns probes faults t → Answers s r m Absent t
+    → AreBlocked (configuration_of s) b → AreBlocked (configuration_of t) b
 marks_absent stands turns probes faults s t r m b before then' was now answers are =
     let is : configuration_of t ≡ at_moment (configuration_of s) m = after_answer s t r m Absent answers in
     subst (λ x. AreBlocked x b) (sym is) (reached (configuration_of s) m b (is_kept stands turns probes faults s before was) (subst IsKept is (is_kept stands turns probes faults t then' now)) are)
 
 -- or hands its device out
-pub marks_goes : {D : Type 0} (stands turns probes faults : D → ℕ) (s t : OpenHub D) (r m : ℕ) (grip : Gripped D Ready) (b after : BlockedState) → is_weak s.setting.mode ≡ false → is_weak t.setting.mode ≡ false → HubIsKept stands turns probes faults s → HubIsKept stands turns probes faults t → DeviceGoesOut s r m grip t → AreBlocked (configuration_of s) b
+pub marks_goes : {D : Type 0} (stands turns probes faults : D → ℕ) (s t : OpenHub D) (r m : ℕ) (grip : Gripped D Ready) (b after : BlockedState)
+    → is_weak s.setting.mode ≡ false → is_weak t.setting.mode ≡ false → HubIsKept stands turns probes faults s → HubIsKept stands turns probes faults t
+    → DeviceGoesOut s r m grip t → AreBlocked (configuration_of s) b
     → AreLeft b after (λ e. is_out_for_command (configuration_of t) grip.slip.device.0 ≡ false → e ≢ grip.slip.device.0) → AreBlocked (configuration_of t) after
 marks_goes stands turns probes faults s t r m grip b after before then' was now out are left =
     let d : ℕ = grip.slip.device.0 in
@@ -102,7 +112,9 @@ marks_goes stands turns probes faults s t r m grip b after before then' was now 
 
 -- A probe goes out
 
-pub marks_probed : {D : Type 0} (stands turns probes faults : D → ℕ) (s t : OpenHub D) (d : ℕ) (probe : Option (Gripped D Ready)) (b after : BlockedState) → is_weak s.setting.mode ≡ false → is_weak t.setting.mode ≡ false → HubIsKept stands turns probes faults s → HubIsKept stands turns probes faults t → IsProbed s d probe t → AreBlocked (configuration_of s) b
+pub marks_probed : {D : Type 0} (stands turns probes faults : D → ℕ) (s t : OpenHub D) (d : ℕ) (probe : Option (Gripped D Ready)) (b after : BlockedState)
+    → is_weak s.setting.mode ≡ false → is_weak t.setting.mode ≡ false → HubIsKept stands turns probes faults s → HubIsKept stands turns probes faults t
+    → IsProbed s d probe t → AreBlocked (configuration_of s) b
     → AreLeft b after (λ e. e ≢ d) → AreBlocked (configuration_of t) after
 marks_probed stands turns probes faults s t d None b after before then' was now out are left =
     subst (λ x. AreBlocked (configuration_of x) after) (sym out.1) (left_stay (configuration_of s) (configuration_of s) b after (λ e. e ≢ d) are left (λ q e blocked next other. (blocked, next)))
@@ -133,7 +145,9 @@ never_taken s c told result entries more none answer = refused (is_kept_grip s t
     refused true e answer = absurd (cc)
     refused false e answer = absurd (cc)
 
-pub marks_given : {D : Type 0} (stands turns probes faults : D → ℕ) (s t : OpenHub D) (m : ℕ) (grip : Gripped D Done) (made : Made) (b after : BlockedState) → is_weak s.setting.mode ≡ false → is_weak t.setting.mode ≡ false → HubIsKept stands turns probes faults s → HubIsKept stands turns probes faults t → IsGiven s grip m (Ok made) t → AreBlocked (configuration_of s) b
+pub marks_given : {D : Type 0} (stands turns probes faults : D → ℕ) (s t : OpenHub D) (m : ℕ) (grip : Gripped D Done) (made : Made) (b after : BlockedState)
+    → is_weak s.setting.mode ≡ false → is_weak t.setting.mode ≡ false → HubIsKept stands turns probes faults s → HubIsKept stands turns probes faults t
+    → IsGiven s grip m (Ok made) t → AreBlocked (configuration_of s) b
     → AreLeft b after (λ e. IsAnsweredStill (configuration_of t) grip.slip.device.0 (entries_made made) ⊎ ((e ≢ grip.slip.device.0) × (list_all (is_quiet t.setting e) (entries_made made) ≡ true))) → AreBlocked (configuration_of t) after
 marks_given {D} stands turns probes faults s t m grip made b after before then' was now given are left = by_place (slice_get s.places d) refl
   where
@@ -148,7 +162,9 @@ marks_given {D} stands turns probes faults s t m grip made b after before then' 
         let told = gave_back (hub_state_of s) (hub_state_of t) (carried_by grip) grip.stage.told m _ (entries_made made) out given.0 in
         back_marks (configuration_of s) (configuration_of t) (max s.moment m) d _ grip.stage.told (entries_made made) b after (is_kept stands turns probes faults s before was) (is_kept stands turns probes faults t then' now) (omega (arith)) out told.0 told.1 are left
 
-pub marks_probe_given : {D : Type 0} (stands turns probes faults : D → ℕ) (s t : OpenHub D) (grip : Gripped D Done) (made : Made) (b after : BlockedState) → is_weak s.setting.mode ≡ false → is_weak t.setting.mode ≡ false → HubIsKept stands turns probes faults s → HubIsKept stands turns probes faults t → IsProbeGiven s grip (Ok made) t → AreBlocked (configuration_of s) b
+pub marks_probe_given : {D : Type 0} (stands turns probes faults : D → ℕ) (s t : OpenHub D) (grip : Gripped D Done) (made : Made) (b after : BlockedState)
+    → is_weak s.setting.mode ≡ false → is_weak t.setting.mode ≡ false → HubIsKept stands turns probes faults s → HubIsKept stands turns probes faults t
+    → IsProbeGiven s grip (Ok made) t → AreBlocked (configuration_of s) b
     → AreLeft b after (λ e. IsAnsweredStill (configuration_of t) grip.slip.device.0 (entries_made made) ⊎ ((e ≢ grip.slip.device.0) × (list_all (is_quiet t.setting e) (entries_made made) ≡ true))) → AreBlocked (configuration_of t) after
 marks_probe_given {D} stands turns probes faults s t grip made b after before then' was now given are left = by_place (slice_get s.places d) refl
   where
@@ -169,7 +185,9 @@ model_before s t b same model = ap (λ (w : Setting). is_weak w.mode) (sym same.
 
 -- Under the weak model
 
-pub marks_weakly : {D : Type 0} (stands turns probes faults : D → ℕ) (s t : OpenHub D) (r m : ℕ) (turn : Turn D) (after : BlockedState) → is_weak t.setting.mode ≡ true → HubIsKept stands turns probes faults t → IsTurn s r m turn t → AreFreedWeakly (is_waiting turn) (configuration_of t) r after → AreBlocked (configuration_of t) after
+pub marks_weakly : {D : Type 0} (stands turns probes faults : D → ℕ) (s t : OpenHub D) (r m : ℕ) (turn : Turn D) (after : BlockedState) → is_weak t.setting.mode
+    ≡ true → HubIsKept stands turns probes faults t → IsTurn s r m turn t → AreFreedWeakly (is_waiting turn) (configuration_of t) r after
+    → AreBlocked (configuration_of t) after
 marks_weakly stands turns probes faults s t r m (Go grip) after weak kept is freed = none_blocked (configuration_of t) after (subst NoneMarked freed.marked freed.none)
 marks_weakly stands turns probes faults s t r m (Moved made) after weak kept is freed = none_blocked (configuration_of t) after (subst NoneMarked freed.marked freed.none)
 marks_weakly stands turns probes faults s t r m (TurnOver end made) after weak kept is freed = none_blocked (configuration_of t) after (subst NoneMarked freed.marked freed.none)

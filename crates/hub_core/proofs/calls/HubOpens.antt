@@ -285,7 +285,10 @@ is_first_hub {D = D} home roster mode rounds known kinds world devices opened' s
 
 -- the line and the table of a window that opens
 pub first_order : {D : Type 0} (tag stands turns probes faults : D → ℕ) (home : HomeState D) (roster : Roster) (mode : Mode) (rounds spare : ℕ) (known : List DeviceProgress) (line : Marked) (table : List LineageState)
-    → Opens tag stands turns probes faults home roster mode rounds known → IsOrderRoom (most_items (length roster.runs.items) (length home.world) rounds) (runs_of roster) home.world line table → OrderIsBeside rounds (record { setting = setting_for home roster mode; history = []; spare = spare }) (configuration_of (first_hub home roster mode rounds known)).grips line table
+    → Opens tag stands turns probes faults home roster mode rounds known
+    → IsOrderRoom (most_items (length roster.runs.items) (length home.world) rounds) (runs_of roster) home.world line table
+    → OrderIsBeside rounds (record { setting = setting_for home roster mode; history = []; spare = spare })
+    (configuration_of (first_hub home roster mode rounds known)).grips line table
 first_order tag stands turns probes faults home roster mode rounds spare known line table opens room =
     subst (λ (g : Grips). OrderIsBeside rounds (record { setting = setting_for home roster mode; history = []; spare = spare }) g line table) (sym (ap (λ (c : Configuration). c.grips) (first_configuration tag stands turns probes faults home roster mode rounds known opens)))
     (order_begins rounds (setting_for home roster mode) line table room.no_item room.none_sealed room.runs_kept (let same : length (runs_of roster) ≡ length roster.runs.items = length-map roster.runs.items plain_run in rw same (omega (arith, room.room))) room.opened)

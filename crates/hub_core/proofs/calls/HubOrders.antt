@@ -124,7 +124,9 @@ index_fits w rounds opened may =
     record { few_commands = allowed.few_commands; low_devices = λ r k c at. let inside = allowed.homed r k c at in let few = allowed.few_devices in omega (arith, inside, few) }
 
 -- table, line, history and roster of a hub belong to its window, where the accesses in the table are in turn, as those of every table are
-pub hub_standing : (s : Configuration) (rounds opened : ℕ) (held : ℕ → ℕ) (spare : ℕ) (line : Marked) (table : List LineageState) → ((d : ℕ) → IsDisciplined (accesses_at table d)) → ConfigurationIsKept s rounds opened held → OrderIsBeside rounds (record { setting = s.setting; history = s.history; spare = spare }) s.grips line table
+pub hub_standing : (s : Configuration) (rounds opened : ℕ) (held : ℕ → ℕ) (spare : ℕ) (line : Marked) (table : List LineageState)
+    → ((d : ℕ) → IsDisciplined (accesses_at table d)) → ConfigurationIsKept s rounds opened held
+    → OrderIsBeside rounds (record { setting = s.setting; history = s.history; spare = spare }) s.grips line table
     → IsStandingOf s table line.marks s.history s.setting.runs
 hub_standing s rounds opened held spare line table disciplined k order = record {
   ordered = k.strong;
@@ -144,7 +146,9 @@ hub_standing s rounds opened held spare line table disciplined k order = record 
 pub read_whole : {D : Type 0} {stands turns probes faults : D → ℕ} (h : Inside D) → IsWhole stands turns probes faults h → IsRead h.history.setting (read_in h.history)
 read_whole h k = read_kept _ h.rounds h.opened _ k.shown.configuration
 
-pub standing_whole : {D : Type 0} {stands turns probes faults : D → ℕ} (h : Inside D) → ((d : ℕ) → IsDisciplined (accesses_at h.order.table d)) → is_weak h.history.setting.mode ≡ false → IsWhole stands turns probes faults h → IsStandingOf (configuration_of (open_of h)) h.order.table h.order.line.marks h.history.history h.history.setting.runs
+pub standing_whole : {D : Type 0} {stands turns probes faults : D → ℕ} (h : Inside D) → ((d : ℕ) → IsDisciplined (accesses_at h.order.table d))
+    → is_weak h.history.setting.mode ≡ false → IsWhole stands turns probes faults h
+    → IsStandingOf (configuration_of (open_of h)) h.order.table h.order.line.marks h.history.history h.history.setting.runs
 standing_whole h disciplined strong k = hub_standing _ h.rounds h.opened _ h.history.spare h.order.line h.order.table disciplined (k.shown.configuration.ordered strong) k.order
 
 -- a device that the table has not has no access
@@ -206,7 +210,9 @@ joining s r at m out =
     same_place : (a : ℕ) → Moves (Placed (run_no r) a (max s.moment m) ∷ []) ≡ Moves (Placed (run_no r) at (max s.moment m) ∷ []) → a ≡ at
     same_place a e = cc
 
-pub joins_at : {D : Type 0} {stands turns probes faults : D → ℕ} (h : Inside D) (r at m : ℕ) → choice_of (configuration_of (open_of h)) r m ≡ Moves (Placed (run_no r) at (max h.moment m) ∷ []) → IsWhole stands turns probes faults h → IsPlacing h.history.setting (read_in h.history) (configuration_of (open_of h)).grips r at (max h.moment m)
+pub joins_at : {D : Type 0} {stands turns probes faults : D → ℕ} (h : Inside D) (r at m : ℕ) → choice_of (configuration_of (open_of h)) r m
+    ≡ Moves (Placed (run_no r) at (max h.moment m) ∷ []) → IsWhole stands turns probes faults h
+    → IsPlacing h.history.setting (read_in h.history) (configuration_of (open_of h)).grips r at (max h.moment m)
 joins_at h r at m is k = joining (configuration_of (open_of h)) r at m k.shown.configuration.grips.runs is
 
 -- .. is one of the line
@@ -253,7 +259,9 @@ pub joins_set : {D : Type 0} (h : Inside D) (s : OpenHub D) (r at m : ℕ) (room
 joins_set {D = D} h s r at m room seen holds timed = (subst (λ (x : OpenHub D). HoldsPlan room (configuration_of x) r (max x.moment m) at) (sym seen) holds timed).set
 
 -- .. which may be brought to the front
-pub hub_arranges : {D : Type 0} {stands turns probes faults : D → ℕ} (h : Inside D) (s : OpenHub D) (r at m : ℕ) (room : ScratchRoom) → open_of h ≡ s → HoldsPlan room (configuration_of s) r (max s.moment m) at → scheduler_of h.history.setting.mode ≡ Timeline → IsWhole stands turns probes faults h → MayArrange room.before h.order.line
+pub hub_arranges : {D : Type 0} {stands turns probes faults : D → ℕ} (h : Inside D) (s : OpenHub D) (r at m : ℕ) (room : ScratchRoom) → open_of h ≡ s
+    → HoldsPlan room (configuration_of s) r (max s.moment m) at → scheduler_of h.history.setting.mode ≡ Timeline → IsWhole stands turns probes faults h
+    → MayArrange room.before h.order.line
 hub_arranges h s r at m room seen holds timed k = may_arrange h.history.setting (read_in h.history) (configuration_of (open_of h)).grips r (max h.moment m) room.before h.order.line h.order.table (read_whole h k) (joins_set h s r at m room seen holds timed) k.order
 
 -- the line that was arranged by it stands as it should then
@@ -277,12 +285,17 @@ pub record MayJoin (w : Setting) (r at : ℕ) (marks : List Mark) (table : List 
   pub new : (d : ℕ) → d < length table → touches w.runs r d ≡ true → IsNewOn r (drop at (items_of marks)) (lineage_at table d)
 
 -- .. as it may at a place behind which nothing must stand before it, as the line stands then
-pub may_join : (w : Setting) (n : Reading) (g : Grips) (r at m : ℕ) (marks : List Mark) (table : List LineageState) → IsRead w n → IsRosterFor (length w.first) w.runs → may_follow w n (Placed (run_no r) at m) ≡ true → IsClear w (in_order n (line_for w n r m)) g r at → MarksAreKept n g marks → TableIsKept w n g table → MayJoin w r at (marks_for w n r m marks) table
+pub may_join : (w : Setting) (n : Reading) (g : Grips) (r at m : ℕ) (marks : List Mark) (table : List LineageState) → IsRead w n
+    → IsRosterFor (length w.first) w.runs → may_follow w n (Placed (run_no r) at m) ≡ true → IsClear w (in_order n (line_for w n r m)) g r at
+    → MarksAreKept n g marks → TableIsKept w n g table → MayJoin w r at (marks_for w n r m marks) table
 may_join w n g r at m marks table read allowed may clear line_is table_is = record {
   few = subst (λ k. k ≤ 256) (sym table_is.devices) allowed.few_devices;
   homed = λ k c within. subst (λ x. (get_or (commands_of w.runs r) k c).device.0 < x) (sym table_is.devices) (allowed.homed r k (get_or (commands_of w.runs r) k c) (slice_get-get_or (commands_of w.runs r) k c within));
   absent = unplaced_absent w later g r (marks_for w n r m marks) told none marks_are;
-  new = λ d lt used. let below : d < length w.first = subst (λ x. d < x) table_is.devices lt in subst (λ is. IsNewOn r (drop at is) (lineage_at table d)) (sym marks_are.items) (new_on w later g r at m told may clear d below (lineage_at table d) used ((table_kept w n g (line_for w n r m) table read (same_parts w n r m) table_is).each d below));
+  new =
+      λ d lt used. let below : d < length w.first = subst (λ x. d < x) table_is.devices lt in
+      subst (λ is. IsNewOn r (drop at is) (lineage_at table d)) (sym marks_are.items) (new_on w later g r at m told may clear d below (lineage_at table d) used
+      ((table_kept w n g (line_for w n r m) table read (same_parts w n r m) table_is).each d below));
 }
   where
     later : Reading
@@ -314,7 +327,9 @@ pub record IsJoined {D : Type 0} (h t : Inside D) (r at m : ℕ) : Type 0 where
 
 -- .. with its planned uses, as the scratch has them where it is placed by the timeline
 pub joins_planned : {D : Type 0} (h : Inside D) (s : OpenHub D) (r at m now : ℕ) (room : ScratchRoom) (uses : List (Option PlannedUse)) (runs : List Run) (back : List Item) (later : List LineageState) → open_of h ≡ s → HoldsPlan room (configuration_of s) r (max s.moment m) at → now ≡ max h.moment m
-    → ((front : List Item) → (scheduler_of h.history.setting.mode ≡ Timeline → HoldsTimes room.slots (planned_times h.history.setting (read_in h.history) r front now)) → AreUsesOf uses (planned_times h.history.setting (read_in h.history) r front now)) → runs ≡ h.history.setting.runs → length h.order.table ≤ 256
+    → ((front : List Item)
+    → (scheduler_of h.history.setting.mode ≡ Timeline → HoldsTimes room.slots (planned_times h.history.setting (read_in h.history) r front now))
+    → AreUsesOf uses (planned_times h.history.setting (read_in h.history) r front now)) → runs ≡ h.history.setting.runs → length h.order.table ≤ 256
     → ChangesEach (scheduled_with runs r uses back) h.order.table later → ChangesEach (scheduled_on h.history.setting.runs r (planned_times h.history.setting (read_in h.history) r (front_for h.history.setting (read_in h.history) r at (max h.moment m)) (max h.moment m)) back) h.order.table later
 joins_planned {D = D} h s r at m now room uses runs back later seen holds is planned same few changes =
     scheduled_as_planned w.runs r uses (times (max h.moment m)) back h.order.table later few are (λ d. planned_devices w n r (front_for w n r at (max h.moment m)) (max h.moment m) d) (subst (λ (x : List Run). ChangesEach (scheduled_with x r uses back) h.order.table later) same changes)
@@ -337,12 +352,16 @@ joins_planned {D = D} h s r at m now room uses runs back later seen holds is pla
     are : AreUsesOf uses (times (max h.moment m))
     are = subst (λ t. AreUsesOf uses (times t)) is (planned front (subst (λ t. scheduler_of w.mode ≡ Timeline → HoldsTimes room.slots (times t)) (sym is) holds_here))
 
-pub joins_whole : {D : Type 0} {stands turns probes faults : D → ℕ} (h t : Inside D) (r at m : ℕ) → IsEntered h t r m (Placed (run_no r) at (max h.moment m) ∷ []) Going → IsJoined h t r at m → is_weak h.history.setting.mode ≡ false → IsWhole stands turns probes faults h → IsWhole stands turns probes faults t
+pub joins_whole : {D : Type 0} {stands turns probes faults : D → ℕ} (h t : Inside D) (r at m : ℕ)
+    → IsEntered h t r m (Placed (run_no r) at (max h.moment m) ∷ []) Going → IsJoined h t r at m → is_weak h.history.setting.mode ≡ false
+    → IsWhole stands turns probes faults h → IsWhole stands turns probes faults t
 joins_whole h t r at m enters joined strong k = entered_whole h t r m _ Going enters (λ formed.
     order_placed h.history _ _ r at (max h.moment m) h.order.line t.order.line h.order.table t.order.table (read_whole h k) k.shown.configuration.grips strong (joins_at h r at m enters.chosen k).clear refl formed joined.marks joined.spare joined.runs joined.sealed joined.table k.order) k
 
 -- .. under the weak model it is scheduled on none
-pub enters_whole : {D : Type 0} {stands turns probes faults : D → ℕ} (h t : Inside D) (r at m : ℕ) → IsEntered h t r m (Placed (run_no r) at (max h.moment m) ∷ []) Going → t.order.line.marks ≡ with_item at (Ran (run_no r)) h.order.line.marks → t.order.line.spare + 1 ≡ h.order.line.spare → t.order.line.runs ≡ h.order.line.runs → t.order.line.sealed ≡ h.order.line.sealed → t.order.table ≡ h.order.table
+pub enters_whole : {D : Type 0} {stands turns probes faults : D → ℕ} (h t : Inside D) (r at m : ℕ) → IsEntered h t r m
+    (Placed (run_no r) at (max h.moment m) ∷ []) Going → t.order.line.marks ≡ with_item at (Ran (run_no r)) h.order.line.marks → t.order.line.spare + 1
+    ≡ h.order.line.spare → t.order.line.runs ≡ h.order.line.runs → t.order.line.sealed ≡ h.order.line.sealed → t.order.table ≡ h.order.table
     → is_weak h.history.setting.mode ≡ true → IsWhole stands turns probes faults h → IsWhole stands turns probes faults t
 enters_whole h t r at m enters marks spare runs sealed same weak k = entered_whole h t r m _ Going enters (λ formed.
     subst (OrderIsBeside h.rounds (with_entry h.history r (Placed (run_no r) at (max h.moment m))) (configuration_of (open_of h)).grips t.order.line) (sym same)
@@ -383,7 +402,9 @@ hub_downs {D = D} h s r p c seen known sound next guard home down k =
 
 -- A run ends
 
-pub commits_whole : {D : Type 0} {stands turns probes faults : D → ℕ} (h t : Inside D) (r m : ℕ) → IsEntered h t r m (Ended (run_no r) Committed ∷ []) (Ending Committed) → t.order.line.marks ≡ settling r h.order.line.marks → t.order.line.spare ≡ h.order.line.spare → t.order.line.runs ≡ h.order.line.runs → IsSealed t.order.line → ChangesEach (λ d. committed_lineage r) h.order.table t.order.table
+pub commits_whole : {D : Type 0} {stands turns probes faults : D → ℕ} (h t : Inside D) (r m : ℕ) → IsEntered h t r m (Ended (run_no r) Committed ∷ [])
+    (Ending Committed) → t.order.line.marks ≡ settling r h.order.line.marks → t.order.line.spare ≡ h.order.line.spare → t.order.line.runs ≡ h.order.line.runs
+    → IsSealed t.order.line → ChangesEach (λ d. committed_lineage r) h.order.table t.order.table
     → IsWhole stands turns probes faults h → IsWhole stands turns probes faults t
 commits_whole h t r m enters marks spare runs sealed table k = entered_whole h t r m _ (Ending Committed) enters (λ formed.
     order_committed h.history _ _ r h.order.line t.order.line h.order.table t.order.table (read_whole h k) k.shown.configuration.grips refl formed marks spare runs sealed table k.order) k
@@ -427,7 +448,9 @@ dropped_there h r m d is k =
     let within = below_home h.history.setting d (dropping (configuration_of (open_of h)) h.rounds h.opened (held_in (open_of h)) r m d k.shown.configuration is).device in
     omega (arith, within, k.order.table_is.devices)
 
-pub drops_whole : {D : Type 0} {stands turns probes faults : D → ℕ} (h t : Inside D) (r m d : ℕ) → IsEntered h t r m (Undid (run_no r) (device_no d) false ∷ []) Going → t.order.line ≡ h.order.line → t.order.table ≡ with_lineage h.order.table d (undone r) → IsWhole stands turns probes faults h → IsWhole stands turns probes faults t
+pub drops_whole : {D : Type 0} {stands turns probes faults : D → ℕ} (h t : Inside D) (r m d : ℕ)
+    → IsEntered h t r m (Undid (run_no r) (device_no d) false ∷ []) Going → t.order.line ≡ h.order.line
+    → t.order.table ≡ with_lineage h.order.table d (undone r) → IsWhole stands turns probes faults h → IsWhole stands turns probes faults t
 drops_whole h t r m d enters line table k = entered_whole h t r m _ Going enters (λ formed.
     order_dropped h.history _ _ r d h.order.line t.order.line h.order.table t.order.table (read_whole h k) (dropped_there h r m d enters.chosen k) refl line table k.order) k
 
@@ -465,7 +488,8 @@ pub record MayTellDown {D : Type 0} (h : Inside D) (r k : ℕ) : Type 0 where
   pub homed : (command_at h.history.setting.runs r k).device.0 < length h.order.table
   pub turn : is_weak h.history.setting.mode ≡ false → MayNote r (lineage_at h.order.table (command_at h.history.setting.runs r k).device.0)
 
-pub may_tell_down : {D : Type 0} {stands turns probes faults : D → ℕ} (h : Inside D) (r m k : ℕ) (must : Bool) → choice_of (configuration_of (open_of h)) r m ≡ Moves (Did (run_no r) k Down ∷ (if must then Doomed (run_no r) (MustDown k) ∷ [] else [])) → IsWhole stands turns probes faults h → MayTellDown h r k
+pub may_tell_down : {D : Type 0} {stands turns probes faults : D → ℕ} (h : Inside D) (r m k : ℕ) (must : Bool) → choice_of (configuration_of (open_of h)) r m
+    ≡ Moves (Did (run_no r) k Down ∷ (if must then Doomed (run_no r) (MustDown k) ∷ [] else [])) → IsWhole stands turns probes faults h → MayTellDown h r k
 may_tell_down h r m k must is whole = record {
   run = live_run w (read_in h.history) r (read_whole h whole).shaped down.live;
   number = down.number;
@@ -504,7 +528,8 @@ pub record IsToldSo {D : Type 0} (h t : Inside D) (r k : ℕ) (must : Bool) (c :
   pub changed : IsSome cause → ChangesEach (λ d. doomed_lineage r) between.table t.order.table
 
 -- there is a place for the answer, ..
-pub down_place : {D : Type 0} {stands turns probes faults : D → ℕ} (h : Inside D) (r m k : ℕ) (must : Bool) → choice_of (configuration_of (open_of h)) r m ≡ Moves (Did (run_no r) k Down ∷ (if must then Doomed (run_no r) (MustDown k) ∷ [] else [])) → IsWhole stands turns probes faults h → 0 < h.history.spare
+pub down_place : {D : Type 0} {stands turns probes faults : D → ℕ} (h : Inside D) (r m k : ℕ) (must : Bool) → choice_of (configuration_of (open_of h)) r m
+    ≡ Moves (Did (run_no r) k Down ∷ (if must then Doomed (run_no r) (MustDown k) ∷ [] else [])) → IsWhole stands turns probes faults h → 0 < h.history.spare
 down_place h r m k must is whole = at must (has_places h r m _ Going is whole)
   where
     at : (b : Bool) → length (Did (run_no r) k Down ∷ (if b then Doomed (run_no r) (MustDown k) ∷ [] else [])) ≤ h.history.spare → 0 < h.history.spare
@@ -595,7 +620,9 @@ pub standing_size : (s : Configuration) (table : List LineageState) (line : List
 standing_size s table line history runs parts = sym (length-map line (λ (x : Mark). x.item)) ∙ ap length parts.its_line.items
 
 -- the line of a hub has no more items than the scratch has room for
-pub standing_fits : {D : Type 0} {stands turns probes faults : D → ℕ} (h : Inside D) (s : OpenHub D) (table : List LineageState) (line : List Mark) (history : List Kept) (runs : List Run) (room : ScratchRoom) → open_of h ≡ s → IsStandingOf (configuration_of s) table line history runs → IsForHome s.setting s.rounds room → IsWhole stands turns probes faults h → length line ≤ room.items
+pub standing_fits : {D : Type 0} {stands turns probes faults : D → ℕ} (h : Inside D) (s : OpenHub D) (table : List LineageState) (line : List Mark)
+    (history : List Kept) (runs : List Run) (room : ScratchRoom) → open_of h ≡ s → IsStandingOf (configuration_of s) table line history runs
+    → IsForHome s.setting s.rounds room → IsWhole stands turns probes faults h → length line ≤ room.items
 standing_fits {D = D} h s table line history runs room seen parts home k =
     let size = standing_size (configuration_of s) table line history runs parts in
     let fits = subst (λ (x : OpenHub D). length (read_of (configuration_of x)).line ≤ most_items (length x.setting.runs) (length x.setting.first) x.rounds) seen (line_fits _ h.rounds h.opened _ k.shown.configuration) in
@@ -609,7 +636,9 @@ pub record MayMark (r d : ℕ) (marks : List Mark) (table : List LineageState) :
   pub device : d < 256
   pub homed : d < length table
 
-pub may_mark : (s : Configuration) (rounds opened : ℕ) (held : ℕ → ℕ) (r m d : ℕ) (purpose : Purpose) (marks : List Mark) (table : List LineageState) → IsKeptByModel s rounds opened held → choice_of s r m ≡ HandsOut d purpose → MarksAreKept (read_of s) s.grips marks → length table ≡ length s.setting.first → MayMark r d marks table
+pub may_mark : (s : Configuration) (rounds opened : ℕ) (held : ℕ → ℕ) (r m d : ℕ) (purpose : Purpose) (marks : List Mark) (table : List LineageState)
+    → IsKeptByModel s rounds opened held → choice_of s r m ≡ HandsOut d purpose → MarksAreKept (read_of s) s.grips marks → length table ≡ length s.setting.first
+    → MayMark r d marks table
 may_mark s rounds opened held r m d purpose marks table k chose line_is size = record {
   stands = live_stands s.setting (read_of s) s.grips r marks (read_kept s rounds opened held k) out.live line_is;
   device = let few : length s.setting.first ≤ 256 = k.opens.few_devices in omega (arith, within, few);
@@ -623,10 +652,16 @@ may_mark s rounds opened held r m d purpose marks table k chose line_is size = r
     within = below_home s.setting d out.device
 
 -- line and table when a device has gone out for this purpose
-went_for : {rounds : ℕ} (h : HistoryState) (s : Configuration) (g f : Grips) (r d : ℕ) (purpose : Purpose) (line after : Marked) (table later : List LineageState) → s.setting ≡ h.setting → read_of s ≡ read_in h → IsRead h.setting (read_in h) → g d ≡ None → d < length table → GoesFor s r d purpose → f ≡ put g d (Some (record { maker = r; purpose = purpose }))
-    → after.marks ≡ (if is_command purpose then touching r d line.marks else line.marks) → after.spare ≡ line.spare → after.runs ≡ line.runs → after.sealed ≡ line.sealed → later ≡ (if is_undo purpose then with_lineage table d (undone r) else table) → OrderIsBeside rounds h g line table → OrderIsBeside rounds h f after later
+went_for : {rounds : ℕ} (h : HistoryState) (s : Configuration) (g f : Grips) (r d : ℕ) (purpose : Purpose) (line after : Marked)
+    (table later : List LineageState) → s.setting ≡ h.setting → read_of s ≡ read_in h → IsRead h.setting (read_in h) → g d ≡ None → d < length table
+    → GoesFor s r d purpose → f ≡ put g d (Some (record { maker = r; purpose = purpose }))
+    → after.marks ≡ (if is_command purpose then touching r d line.marks else line.marks) → after.spare ≡ line.spare → after.runs ≡ line.runs
+    → after.sealed ≡ line.sealed → later ≡ (if is_undo purpose then with_lineage table d (undone r) else table) → OrderIsBeside rounds h g line table
+    → OrderIsBeside rounds h f after later
 went_for h s g f r d (Commands k) line after table later setting same read home below for out marks spare runs stays changed order =
-    order_out h g f r d k line after table later home (ap (λ n. is_doomed n r) (sym same) ∙ for.sound) (ap₂ (λ w n. pends w n r d) (sym setting) (sym same) ∙ next_is_left d (commands_of s.setting.runs r) (next_of (read_of s) r) (ap (λ o. unwrap_or (option_map (is_on d) o) false) for.next ∙ eq-eqb for.command.device.0 d for.on)) out marks spare runs stays changed order
+    order_out h g f r d k line after table later home (ap (λ n. is_doomed n r) (sym same) ∙ for.sound)
+    (ap₂ (λ w n. pends w n r d) (sym setting) (sym same) ∙ next_is_left d (commands_of s.setting.runs r) (next_of (read_of s) r)
+    (ap (λ o. unwrap_or (option_map (is_on d) o) false) for.next ∙ eq-eqb for.command.device.0 d for.on)) out marks spare runs stays changed order
 went_for h s g f r d (Undoes v) line after table later setting same read home below for out marks spare runs stays changed order = order_undo_out h g f r d v line after table later read home below out marks spare runs stays changed order
 went_for h s g f r d (Probes v) line after table later setting same read home below for out marks spare runs stays changed order = absurd for
 
@@ -650,7 +685,9 @@ order_went : {D : Type 0} {stands turns probes faults : D → ℕ} (h t : Inside
     → IsWhole stands turns probes faults h → OrderIsBeside h.rounds h.history (configuration_of (open_of t)).grips t.order.line t.order.table
 order_went {D = D} h t r m d purpose known task grip handed touched k =
     went_for h.history s g (configuration_of (open_of t)).grips r d (purpose_of purpose) h.order.line t.order.line h.order.table t.order.table refl refl (read_whole h k) (none_there (g d) out.home)
-    (let first : d < length h.history.setting.first = below_home h.history.setting d out.device in let size : length h.order.table ≡ length h.history.setting.first = k.order.table_is.devices in omega (arith, first, size)) out.for gone touched.marks touched.spare touched.runs touched.sealed touched.table k.order
+    (let first : d < length h.history.setting.first = below_home h.history.setting d out.device in
+    let size : length h.order.table ≡ length h.history.setting.first = k.order.table_is.devices in omega (arith, first, size)) out.for gone touched.marks
+    touched.spare touched.runs touched.sealed touched.table k.order
   where
     s : Configuration
     s = configuration_of (open_of h)
@@ -669,7 +706,10 @@ hands_went : {D : Type 0} {stands turns probes faults : D → ℕ} (h t : Inside
     → IsWhole stands turns probes faults h → HandsAre h.history.setting (configuration_of (open_of t)).grips t.away.hands.items
 hands_went h t r m d purpose known task grip handed k =
     let out = handed_out (configuration_of (open_of h)) h.rounds h.opened (held_in (open_of h)) r m d (purpose_of purpose) k.shown.configuration handed.chosen in
-    hand_goes h.history.setting (configuration_of (open_of h)).grips (configuration_of (open_of t)).grips r (device_no d) (purpose_of purpose) h.away.hands.items t.away.hands.items out.run (below_home h.history.setting d out.device) out.free (none_there _ out.home) (gone_grips h t r m d purpose known task grip handed k) (handed.sent.hands ∙ run_hand h.history.setting.runs h.away.hands.items r (Some (device_no d)) out.run) k.hands
+    hand_goes h.history.setting (configuration_of (open_of h)).grips (configuration_of (open_of t)).grips r (device_no d)
+    (purpose_of purpose) h.away.hands.items t.away.hands.items out.run (below_home h.history.setting d out.device) out.free (none_there _ out.home)
+    (gone_grips h t r m d purpose known task grip handed k)
+    (handed.sent.hands ∙ run_hand h.history.setting.runs h.away.hands.items r (Some (device_no d)) out.run) k.hands
 
 -- the device is handed out, and touched by its run
 pub handed_whole : {D : Type 0} {stands turns probes faults : D → ℕ} (h t : Inside D) (r m d : ℕ) (purpose : KeptPurpose) (known : DeviceProgress) (task : Task) (grip : Gripped D Ready) → IsHanded turns probes faults h t r m d purpose known task grip → IsTouched h t r d (purpose_of purpose)

@@ -171,7 +171,9 @@ stands_home : {D : Type 0} (stands turns probes faults : D → ℕ) (s : OpenHub
 stands_home stands turns probes faults s r m d purpose device k chosen at = (k.home d device at).stand (handed_out (configuration_of s) s.rounds s.opened (held_in s) r m d purpose k.configuration chosen).up
 
 -- it may go out to its run
-pub may_send : {D : Type 0} {stands turns probes faults : D → ℕ} (h : Inside D) (r m d : ℕ) (purpose : Purpose) (known : DeviceProgress) (task : Task) → choice_of (configuration_of (open_of h)) r m ≡ HandsOut d purpose → known ≡ progress_at h.away.known.items d → IsWhole stands turns probes faults h → MaySend stands turns probes faults h.away d r known.held task
+pub may_send : {D : Type 0} {stands turns probes faults : D → ℕ} (h : Inside D) (r m d : ℕ) (purpose : Purpose) (known : DeviceProgress) (task : Task)
+    → choice_of (configuration_of (open_of h)) r m ≡ HandsOut d purpose → known ≡ progress_at h.away.known.items d → IsWhole stands turns probes faults h
+    → MaySend stands turns probes faults h.away d r known.held task
 may_send {stands = stands} {turns = turns} {probes = probes} {faults = faults} h r m d purpose known task chosen known_is k =
     let home = out_home stands turns probes faults (open_of h) r m d purpose k.shown chosen in
     let out = handed_out (configuration_of (open_of h)) h.rounds h.opened (held_in (open_of h)) r m d purpose k.shown.configuration chosen in
@@ -192,7 +194,11 @@ went_configuration : {D : Type 0} (s : OpenHub D) (r d m : ℕ) (purpose : KeptP
     → configuration_of (gone s d purpose (progress_at s.devices d).probes_left slip task (max s.moment m)) ≡ with_grip (at_moment (configuration_of s) m) d (Some (record { maker = r; purpose = purpose_of purpose }))
 went_configuration s r d m purpose slip task maker within known =
     gone_configuration s r d (progress_at s.devices d).probes_left (max s.moment m) purpose slip task maker within known
-    ∙ ap (λ (f : ℕ → ℕ). record (configuration_of s) { moment = max s.moment m; probes = f; grips = put (configuration_of s).grips d (Some (record { maker = r; purpose = purpose_of purpose })) }) (sym (put_at (configuration_of s).probes (configuration_of s).probes d (progress_at s.devices d).probes_left refl (λ e other. refl)))
+    ∙ ap (λ (f : ℕ → ℕ). record (configuration_of s) {
+      moment = max s.moment m;
+      probes = f;
+      grips = put (configuration_of s).grips d (Some (record { maker = r; purpose = purpose_of purpose }));
+    }) (sym (put_at (configuration_of s).probes (configuration_of s).probes d (progress_at s.devices d).probes_left refl (λ e other. refl)))
 
 went_state : {D : Type 0} (s : OpenHub D) (r d m : ℕ) (purpose : KeptPurpose) (slip : Slip) (task : Task) → slip.maker ≡ r → task ≡ task_of (configuration_of s) r (purpose_of purpose) → d < length s.places → d < length s.devices
     → hub_state_of (gone s d purpose (progress_at s.devices d).probes_left slip task (max s.moment m)) ≡ record { configuration = after_choice (at_moment (configuration_of s) m) r (HandsOut d (purpose_of purpose)); carried = carried_after (hub_state_of s) r (HandsOut d (purpose_of purpose)) slip }

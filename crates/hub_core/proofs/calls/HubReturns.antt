@@ -38,12 +38,16 @@ use Rattle.std.specs.Prelude.{Bool, IsSome, List, None, Option, Some, [], false,
 -- For what it was out
 
 -- the command for which it was out
-pub command_back : {D : Type 0} {stands turns probes faults : D → ℕ} (h : Inside D) (s : OpenHub D) (slip : Slip) (task : Task) (k : ℕ) → open_of h ≡ s → IsKept s.places slip task → (progress_at s.devices slip.device.0).purpose ≡ ForCommand k → IsWhole stands turns probes faults h → IsForCommand (open_of h) slip task k
+pub command_back : {D : Type 0} {stands turns probes faults : D → ℕ} (h : Inside D) (s : OpenHub D) (slip : Slip) (task : Task) (k : ℕ) → open_of h ≡ s
+    → IsKept s.places slip task → (progress_at s.devices slip.device.0).purpose ≡ ForCommand k → IsWhole stands turns probes faults h
+    → IsForCommand (open_of h) slip task k
 command_back {D = D} h s slip task k seen there for whole =
     for_command _ _ _ _ (open_of h) slip task k whole.shown (ap (λ (x : OpenHub D). slice_get x.places slip.device.0) seen ∙ there) (ap (λ (x : OpenHub D). (progress_at x.devices slip.device.0).purpose) seen ∙ for)
 
 -- no probe was out
-pub no_probe : {D : Type 0} {stands turns probes faults : D → ℕ} (h : Inside D) (s : OpenHub D) (slip : Slip) (task : Task) (v : Option ℕ) → open_of h ≡ s → IsKept s.places slip task → 0 < slip.maker → (progress_at h.away.known.items slip.device.0).purpose ≡ ForProbe v → IsWhole stands turns probes faults h → ⊥
+pub no_probe : {D : Type 0} {stands turns probes faults : D → ℕ} (h : Inside D) (s : OpenHub D) (slip : Slip) (task : Task) (v : Option ℕ) → open_of h ≡ s
+    → IsKept s.places slip task → 0 < slip.maker → (progress_at h.away.known.items slip.device.0).purpose ≡ ForProbe v
+    → IsWhole stands turns probes faults h → ⊥
 no_probe {D = D} h s slip task v seen there maker for k =
     let out = out_for _ _ _ _ (open_of h) slip task (ForProbe v) k.shown (ap (λ (x : OpenHub D). slice_get x.places slip.device.0) seen ∙ there) for in
     absurd (let both : false ≡ true = out.maker ∙ lt-ltb 0 slip.maker maker in cc)
@@ -110,7 +114,9 @@ answer_place h k tag grip returned lives whole =
     omega (arith, fits, some)
 
 -- .. and behind it one for the doom
-pub doom_place : {D : Type 0} {stands turns probes faults : D → ℕ} (h : Inside D) (k tag : ℕ) (grip : Gripped D Done) (slip : Slip) (a : Answer) (cause : Option Cause) (mid after : HistoryState) → IsReturned stands turns probes faults h (ForCommand k) tag grip → IsAnswered h grip k slip a cause mid after
+pub doom_place : {D : Type 0} {stands turns probes faults : D → ℕ} (h : Inside D) (k tag : ℕ) (grip : Gripped D Done) (slip : Slip) (a : Answer)
+    (cause : Option Cause) (mid after : HistoryState) → IsReturned stands turns probes faults h (ForCommand k) tag grip
+    → IsAnswered h grip k slip a cause mid after
     → IsWhole stands turns probes faults h → IsSome cause → 0 < mid.spare
 doom_place {D = D} h k tag grip slip a cause mid after returned answered whole some = at cause some (answer_gives h k grip slip a cause mid after answered)
   where
@@ -122,7 +128,9 @@ doom_place {D = D} h k tag grip slip a cause mid after returned answered whole s
         let left : mid.spare ≡ h.history.spare - 1 = ap (λ (y : HistoryState). y.spare) answered.answered in
         omega (arith, long, fits, left)
 
-pub answered_back : {D : Type 0} {stands turns probes faults : D → ℕ} (h t : Inside D) (k tag : ℕ) (grip : Gripped D Done) (slip : Slip) (a : Answer) (cause : Option Cause) (mid : HistoryState) → IsReturned stands turns probes faults h (ForCommand k) tag grip → IsHome h t grip → IsAnswered h grip k slip a cause mid t.history
+pub answered_back : {D : Type 0} {stands turns probes faults : D → ℕ} (h t : Inside D) (k tag : ℕ) (grip : Gripped D Done) (slip : Slip) (a : Answer)
+    (cause : Option Cause) (mid : HistoryState) → IsReturned stands turns probes faults h (ForCommand k) tag grip → IsHome h t grip
+    → IsAnswered h grip k slip a cause mid t.history
     → CameHome stands turns probes faults h t (ForCommand k) tag grip (answer_entries slip.maker k a cause)
 answered_back h t k tag grip slip a cause mid returned parts answered =
     record {
@@ -142,7 +150,9 @@ answer_made slip k a cause e o entry_is made = ap₂ (λ x y. entries_made (reco
 
 -- An undo came back
 
-pub undone_back : {D : Type 0} {stands turns probes faults : D → ℕ} (h t : Inside D) (v tag : ℕ) (grip : Gripped D Done) (slip : Slip) → IsReturned stands turns probes faults h (ForUndo v) tag grip → IsHome h t grip → slip ≡ grip.slip → has_died grip.stage.told ≡ false → t.history ≡ with_entry h.history slip.maker (Undid (run_no slip.maker) slip.device true)
+pub undone_back : {D : Type 0} {stands turns probes faults : D → ℕ} (h t : Inside D) (v tag : ℕ) (grip : Gripped D Done) (slip : Slip)
+    → IsReturned stands turns probes faults h (ForUndo v) tag grip → IsHome h t grip → slip ≡ grip.slip → has_died grip.stage.told ≡ false
+    → t.history ≡ with_entry h.history slip.maker (Undid (run_no slip.maker) slip.device true)
     → CameHome stands turns probes faults h t (ForUndo v) tag grip (Undid (run_no slip.maker) slip.device true ∷ [])
 undone_back h t v tag grip slip returned parts same lives new =
     record {

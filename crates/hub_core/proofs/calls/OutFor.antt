@@ -108,7 +108,9 @@ for_command stands turns probes faults s slip task k kept there purpose =
       does = does;
       stood = fits.stand (subst (λ x. IsTrue (is_counted_up x)) (sym does) (task_up (kind_at w.kinds (command_at w.runs r k).device.0) (command_at w.runs r k).job (n.run r).register));
       value = subst (λ x. IsTrue (has_value (kind_at w.kinds slip.device.0) (value_after x (held_in s slip.device.0)))) (sym (does ∙ ap (λ d. if reads (command_at w.runs r k).job then Sense else Drive (driven (kind_at w.kinds d) (command_at w.runs r k).job (n.run r).register)) on))
-          (task_value (kind_at w.kinds slip.device.0) (command_at w.runs r k).job (n.run r).register (held_in s slip.device.0) (subst (λ (c : Command). IsTrue (names_values_of (kind_at w.kinds slip.device.0) c.job)) (sym same) named) (kept.values slip.device.0 (below_home w slip.device.0 (subst (λ d. is_device w d ≡ true) out.1.on (homed)))));
+          (task_value (kind_at w.kinds slip.device.0) (command_at w.runs r k).job (n.run r).register (held_in s slip.device.0)
+          (subst (λ (c : Command). IsTrue (names_values_of (kind_at w.kinds slip.device.0) c.job)) (sym same) named)
+          (kept.values slip.device.0 (below_home w slip.device.0 (subst (λ d. is_device w d ≡ true) out.1.on (homed)))));
     }
   where
     w : Setting
@@ -191,7 +193,11 @@ undo_for stands turns probes faults s slip task v kept there purpose =
       up = ap is_counted_up does;
       calls = ap turns_of does;
       stood = fits.stand;
-      value = subst (λ x. IsTrue (has_value (kind_at s.setting.kinds slip.device.0) (value_after x (held_in s slip.device.0)))) (sym does) ((kept.configuration.ordered (undo_ordered (configuration_of s) s.rounds s.opened (held_in s) slip.device.0 slip.maker v grip kept.configuration)).undos slip.device.0 (record { maker = slip.maker; purpose = Undoes v }) grip);
+      value =
+          subst (λ x. IsTrue (has_value (kind_at s.setting.kinds slip.device.0) (value_after x (held_in s slip.device.0)))) (sym does)
+          ((kept.configuration.ordered
+          (undo_ordered (configuration_of s) s.rounds s.opened (held_in s) slip.device.0 slip.maker v grip kept.configuration)).undos slip.device.0
+          (record { maker = slip.maker; purpose = Undoes v }) grip);
     }
   where
     n : Reading
@@ -321,7 +327,9 @@ probe_brings s held r d (Some u) (Sensed x) = refl
 probe_brings s held r d (Some u) Died = tt
 
 -- the cases; of a device that died nothing is known
-pub brings_back : {D : Type 0} (s : OpenHub D) (slip : Slip) (task : Task) (purpose : Purpose) (told : Told) → IsFor s slip task purpose → IsTrue (may_tell task slip.stood told) → BringsFor (configuration_of s) (held_in s) slip.maker slip.device.0 (held_after told task (held_in s slip.device.0)) purpose told
+pub brings_back : {D : Type 0} (s : OpenHub D) (slip : Slip) (task : Task) (purpose : Purpose) (told : Told) → IsFor s slip task purpose
+    → IsTrue (may_tell task slip.stood told)
+    → BringsFor (configuration_of s) (held_in s) slip.maker slip.device.0 (held_after told task (held_in s slip.device.0)) purpose told
 brings_back s slip task (Commands k) Worked for fits = wrote_brings (configuration_of s) (held_in s) slip.maker k slip.device.0 slip.stood task for.on for.does fits
 brings_back s slip task (Commands k) (Sensed x) for fits = found_brings (configuration_of s) (held_in s) slip.maker k slip.device.0 x slip.stood task for.does fits (for.stood for.up)
 brings_back s slip task (Commands k) Died for fits = tt

@@ -65,7 +65,8 @@ pub timed_front : (w : Setting) (n : Reading) (r at m : ℕ) → scheduler_of w.
 timed_front w n r at m timed = rw timed refl
 
 -- what the scratch holds then
-pub holds_gap : (room : ScratchRoom) (s : Configuration) (r m at : ℕ) → scheduler_of s.setting.mode ≡ Timeline → room.before ≡ gap_set s.setting (read_of s) r m → HoldsTimes room.slots (planned_times s.setting (read_of s) r (chosen (gap_set s.setting (read_of s) r m) (read_of s).line) m) → HoldsGap room s r m at
+pub holds_gap : (room : ScratchRoom) (s : Configuration) (r m at : ℕ) → scheduler_of s.setting.mode ≡ Timeline → room.before ≡ gap_set s.setting (read_of s) r m
+    → HoldsTimes room.slots (planned_times s.setting (read_of s) r (chosen (gap_set s.setting (read_of s) r m) (read_of s).line) m) → HoldsGap room s r m at
 holds_gap room s r m at timed set times = record {
   set = set;
   times = subst (λ front. HoldsTimes room.slots (planned_times s.setting (read_of s) r front m)) (sym (timed_front s.setting (read_of s) r at m timed)) times;
@@ -111,7 +112,10 @@ turn_earliest s t r m Absent is = tt
 pub still_for : {D : Type 0} (s t : OpenHub D) (before after : ScratchRoom) → HasSameRoom before after → SameWindow s t → IsForHome s.setting s.rounds before → IsForHome t.setting t.rounds after
 still_for s t before after same window fits = record {
   devices = same.devices ∙ fits.devices ∙ sym (ap (λ (w : Setting). length w.first) window.setting);
-  items = subst (λ (w : Setting). most_items (length w.runs) (length w.first) t.rounds ≤ after.items) (sym window.setting) (subst (λ k. most_items (length s.setting.runs) (length s.setting.first) k ≤ after.items) (sym window.rounds) (subst (λ k. most_items (length s.setting.runs) (length s.setting.first) s.rounds ≤ k) (sym same.items) fits.items));
+  items =
+      subst (λ (w : Setting). most_items (length w.runs) (length w.first) t.rounds ≤ after.items) (sym window.setting)
+      (subst (λ k. most_items (length s.setting.runs) (length s.setting.first) k ≤ after.items) (sym window.rounds)
+      (subst (λ k. most_items (length s.setting.runs) (length s.setting.first) s.rounds ≤ k) (sym same.items) fits.items));
 }
 
 -- .. and where it is left as it is

@@ -96,7 +96,9 @@ probe_here {D = D} {stands = stands} {turns = turns} {probes = probes} {faults =
     returned = record { there = there; purpose = out.1; called = known.called }
 
 -- the grip that was out
-probe_grip : {D : Type 0} {stands turns probes faults : D → ℕ} {h : Inside D} {tag : ℕ} {grip : Gripped D Done} (here : ProbeHere stands turns probes faults h tag grip) → grip.slip.maker ≡ 0 → (configuration_of (open_of h)).grips grip.slip.device.0 ≡ Some (record { maker = 0; purpose = Probes here.v })
+probe_grip : {D : Type 0} {stands turns probes faults : D → ℕ} {h : Inside D} {tag : ℕ} {grip : Gripped D Done}
+    (here : ProbeHere stands turns probes faults h tag grip) → grip.slip.maker ≡ 0
+    → (configuration_of (open_of h)).grips grip.slip.device.0 ≡ Some (record { maker = 0; purpose = Probes here.v })
 probe_grip here none = here.for.grip ∙ ap (λ m. Some (record { maker = m; purpose = Probes here.v })) none
 
 -- it was in no run's hand
@@ -144,7 +146,8 @@ same_whole h t s tag grip sl known same parts history order k =
     (subst (λ (x : KeptOrder). OrderIsBeside h.rounds h.history (configuration_of (open_of t)).grips x.line x.table) (sym order)
     (order_probe_home h.history.setting (read_in h.history) (configuration_of (open_of h)).grips (configuration_of (open_of t)).grips grip.slip.device.0 here.v h.order.line h.order.table (probe_grip here known.maker) home k.order))) k
 
-pub same_given : {D : Type 0} {stands turns probes faults : D → ℕ} (h t : Inside D) (s : OpenHub D) (tag : ℕ) (grip : Gripped D Done) (sl : Slip) (made : Made) → ProbeKnown stands turns probes faults h s tag grip sl → (read_of (configuration_of s)).up grip.slip.device.0 ≡ not (has_died grip.stage.told)
+pub same_given : {D : Type 0} {stands turns probes faults : D → ℕ} (h t : Inside D) (s : OpenHub D) (tag : ℕ) (grip : Gripped D Done) (sl : Slip) (made : Made)
+    → ProbeKnown stands turns probes faults h s tag grip sl → (read_of (configuration_of s)).up grip.slip.device.0 ≡ not (has_died grip.stage.told)
     → IsHome h t grip → t.moment ≡ h.moment → t.history ≡ h.history → entries_made made ≡ [] → IsPacked made → IsWhole stands turns probes faults h → ProbeBack s (open_of t) grip made
 same_given h t s tag grip sl made known same parts moment history made_is packed k =
     let here = probe_here h s tag grip sl known k in
@@ -163,14 +166,18 @@ pub record FoundBack {D : Type 0} (h : Inside D) (s : OpenHub D) (grip : Gripped
   pub lives : has_died grip.stage.told ≡ false
   pub events_are : events ≡ events_after grip.task grip.stage.told (progress_at h.away.known.items grip.slip.device.0).events
 
-back_tells : {D : Type 0} {stands turns probes faults : D → ℕ} (h : Inside D) (s : OpenHub D) (tag : ℕ) (grip : Gripped D Done) (sl : Slip) (events : Events) → ProbeKnown stands turns probes faults h s tag grip sl → FoundBack h s grip events → (here : ProbeHere stands turns probes faults h tag grip) → TellsTurn stands turns probes faults h (ForProbe here.v) tag grip (Rose grip.slip.device) []
+back_tells : {D : Type 0} {stands turns probes faults : D → ℕ} (h : Inside D) (s : OpenHub D) (tag : ℕ) (grip : Gripped D Done) (sl : Slip) (events : Events)
+    → ProbeKnown stands turns probes faults h s tag grip sl → FoundBack h s grip events
+    → (here : ProbeHere stands turns probes faults h tag grip) → TellsTurn stands turns probes faults h (ForProbe here.v) tag grip (Rose grip.slip.device) []
 back_tells h s tag grip sl events known found here = record {
   returned = here.returned;
   gives = rose_gives h.history.setting (read_in h.history) grip.slip.device.0 grip.stage.told (counted_here h s grip.slip.device.0 false known.seen found.down) found.lives;
   leave = refl;
 }
 
-back_rises : {D : Type 0} {stands turns probes faults : D → ℕ} (h : Inside D) (s : OpenHub D) (tag : ℕ) (grip : Gripped D Done) (sl : Slip) (events : Events) → ProbeKnown stands turns probes faults h s tag grip sl → FoundBack h s grip events → (here : ProbeHere stands turns probes faults h tag grip) → Rises h (ForProbe here.v) grip sl events
+back_rises : {D : Type 0} {stands turns probes faults : D → ℕ} (h : Inside D) (s : OpenHub D) (tag : ℕ) (grip : Gripped D Done) (sl : Slip) (events : Events)
+    → ProbeKnown stands turns probes faults h s tag grip sl → FoundBack h s grip events
+    → (here : ProbeHere stands turns probes faults h tag grip) → Rises h (ForProbe here.v) grip sl events
 back_rises h s tag grip sl events known found here = record { same = known.same; down = sym here.for.on ∙ counted_here h s grip.slip.device.0 false known.seen found.down; lives = found.lives; events_are = found.events_are }
 
 -- the device may come back
@@ -185,7 +192,9 @@ pub record IsRisen {D : Type 0} (h t : Inside D) (sl : Slip) (events : Events) :
   pub history : t.history ≡ with_entry h.history 0 (Rose sl.device)
   pub rises : HasRisen h.history sl.device events.rose h.order.line t.order.line h.order.table t.order.table
 
-risen_back : {D : Type 0} {stands turns probes faults : D → ℕ} (h t : Inside D) (s : OpenHub D) (tag : ℕ) (grip : Gripped D Done) (sl : Slip) (events : Events) → ProbeKnown stands turns probes faults h s tag grip sl → FoundBack h s grip events → IsHome h t grip → IsRisen h t sl events → (here : ProbeHere stands turns probes faults h tag grip) → CameHome stands turns probes faults h t (ForProbe here.v) tag grip (Rose grip.slip.device ∷ [])
+risen_back : {D : Type 0} {stands turns probes faults : D → ℕ} (h t : Inside D) (s : OpenHub D) (tag : ℕ) (grip : Gripped D Done) (sl : Slip) (events : Events)
+    → ProbeKnown stands turns probes faults h s tag grip sl → FoundBack h s grip events → IsHome h t grip → IsRisen h t sl events
+    → (here : ProbeHere stands turns probes faults h tag grip) → CameHome stands turns probes faults h t (ForProbe here.v) tag grip (Rose grip.slip.device ∷ [])
 risen_back h t s tag grip sl events known found parts risen here =
     record {
       returned = here.returned;
@@ -195,19 +204,28 @@ risen_back h t s tag grip sl events known found parts risen here =
     }
 
 -- where its event stands
-place_told : {D : Type 0} {stands turns probes faults : D → ℕ} (h : Inside D) (d : DeviceNo) → d.0 < length h.history.setting.first → IsWhole stands turns probes faults h → event_place h.history.history None (accesses_at h.order.table d.0) h.order.line.marks ≡ event_place_of h.history.setting (read_in h.history) d.0
+place_told : {D : Type 0} {stands turns probes faults : D → ℕ} (h : Inside D) (d : DeviceNo) → d.0 < length h.history.setting.first
+    → IsWhole stands turns probes faults h
+    → event_place h.history.history None (accesses_at h.order.table d.0) h.order.line.marks ≡ event_place_of h.history.setting (read_in h.history) d.0
 place_told h d below k = either_model (event_place h.history.history None (accesses_at h.order.table d.0) h.order.line.marks ≡ event_place_of h.history.setting (read_in h.history) d.0) h.history.setting
     (λ weak. weak_place h.history.setting (read_in h.history) (configuration_of (open_of h)).grips d.0 h.history.history (accesses_at h.order.table d.0) h.order.line.marks weak (k.order.table_is.weakly weak d.0 below).accesses k.order.line_is)
-    (λ strong. event_told h.history.setting (read_in h.history) (configuration_of (open_of h)).grips (held_in (open_of h)) d.0 h.history.history (lineage_at h.order.table d.0) h.order.line.marks (read_whole h k) strong (lt-ltb d.0 (length h.history.setting.first) below) (k.shown.configuration.ordered strong).order ((k.order.table_is.ordered strong).each d.0 below) k.order.line_is (λ q. sound_is h.history.setting h.history.history q k.shown.configuration.history.well_formed))
+    (λ strong. event_told h.history.setting (read_in h.history) (configuration_of (open_of h)).grips (held_in (open_of h)) d.0 h.history.history
+    (lineage_at h.order.table d.0) h.order.line.marks (read_whole h k) strong (lt-ltb d.0 (length h.history.setting.first) below)
+    (k.shown.configuration.ordered strong).order ((k.order.table_is.ordered strong).each d.0 below) k.order.line_is
+    (λ q. sound_is h.history.setting h.history.history q k.shown.configuration.history.well_formed))
 
 table_place : {D : Type 0} {stands turns probes faults : D → ℕ} (h : Inside D) (d : ℕ) → d < length h.history.setting.first → IsWhole stands turns probes faults h → d < length h.order.table
 table_place h d below k = let size : length h.order.table ≡ length h.history.setting.first = k.order.table_is.devices in omega (arith, below, size)
 
-pub risen_whole : {D : Type 0} {stands turns probes faults : D → ℕ} (h t : Inside D) (s : OpenHub D) (tag : ℕ) (grip : Gripped D Done) (sl : Slip) (events : Events) → ProbeKnown stands turns probes faults h s tag grip sl → FoundBack h s grip events → IsHome h t grip → IsRisen h t sl events → IsWhole stands turns probes faults h → IsWhole stands turns probes faults t
+pub risen_whole : {D : Type 0} {stands turns probes faults : D → ℕ} (h t : Inside D) (s : OpenHub D) (tag : ℕ) (grip : Gripped D Done) (sl : Slip)
+    (events : Events) → ProbeKnown stands turns probes faults h s tag grip sl → FoundBack h s grip events → IsHome h t grip → IsRisen h t sl events
+    → IsWhole stands turns probes faults h → IsWhole stands turns probes faults t
 risen_whole {D = D} {stands = stands} {turns = turns} {probes = probes} {faults = faults} h t s tag grip sl events known found parts risen k =
     came_whole h t (ForProbe here.v) tag grip (Rose grip.slip.device ∷ []) (risen_back h t s tag grip sl events known found parts risen here)
     (λ formed home. order_probe_home t.history.setting (read_in t.history) (configuration_of (open_of h)).grips (configuration_of (open_of t)).grips d.0 here.v t.order.line t.order.table (probe_grip here known.maker) home
-    (order_rose h.history t.history (configuration_of (open_of h)).grips 0 d.0 events.rose (event_place h.history.history None (accesses_at h.order.table d.0) h.order.line.marks) h.order.line t.order.line h.order.table t.order.table (table_place h d.0 here.for.below k) own.history (place_told h d here.for.below k)
+    (order_rose h.history t.history (configuration_of (open_of h)).grips 0 d.0 events.rose
+    (event_place h.history.history None (accesses_at h.order.table d.0) h.order.line.marks) h.order.line t.order.line h.order.table t.order.table
+    (table_place h d.0 here.for.below k) own.history (place_told h d here.for.below k)
     (risen_number h (ForProbe here.v) tag grip sl events here.returned (back_rises h s tag grip sl events known found here) k) own.rises.marks own.rises.spare own.rises.runs own.rises.sealed own.rises.counted k.order)) k
   where
     d : DeviceNo
@@ -219,7 +237,9 @@ risen_whole {D = D} {stands = stands} {turns = turns} {probes = probes} {faults 
     own : IsRisen h t grip.slip events
     own = subst (λ (z : Slip). IsRisen h t z events) known.same risen
 
-pub risen_given : {D : Type 0} {stands turns probes faults : D → ℕ} (h t : Inside D) (s : OpenHub D) (tag : ℕ) (grip : Gripped D Done) (sl : Slip) (events : Events) (made : Made) → ProbeKnown stands turns probes faults h s tag grip sl → FoundBack h s grip events → IsHome h t grip → t.moment ≡ h.moment → IsRisen h t sl events → entries_made made ≡ Rose sl.device ∷ [] → IsPacked made → IsWhole stands turns probes faults h → ProbeBack s (open_of t) grip made
+pub risen_given : {D : Type 0} {stands turns probes faults : D → ℕ} (h t : Inside D) (s : OpenHub D) (tag : ℕ) (grip : Gripped D Done) (sl : Slip)
+    (events : Events) (made : Made) → ProbeKnown stands turns probes faults h s tag grip sl → FoundBack h s grip events → IsHome h t grip → t.moment ≡ h.moment
+    → IsRisen h t sl events → entries_made made ≡ Rose sl.device ∷ [] → IsPacked made → IsWhole stands turns probes faults h → ProbeBack s (open_of t) grip made
 risen_given h t s tag grip sl events made known found parts moment risen made_is packed k =
     let here = probe_here h s tag grip sl known k in
     probe_given h t s (ForProbe here.v) tag grip (Rose grip.slip.device ∷ []) made known.seen known.maker moment (risen_back h t s tag grip sl events known found parts risen here) (made_is ∙ ap (λ (z : Slip). Rose z.device ∷ []) known.same) packed k
@@ -227,10 +247,17 @@ risen_given h t s tag grip sl events made known found parts moment risen made_is
 -- The device has failed
 
 -- the run that is lost, as the code finds it
-pub lost_is : {D : Type 0} {stands turns probes faults : D → ℕ} (h : Inside D) (d : ℕ) (v : Option ℕ) → (configuration_of (open_of h)).grips d ≡ Some (record { maker = 0; purpose = Probes v }) → d < length h.history.setting.first → IsWhole stands turns probes faults h → option_map (λ (r : RunNo). r.0) (lost_run h.history.history (accesses_at h.order.table d)) ≡ lost_by h.history.setting (read_in h.history) d
+pub lost_is : {D : Type 0} {stands turns probes faults : D → ℕ} (h : Inside D) (d : ℕ) (v : Option ℕ) → (configuration_of (open_of h)).grips d
+    ≡ Some (record { maker = 0; purpose = Probes v }) → d < length h.history.setting.first → IsWhole stands turns probes faults h
+    → option_map (λ (r : RunNo). r.0) (lost_run h.history.history (accesses_at h.order.table d)) ≡ lost_by h.history.setting (read_in h.history) d
 lost_is h d v at below k = either_model (option_map (λ (r : RunNo). r.0) (lost_run h.history.history (accesses_at h.order.table d)) ≡ lost_by h.history.setting (read_in h.history) d) h.history.setting
-    (λ weak. ap (λ xs. option_map (λ (r : RunNo). r.0) (lost_run h.history.history xs)) (k.order.table_is.weakly weak d below).accesses ∙ sym (ap (λ b. if b then None else find (λ x. is_open h.history.setting (read_in h.history) x d && sees_up (read_in h.history) x d) (live_runs (read_in h.history) (read_in h.history).line)) weak))
-    (λ strong. lost_told h.history.setting (read_in h.history) (configuration_of (open_of h)).grips (held_in (open_of h)) d h.history.history (lineage_at h.order.table d) (read_whole h k) strong (lt-ltb d (length h.history.setting.first) below) (probe_commands (configuration_of (open_of h)).grips d 0 v at) (k.shown.configuration.ordered strong).order ((k.order.table_is.ordered strong).each d below) (λ q. sound_is h.history.setting h.history.history q k.shown.configuration.history.well_formed))
+    (λ weak. ap (λ xs. option_map (λ (r : RunNo). r.0) (lost_run h.history.history xs)) (k.order.table_is.weakly weak d below).accesses
+    ∙ sym (ap (λ b. if b then None else find (λ x. is_open h.history.setting (read_in h.history) x d && sees_up (read_in h.history) x d)
+    (live_runs (read_in h.history) (read_in h.history).line)) weak))
+    (λ strong. lost_told h.history.setting (read_in h.history) (configuration_of (open_of h)).grips (held_in (open_of h)) d h.history.history
+    (lineage_at h.order.table d) (read_whole h k) strong (lt-ltb d (length h.history.setting.first) below)
+    (probe_commands (configuration_of (open_of h)).grips d 0 v at) (k.shown.configuration.ordered strong).order ((k.order.table_is.ordered strong).each d below)
+    (λ q. sound_is h.history.setting h.history.history q k.shown.configuration.history.well_formed))
 
 -- it is a live run that is not doomed
 pub record IsLostRun (w : Setting) (n : Reading) (r : ℕ) : Type 0 where
@@ -384,7 +411,9 @@ dead_tells h s tag grip sl events known found here = record {
     leaves None = refl
     leaves (Some r) = refl
 
-dead_falls : {D : Type 0} {stands turns probes faults : D → ℕ} (h : Inside D) (s : OpenHub D) (tag : ℕ) (grip : Gripped D Done) (sl : Slip) (events : Events) → ProbeKnown stands turns probes faults h s tag grip sl → FoundDead h s grip events → (here : ProbeHere stands turns probes faults h tag grip) → Falls h (ForProbe here.v) grip sl events
+dead_falls : {D : Type 0} {stands turns probes faults : D → ℕ} (h : Inside D) (s : OpenHub D) (tag : ℕ) (grip : Gripped D Done) (sl : Slip) (events : Events)
+    → ProbeKnown stands turns probes faults h s tag grip sl → FoundDead h s grip events
+    → (here : ProbeHere stands turns probes faults h tag grip) → Falls h (ForProbe here.v) grip sl events
 dead_falls h s tag grip sl events known found here = record { same = known.same; up = sym here.for.on ∙ counted_here h s grip.slip.device.0 true known.seen found.up; died = found.died; events_are = found.events_are }
 
 -- the device may fail
@@ -399,7 +428,8 @@ pub record LostFits (w : Setting) (hands : ℕ) (lost : Option RunNo) (spare : �
   pub run : IfSome lost (λ r. IsTrue (is_run w.runs r.0) × (r.0 ≤ hands))
   pub room : IsSome lost → 0 < spare
 
-pub lost_fits : {D : Type 0} {stands turns probes faults : D → ℕ} (h : Inside D) (away : Away D) (s : OpenHub D) (tag : ℕ) (grip : Gripped D Done) (sl : Slip) (events : Events) (lost : Option RunNo) (fell : HistoryState) → ProbeKnown stands turns probes faults h s tag grip sl → FoundDead h s grip events
+pub lost_fits : {D : Type 0} {stands turns probes faults : D → ℕ} (h : Inside D) (away : Away D) (s : OpenHub D) (tag : ℕ) (grip : Gripped D Done) (sl : Slip)
+    (events : Events) (lost : Option RunNo) (fell : HistoryState) → ProbeKnown stands turns probes faults h s tag grip sl → FoundDead h s grip events
     → lost ≡ lost_run h.history.history (accesses_at h.order.table sl.device.0) → fell ≡ with_entry h.history 0 (Fell sl.device) → IsHomeAgain h.away grip away → IsWhole stands turns probes faults h → LostFits fell.setting (length away.hands.items) lost fell.spare
 lost_fits {D = D} {stands = stands} {turns = turns} {probes = probes} {faults = faults} h away s tag grip sl events lost fell known dead found told home k =
     subst (λ x. LostFits fell.setting (length x) lost fell.spare) (sym (hands_same h.away away grip home known.maker)) (record {
@@ -452,7 +482,9 @@ fallen_more h d None = refl
 fallen_more h d (Some r) = more_after h 0 (Fell d) (Doomed r (Lost d) ∷ [])
 
 -- .. of the probe that came home
-fallen_back : {D : Type 0} {stands turns probes faults : D → ℕ} (h t : Inside D) (s : OpenHub D) (tag : ℕ) (grip : Gripped D Done) (sl : Slip) (events : Events) (lost : Option RunNo) (fell : HistoryState) (fallen : KeptOrder) → ProbeKnown stands turns probes faults h s tag grip sl → FoundDead h s grip events → IsHome h t grip → IsFallen h t sl events lost fell fallen
+fallen_back : {D : Type 0} {stands turns probes faults : D → ℕ} (h t : Inside D) (s : OpenHub D) (tag : ℕ) (grip : Gripped D Done) (sl : Slip) (events : Events)
+    (lost : Option RunNo) (fell : HistoryState) (fallen : KeptOrder) → ProbeKnown stands turns probes faults h s tag grip sl → FoundDead h s grip events
+    → IsHome h t grip → IsFallen h t sl events lost fell fallen
     → (here : ProbeHere stands turns probes faults h tag grip) → IsWhole stands turns probes faults h → CameHome stands turns probes faults h t (ForProbe here.v) tag grip (dead_entries grip.slip.device.0 (lost_here h grip))
 fallen_back h t s tag grip sl events lost fell fallen known found parts is here k =
     record {
@@ -497,14 +529,20 @@ order_fallen {rounds = rounds} w h fell t g held d v number lost hands line mid 
         order_lost fell t g 0 r.0 (Lost d) (hand_of hands r.0) mid after between later (read_facts fell.setting (entries_of fell.history) formed_then) fit_then
         (ap (λ x. is_doomed x r.0) reads ∙ one.sound) (hand_commands h.setting (read_in h) g r.0 hands fit are one.run one.sound) is kept change fallen
 
-pub fallen_whole : {D : Type 0} {stands turns probes faults : D → ℕ} (h t : Inside D) (s : OpenHub D) (tag : ℕ) (grip : Gripped D Done) (sl : Slip) (events : Events) (lost : Option RunNo) (fell : HistoryState) (fallen : KeptOrder) → ProbeKnown stands turns probes faults h s tag grip sl → FoundDead h s grip events → IsHome h t grip → IsFallen h t sl events lost fell fallen
+pub fallen_whole : {D : Type 0} {stands turns probes faults : D → ℕ} (h t : Inside D) (s : OpenHub D) (tag : ℕ) (grip : Gripped D Done) (sl : Slip)
+    (events : Events) (lost : Option RunNo) (fell : HistoryState) (fallen : KeptOrder) → ProbeKnown stands turns probes faults h s tag grip sl
+    → FoundDead h s grip events → IsHome h t grip → IsFallen h t sl events lost fell fallen
     → IsWhole stands turns probes faults h → IsWhole stands turns probes faults t
 fallen_whole {D = D} {stands = stands} {turns = turns} {probes = probes} {faults = faults} h t s tag grip sl events lost fell fallen known found parts falls k =
     came_whole h t (ForProbe here.v) tag grip (dead_entries d.0 (lost_by w n d.0)) (fallen_back h t s tag grip sl events lost fell fallen known found parts falls here k)
     (λ formed home. order_probe_home t.history.setting (read_in t.history) (configuration_of (open_of h)).grips (configuration_of (open_of t)).grips d.0 here.v t.order.line t.order.table out home
-    (order_fallen w h.history fell t.history (configuration_of (open_of h)).grips (held_in (open_of h)) d here.v events.fell lost h.away.hands.items h.order.line fallen.line t.order.line h.order.table fallen.table t.order.table refl (table_place h d.0 here.for.below k) own.told (place_told h d here.for.below k)
+    (order_fallen w h.history fell t.history (configuration_of (open_of h)).grips
+    (held_in (open_of h)) d here.v events.fell lost h.away.hands.items h.order.line fallen.line t.order.line h.order.table fallen.table t.order.table refl
+    (table_place h d.0 here.for.below k) own.told (place_told h d here.for.below k)
     (fallen_number h (ForProbe here.v) tag grip sl events here.returned (dead_falls h s tag grip sl events known found here) k) own.falls k.shown.configuration.history.well_formed
-    (tells_may h (ForProbe here.v) tag grip (Fell d) (doom_entries d (lost_here h grip)) (dead_tells h s tag grip sl events known found here) k) k.shown.configuration.grips k.hands (one lost loses) own.doomed own.line (subst (λ x. IsLostTo lost x fallen.table t.order.table) (hands_same h.away t.away grip parts.home known.maker) own.table) k.order)) k
+    (tells_may h (ForProbe here.v) tag grip (Fell d) (doom_entries d (lost_here h grip)) (dead_tells h s tag grip sl events known found here) k)
+    k.shown.configuration.grips k.hands (one lost loses) own.doomed own.line
+    (subst (λ x. IsLostTo lost x fallen.table t.order.table) (hands_same h.away t.away grip parts.home known.maker) own.table) k.order)) k
   where
     w : Setting
     w = h.history.setting
@@ -539,7 +577,9 @@ fallen_made d lost e o fell_is doom_is = (λ i. entries_made (record { a = Some 
     by_lost None = refl
     by_lost (Some r) = refl
 
-pub fallen_given : {D : Type 0} {stands turns probes faults : D → ℕ} (h t : Inside D) (s : OpenHub D) (tag : ℕ) (grip : Gripped D Done) (sl : Slip) (events : Events) (lost : Option RunNo) (fell : HistoryState) (fallen : KeptOrder) (made : Made) → ProbeKnown stands turns probes faults h s tag grip sl → FoundDead h s grip events → IsHome h t grip → t.moment ≡ h.moment
+pub fallen_given : {D : Type 0} {stands turns probes faults : D → ℕ} (h t : Inside D) (s : OpenHub D) (tag : ℕ) (grip : Gripped D Done) (sl : Slip)
+    (events : Events) (lost : Option RunNo) (fell : HistoryState) (fallen : KeptOrder) (made : Made) → ProbeKnown stands turns probes faults h s tag grip sl
+    → FoundDead h s grip events → IsHome h t grip → t.moment ≡ h.moment
     → IsFallen h t sl events lost fell fallen → entries_made made ≡ dead_entries sl.device.0 (option_map (λ (r : RunNo). r.0) lost) → IsPacked made → IsWhole stands turns probes faults h → ProbeBack s (open_of t) grip made
 fallen_given h t s tag grip sl events lost fell fallen made known found parts moment falls made_is packed k =
     let here = probe_here h s tag grip sl known k in

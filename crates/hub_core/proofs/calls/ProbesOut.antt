@@ -62,14 +62,18 @@ may_parts s d may = by_parts (is_device s.setting d) (is_out s.grips d) (nat_lt 
 -- What it restores
 
 -- the value at which the device should stand, as the table tells it, where it is counted down
-pub restores : {D : Type 0} {stands turns probes faults : D → ℕ} (h : Inside D) (s : OpenHub D) (d value : ℕ) (up : Bool) → open_of h ≡ s → ((e : ℕ) → IsDisciplined (accesses_at h.order.table e)) → is_device s.setting d ≡ true → up ≡ (lineage_at h.order.table d).up → up ≡ false → value ≡ value_standing (lineage_at h.order.table d).committed (accesses_at h.order.table d)
+pub restores : {D : Type 0} {stands turns probes faults : D → ℕ} (h : Inside D) (s : OpenHub D) (d value : ℕ) (up : Bool) → open_of h ≡ s
+    → ((e : ℕ) → IsDisciplined (accesses_at h.order.table e)) → is_device s.setting d ≡ true → up ≡ (lineage_at h.order.table d).up → up ≡ false
+    → value ≡ value_standing (lineage_at h.order.table d).committed (accesses_at h.order.table d)
     → is_weak h.history.setting.mode ≡ false → IsWhole stands turns probes faults h → Some value ≡ restored (configuration_of s) d
 restores {D = D} h s d value up seen disciplined device up_is down value_is strong k =
     subst (λ (x : OpenHub D). is_device x.setting d ≡ true → Some value ≡ restored (configuration_of x) d) seen (λ there. as_told ((k.order.table_is.ordered strong).each d (below_home h.history.setting d there))) device
   where
     as_told : LineageIsKept h.history.setting (read_in h.history) (configuration_of (open_of h)).grips d (lineage_at h.order.table d) → Some value ≡ restored (configuration_of (open_of h)) d
     as_told own =
-        ap Some (value_is ∙ stand_told h.history.setting (read_in h.history) (configuration_of (open_of h)).grips d (lineage_at h.order.table d) (facts_of (configuration_of (open_of h)) h.order.table h.order.line.marks h.history.history h.history.setting.runs (standing_whole h disciplined strong k)) strong own)
+        ap Some (value_is ∙ stand_told h.history.setting (read_in h.history) (configuration_of (open_of h)).grips d (lineage_at h.order.table d)
+        (facts_of (configuration_of (open_of h)) h.order.table h.order.line.marks h.history.history h.history.setting.runs
+        (standing_whole h disciplined strong k)) strong own)
         ∙ sym (ap (λ b. if b then None else Some (standing_value h.history.setting (read_in h.history) (configuration_of (open_of h)).grips d)) (sym own.up ∙ sym up_is ∙ down))
 
 -- .. under the weak model where it is known to stand
@@ -92,7 +96,9 @@ counted_then s d value is up = by_up ((read_of s).up d) (subst (λ v. IsTrue (is
     by_up false e = absurd (cc)
 
 -- it may go out to the detector
-pub may_send_probe : {D : Type 0} {stands turns probes faults : D → ℕ} (h : Inside D) (s : OpenHub D) (d : ℕ) (value : Option ℕ) (known : DeviceProgress) → open_of h ≡ s → may_probe (configuration_of s) d ≡ true → value ≡ restored (configuration_of s) d → known ≡ progress_at h.away.known.items d → IsWhole stands turns probes faults h → MaySend stands turns probes faults h.away d 0 known.held (Probe value)
+pub may_send_probe : {D : Type 0} {stands turns probes faults : D → ℕ} (h : Inside D) (s : OpenHub D) (d : ℕ) (value : Option ℕ) (known : DeviceProgress)
+    → open_of h ≡ s → may_probe (configuration_of s) d ≡ true → value ≡ restored (configuration_of s) d → known ≡ progress_at h.away.known.items d
+    → IsWhole stands turns probes faults h → MaySend stands turns probes faults h.away d 0 known.held (Probe value)
 may_send_probe {D = D} {stands = stands} {turns = turns} {probes = probes} {faults = faults} h s d value known seen may value_is known_is k =
     let parts = may_parts (configuration_of (open_of h)) d (ap (λ (x : OpenHub D). may_probe (configuration_of x) d) seen ∙ may) in
     let below = below_home h.history.setting d parts.device in
@@ -120,7 +126,8 @@ abbrev pub left_of : {D : Type 0} → Inside D → ℕ → ℕ
 left_of h d = (progress_at h.away.known.items d).probes_left - 1
 
 -- the hub shows it
-probe_shows : {D : Type 0} {turns probes faults : D → ℕ} (h t : Inside D) (d : ℕ) (value : Option ℕ) (known : DeviceProgress) (grip : Gripped D Ready) → IsProbedOut turns probes faults h t d value known grip → open_of t ≡ gone (open_of h) d (ForProbe value) (left_of h d) grip.slip (Probe value) h.moment
+probe_shows : {D : Type 0} {turns probes faults : D → ℕ} (h t : Inside D) (d : ℕ) (value : Option ℕ) (known : DeviceProgress) (grip : Gripped D Ready)
+    → IsProbedOut turns probes faults h t d value known grip → open_of t ≡ gone (open_of h) d (ForProbe value) (left_of h d) grip.slip (Probe value) h.moment
 probe_shows {D = D} h t d value known grip out =
     let devices_now = out.sent.known_is ∙ ap (λ (p : DeviceProgress). slice_set h.away.known.items d (record p { purpose = ForProbe value; probes_left = p.probes_left - 1 })) out.known_is in
     ap (λ (x : Inside D). open_of x) out.new ∙ λ i. record (open_of h) { devices = devices_now i; places = out.sent.places i; tickets = out.sent.tickets i }
@@ -133,7 +140,9 @@ probe_configuration h t d value known grip out within =
     ∙ (λ i. record (configuration_of (open_of h)) { probes = put (configuration_of (open_of h)).probes d (left_of h d); grips = put (configuration_of (open_of h)).grips d (Some (record { maker = 0; purpose = Probes (out.value_is i) })) })
     ∙ sym (ap (λ b. if b then record (configuration_of (open_of h)) { probes = put (configuration_of (open_of h)).probes d (left_of h d); grips = put (configuration_of (open_of h)).grips d (Some (probe_grip (configuration_of (open_of h)) d)) } else configuration_of (open_of h)) out.may)
 
-probe_leaves : {D : Type 0} {turns probes faults : D → ℕ} (h t : Inside D) (d : ℕ) (value : Option ℕ) (known : DeviceProgress) (grip : Gripped D Ready) → IsProbedOut turns probes faults h t d value known grip → IsLeaving turns probes faults (open_of h) 0 d (ForProbe value) (left_of h d) grip.device grip.slip (Probe value)
+probe_leaves : {D : Type 0} {turns probes faults : D → ℕ} (h t : Inside D) (d : ℕ) (value : Option ℕ) (known : DeviceProgress) (grip : Gripped D Ready)
+    → IsProbedOut turns probes faults h t d value known grip
+    → IsLeaving turns probes faults (open_of h) 0 d (ForProbe value) (left_of h d) grip.device grip.slip (Probe value)
 probe_leaves h t d value known grip out =
     record {
       number = ap (λ (x : DeviceNo). x.0) out.sent.device;
@@ -186,7 +195,9 @@ pub record ProbeSent {D : Type 0} (s t : OpenHub D) (d : ℕ) (grip : Gripped D 
   pub probed : IsProbed s d (Some grip) t
   pub window : SameWindow s t
 
-pub probe_sent : {D : Type 0} {stands turns probes faults : D → ℕ} (h t : Inside D) (s₀ : OpenHub D) (d : ℕ) (value : Option ℕ) (known : DeviceProgress) (grip : Gripped D Ready) → open_of h ≡ s₀ → IsProbedOut turns probes faults h t d value known grip → IsWhole stands turns probes faults h → ProbeSent s₀ (open_of t) d grip
+pub probe_sent : {D : Type 0} {stands turns probes faults : D → ℕ} (h t : Inside D) (s₀ : OpenHub D) (d : ℕ) (value : Option ℕ) (known : DeviceProgress)
+    (grip : Gripped D Ready) → open_of h ≡ s₀ → IsProbedOut turns probes faults h t d value known grip → IsWhole stands turns probes faults h
+    → ProbeSent s₀ (open_of t) d grip
 probe_sent {D = D} h t s₀ d value known grip seen out k =
     subst (λ (x : OpenHub D). ProbeSent x (open_of t) d grip) seen (subst (λ (x : OpenHub D). ProbeSent (open_of h) x d grip) (sym (probe_shows h t d value known grip out)) (record {
       probed = (
@@ -215,7 +226,14 @@ probe_sent {D = D} h t s₀ d value known grip seen out k =
     after = gone s d (ForProbe value) (left_of h d) grip.slip (Probe value) h.moment
 
     takes : take_probe (hub_state_of s) d grip.slip ≡ record { task = Some (Probe (restored (configuration_of s) d)); next = record { configuration = after_take_probe (configuration_of s) d; carried = carrying (hub_state_of s) 0 d (Probes (restored (configuration_of s) d)) grip.slip } }
-    takes = ap (λ b. if b then record { task = Some (Probe (restored (configuration_of s) d)); next = record { configuration = after_take_probe (configuration_of s) d; carried = carrying (hub_state_of s) 0 d (Probes (restored (configuration_of s) d)) grip.slip } } else record { task = None; next = hub_state_of s }) out.may
+    takes =
+        ap (λ b. if b then record {
+          task = Some (Probe (restored (configuration_of s) d));
+          next = record {
+            configuration = after_take_probe (configuration_of s) d;
+            carried = carrying (hub_state_of s) 0 d (Probes (restored (configuration_of s) d)) grip.slip;
+          };
+        } else record { task = None; next = hub_state_of s }) out.may
 
     state : hub_state_of after ≡ record { configuration = after_take_probe (configuration_of s) d; carried = carrying (hub_state_of s) 0 d (Probes (restored (configuration_of s) d)) grip.slip }
     state =

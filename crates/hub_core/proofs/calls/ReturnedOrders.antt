@@ -93,7 +93,10 @@ pub may_tell : {D : Type 0} {stands turns probes faults : D → ℕ} (h : Inside
 may_tell h k tag grip slip returned same whole =
     subst (MayTell h.history.setting h.order.table) (sym same) (record {
       device = let size : length h.order.table ≡ length h.history.setting.first = whole.order.table_is.devices in omega (arith, within, size);
-      turn = λ strong. (may_note h.history.setting (read_in h.history) (configuration_of (open_of h)).grips (held_in (open_of h)) grip.slip.device.0 grip.slip.maker k h.order.table (read_whole h whole) (whole.shown.configuration.ordered strong).order for.grip within (whole.order.table_is.ordered strong)).1;
+      turn =
+          λ strong.
+          (may_note h.history.setting (read_in h.history) (configuration_of (open_of h)).grips (held_in (open_of h)) grip.slip.device.0 grip.slip.maker k
+          h.order.table (read_whole h whole) (whole.shown.configuration.ordered strong).order for.grip within (whole.order.table_is.ordered strong)).1;
     })
   where
     for : IsForCommand (open_of h) grip.slip grip.task k
@@ -140,7 +143,9 @@ pub record IsNoted {D : Type 0} (h t : Inside D) (grip : Gripped D Done) (value 
 -- .. when its device is home again
 order_came : {D : Type 0} {stands turns probes faults : D → ℕ} (h t : Inside D) (value k tag : ℕ) (grip : Gripped D Done) (slip : Slip) (a : Answer) (cause : Option Cause) (mid : HistoryState) (view : View) (wrote : Option ℕ) (last : Bool) (between : KeptOrder)
     → IsReturned stands turns probes faults h (ForCommand k) tag grip → IsHome h t grip → IsAnswered h grip k slip a cause mid t.history → IsNoted h t grip value slip a cause mid view wrote last between
-    → IsWellFormed t.history.setting (entries_of t.history.history) → (configuration_of (open_of t)).grips ≡ put (configuration_of (open_of h)).grips grip.slip.device.0 None → IsWhole stands turns probes faults h → OrderIsBeside h.rounds t.history (configuration_of (open_of t)).grips t.order.line t.order.table
+    → IsWellFormed t.history.setting (entries_of t.history.history)
+    → (configuration_of (open_of t)).grips ≡ put (configuration_of (open_of h)).grips grip.slip.device.0 None → IsWhole stands turns probes faults h
+    → OrderIsBeside h.rounds t.history (configuration_of (open_of t)).grips t.order.line t.order.table
 order_came {D = D} h t value k tag grip slip a cause mid view wrote last between returned home answered noted formed gripped whole =
     order_told h.history mid t.history (configuration_of (open_of h)).grips (configuration_of (open_of t)).grips d r k a cause between.line t.order.line between.table t.order.table
     whole.shown.configuration.grips for.run for.grip new doomed formed gripped noted.line_after noted.unchanged
@@ -150,8 +155,13 @@ order_came {D = D} h t value k tag grip slip a cause mid view wrote last between
     (λ strong. order_answered h.history mid (configuration_of (open_of h)).grips (configuration_of (open_of t)).grips (held_in (open_of h)) d r k a view wrote last h.order.line between.line h.order.table between.table
     access (read_whole h whole) strong (whole.shown.configuration.ordered strong).order for.grip below new gripped (record {
       view_is = noted.view_is;
-      wrote_is = noted.wrote_is ∙ wrote_is w n r (command_at w.runs r k) a grip.task value (progress_at h.away.known.items d).held suited for.does (noted.value_is ∙ ap (λ b. if b then (progress_at h.away.known.items d).held else value_after grip.task (progress_at h.away.known.items d).held) answered.lives);
-      last_is = noted.last_is ∙ (λ i. is_doomed (read_in (new i)) (answered.same i).maker || not (pends (new i).setting (read_in (new i)) (answered.same i).maker (answered.same i).device.0)) ∙ ap (λ x. is_doomed x r || not (pends w x r d)) (read_more w h.history.history r (Did (run_no r) k a)) ∙ done_after w n r k a d for.next for.on;
+      wrote_is =
+          noted.wrote_is ∙ wrote_is w n r (command_at w.runs r k) a grip.task value (progress_at h.away.known.items d).held suited for.does (noted.value_is
+          ∙ ap (λ b. if b then (progress_at h.away.known.items d).held else value_after grip.task (progress_at h.away.known.items d).held) answered.lives);
+      last_is =
+          noted.last_is ∙ (λ i. is_doomed (read_in (new i)) (answered.same i).maker
+          || not (pends (new i).setting (read_in (new i)) (answered.same i).maker (answered.same i).device.0))
+          ∙ ap (λ x. is_doomed x r || not (pends w x r d)) (read_more w h.history.history r (Did (run_no r) k a)) ∙ done_after w n r k a d for.next for.on;
     }) noted.line (subst (λ (z : Slip). between.table ≡ with_lineage h.order.table z.device.0 (noted_first z.maker (is_first z.maker (lineage_at h.order.table z.device.0)) view wrote last)) answered.same (noted.table strong)) whole.order))
   where
     w : Setting

@@ -80,7 +80,9 @@ pub record IsSeenThere (w : Setting) (n : Reading) (table : List LineageState) (
   pub view : unwrap_or (option_map sees_it_down (access_of r (accesses_at table d))) false ≡ sees_down n r d
   pub up : (lineage_at table d).up ≡ n.up d
 
-seen_there : {D : Type 0} {stands turns probes faults : D → ℕ} (h : Inside D) (r k : ℕ) → IsAtCommand (configuration_of (open_of h)) r k → is_weak h.history.setting.mode ≡ false → IsWhole stands turns probes faults h → IsSeenThere h.history.setting (read_in h.history) h.order.table r (command_at h.history.setting.runs r k).device.0
+seen_there : {D : Type 0} {stands turns probes faults : D → ℕ} (h : Inside D) (r k : ℕ) → IsAtCommand (configuration_of (open_of h)) r k
+    → is_weak h.history.setting.mode ≡ false → IsWhole stands turns probes faults h
+    → IsSeenThere h.history.setting (read_in h.history) h.order.table r (command_at h.history.setting.runs r k).device.0
 seen_there h r k turn strong whole = record {
   strong = strong;
   below = omega (arith, below, whole.order.table_is.devices);
@@ -108,7 +110,9 @@ seen_there h r k turn strong whole = record {
         (ap (λ j. unwrap_or (option_map (is_on d) (slice_get (commands_of w.runs r) j)) false) turn.next ∙ ap (λ o. unwrap_or (option_map (is_on d) o) false) (item_there (commands_of w.runs r) k no_command turn.command) ∙ eq-eqb d d refl)
 
 -- .. as the hub is seen
-pub seen_at : {D : Type 0} {stands turns probes faults : D → ℕ} (h : Inside D) (s : OpenHub D) (r k : ℕ) (c : Command) → open_of h ≡ s → IsAtCommand (configuration_of s) r k → command_at s.setting.runs r k ≡ c → is_weak h.history.setting.mode ≡ false → IsWhole stands turns probes faults h → IsSeenThere s.setting (read_of (configuration_of s)) h.order.table r c.device.0
+pub seen_at : {D : Type 0} {stands turns probes faults : D → ℕ} (h : Inside D) (s : OpenHub D) (r k : ℕ) (c : Command) → open_of h ≡ s
+    → IsAtCommand (configuration_of s) r k → command_at s.setting.runs r k ≡ c → is_weak h.history.setting.mode ≡ false → IsWhole stands turns probes faults h
+    → IsSeenThere s.setting (read_of (configuration_of s)) h.order.table r c.device.0
 seen_at {D = D} h s r k c seen turn command strong whole =
     subst (λ (x : Command). IsSeenThere s.setting (read_of (configuration_of s)) h.order.table r x.device.0) command
     (subst (λ (x : OpenHub D). IsAtCommand (configuration_of x) r k → IsSeenThere x.setting (read_of (configuration_of x)) h.order.table r (command_at x.setting.runs r k).device.0) seen (λ t. seen_there h r k t strong whole) turn)

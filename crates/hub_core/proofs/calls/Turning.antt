@@ -59,19 +59,25 @@ pub record TellsTurn {D : Type 0} (stands turns probes faults : D → ℕ) (h : 
   pub gives : returned_entries (open_of h) grip why ≡ e ∷ es
   pub leave : (fold (entry h.history.setting) (entry h.history.setting (read_in h.history) e) es).line ≡ (entry h.history.setting (read_in h.history) e).line
 
-tells_comes : {D : Type 0} {stands turns probes faults : D → ℕ} (h : Inside D) (why : KeptPurpose) (tag : ℕ) (grip : Gripped D Done) (e : Entry) (es : List Entry) → TellsTurn stands turns probes faults h why tag grip e es → IsWhole stands turns probes faults h → ComesBack stands turns probes faults (open_of h) grip (e ∷ es) h.moment
+tells_comes : {D : Type 0} {stands turns probes faults : D → ℕ} (h : Inside D) (why : KeptPurpose) (tag : ℕ) (grip : Gripped D Done) (e : Entry)
+    (es : List Entry) → TellsTurn stands turns probes faults h why tag grip e es → IsWhole stands turns probes faults h
+    → ComesBack stands turns probes faults (open_of h) grip (e ∷ es) h.moment
 tells_comes {stands = stands} {turns = turns} {probes = probes} {faults = faults} h why tag grip e es tells k =
     subst (λ x. ComesBack stands turns probes faults (open_of h) grip x h.moment) tells.gives (returned_comes h h.moment why tag grip tells.returned (omega arith) k)
 
 -- its event may stand where it stands
-pub tells_may : {D : Type 0} {stands turns probes faults : D → ℕ} (h : Inside D) (why : KeptPurpose) (tag : ℕ) (grip : Gripped D Done) (e : Entry) (es : List Entry) → TellsTurn stands turns probes faults h why tag grip e es → IsWhole stands turns probes faults h → may_follow h.history.setting (read_in h.history) e ≡ true
+pub tells_may : {D : Type 0} {stands turns probes faults : D → ℕ} (h : Inside D) (why : KeptPurpose) (tag : ℕ) (grip : Gripped D Done) (e : Entry)
+    (es : List Entry) → TellsTurn stands turns probes faults h why tag grip e es → IsWhole stands turns probes faults h
+    → may_follow h.history.setting (read_in h.history) e ≡ true
 tells_may h why tag grip e es tells k = first_may h.history.setting h.history.history grip.slip.maker e es (tells_comes h why tag grip e es tells k).configuration.history.well_formed
 
 -- so line and history have room
 turn_room : {D : Type 0} {stands turns probes faults : D → ℕ} (h : Inside D) (why : KeptPurpose) (tag : ℕ) (grip : Gripped D Done) (e : Entry) (es : List Entry) → TellsTurn stands turns probes faults h why tag grip e es
     → length (entry h.history.setting (read_in h.history) e).line ≡ length (read_in h.history).line + 1 → IsWhole stands turns probes faults h → (0 < h.order.line.spare) × (0 < h.history.spare)
 turn_room h why tag grip e es tells longer k = (
-  (let fits : length (read_of (after_back (open_of h) grip.slip (e ∷ es) h.moment)).line ≤ most_items (length h.history.setting.runs) (length h.history.setting.first) h.rounds = line_fits (after_back (open_of h) grip.slip (e ∷ es) h.moment) h.rounds h.opened (put (held_in (open_of h)) grip.slip.device.0 (held_back (open_of h) grip)) (tells_comes h why tag grip e es tells k).configuration in
+  (let fits : length (read_of (after_back (open_of h) grip.slip (e ∷ es) h.moment)).line
+      ≤ most_items (length h.history.setting.runs) (length h.history.setting.first) h.rounds = line_fits (after_back (open_of h) grip.slip (e ∷ es) h.moment)
+      h.rounds h.opened (put (held_in (open_of h)) grip.slip.device.0 (held_back (open_of h) grip)) (tells_comes h why tag grip e es tells k).configuration in
       let now : length (read_of (after_back (open_of h) grip.slip (e ∷ es) h.moment)).line ≡ length (read_in h.history).line + 1 = ap (λ (n : Reading). length n.line) (read_with (configuration_of (open_of h)) grip.slip.maker (e ∷ es)) ∙ ap length tells.leave ∙ longer in
       let size = line_size (read_in h.history) (configuration_of (open_of h)).grips h.order.line.marks k.order.line_is in
       omega (arith, fits, now, size, k.order.room)),
@@ -95,7 +101,9 @@ pub record Falls {D : Type 0} (h : Inside D) (why : KeptPurpose) (grip : Gripped
   pub died : has_died grip.stage.told ≡ true
   pub events_are : events ≡ events_after grip.task grip.stage.told (progress_at h.away.known.items grip.slip.device.0).events
 
-pub fallen_number : {D : Type 0} {stands turns probes faults : D → ℕ} (h : Inside D) (why : KeptPurpose) (tag : ℕ) (grip : Gripped D Done) (sl : Slip) (events : Events) → IsReturned stands turns probes faults h why tag grip → Falls h why grip sl events → IsWhole stands turns probes faults h → events.fell ≡ (read_in h.history).fell grip.slip.device.0 + 1
+pub fallen_number : {D : Type 0} {stands turns probes faults : D → ℕ} (h : Inside D) (why : KeptPurpose) (tag : ℕ) (grip : Gripped D Done) (sl : Slip)
+    (events : Events) → IsReturned stands turns probes faults h why tag grip → Falls h why grip sl events → IsWhole stands turns probes faults h
+    → events.fell ≡ (read_in h.history).fell grip.slip.device.0 + 1
 fallen_number h why tag grip sl events returned falls k = ap (λ (e : Events). e.fell) (turned_to h why tag grip events true true returned falls.up falls.died falls.events_are k)
 
 -- .. and of a restart
@@ -105,7 +113,9 @@ pub record Rises {D : Type 0} (h : Inside D) (why : KeptPurpose) (grip : Gripped
   pub lives : has_died grip.stage.told ≡ false
   pub events_are : events ≡ events_after grip.task grip.stage.told (progress_at h.away.known.items grip.slip.device.0).events
 
-pub risen_number : {D : Type 0} {stands turns probes faults : D → ℕ} (h : Inside D) (why : KeptPurpose) (tag : ℕ) (grip : Gripped D Done) (sl : Slip) (events : Events) → IsReturned stands turns probes faults h why tag grip → Rises h why grip sl events → IsWhole stands turns probes faults h → events.rose ≡ (read_in h.history).rose grip.slip.device.0 + 1
+pub risen_number : {D : Type 0} {stands turns probes faults : D → ℕ} (h : Inside D) (why : KeptPurpose) (tag : ℕ) (grip : Gripped D Done) (sl : Slip)
+    (events : Events) → IsReturned stands turns probes faults h why tag grip → Rises h why grip sl events → IsWhole stands turns probes faults h
+    → events.rose ≡ (read_in h.history).rose grip.slip.device.0 + 1
 risen_number h why tag grip sl events returned rises k = ap (λ (e : Events). e.rose) (turned_to h why tag grip events false false returned rises.down rises.lives rises.events_are k)
 
 -- Whether it may

@@ -74,7 +74,10 @@ gap_length w n r m = sym (part_length (base_of w n r) (grown (meet w.runs) (base
 pub may_arrange : {rounds : ℕ} (w : Setting) (n : Reading) (g : Grips) (r m : ℕ) (set : List Bool) (line : Marked) (table : List LineageState) → IsRead w n → set ≡ gap_set w n r m → IsOrderOf rounds w n g line table → MayArrange set line
 may_arrange w n g r m set line table read is kept = record {
   size = ap length is ∙ gap_length w n r m ∙ sym (ap length kept.line_is.items) ∙ length-map line.marks (λ (x : Mark). x.item);
-  closed = subst (λ (m : Item → Item → Bool). IsClosed m set (items_of line.marks)) (sym (kept_meet w.runs line.runs kept.runs)) (subst (λ (bs : List Bool). IsClosed (meet w.runs) bs (items_of line.marks)) (sym is) (subst (IsClosed (meet w.runs) (gap_set w n r m)) (sym kept.line_is.items) (gap_closed w n r m)));
+  closed =
+      subst (λ (m : Item → Item → Bool). IsClosed m set (items_of line.marks)) (sym (kept_meet w.runs line.runs kept.runs))
+      (subst (λ (bs : List Bool). IsClosed (meet w.runs) bs (items_of line.marks)) (sym is)
+      (subst (IsClosed (meet w.runs) (gap_set w n r m)) (sym kept.line_is.items) (gap_closed w n r m)));
   sealed = subst (λ (bs : List Bool). HoldsFirst line.sealed bs) (sym is) (subst (λ k. HoldsFirst k (gap_set w n r m)) (sym (sealed_is w n g line read kept.line_is kept.sealed)) (gap_first w n r m));
 }
 

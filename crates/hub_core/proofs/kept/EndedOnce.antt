@@ -57,7 +57,9 @@ counted_fits : (test : OfRun → Bool) (tells : Entry → Bool) (w : Setting) (h
 unfolding runs_that
 counted_fits test tells w h each ok =
     let all = counted_from test tells w (nothing_read w) h each ok in
-    let most : sum_below (λ i. one_if (test ((fold (entry w) (nothing_read w) h).run (suc i)))) (length w.runs) ≤ length w.runs * 1 = sum_fits (λ i. one_if (test ((fold (entry w) (nothing_read w) h).run (suc i)))) (length w.runs) 1 (λ i. at_most_one (test ((fold (entry w) (nothing_read w) h).run (suc i)))) in
+    let most : sum_below (λ i. one_if (test ((fold (entry w) (nothing_read w) h).run (suc i)))) (length w.runs)
+    ≤ length w.runs * 1 = sum_fits (λ i. one_if (test ((fold (entry w) (nothing_read w) h).run (suc i)))) (length w.runs) 1
+    (λ i. at_most_one (test ((fold (entry w) (nothing_read w) h).run (suc i)))) in
     omega (arith, all, most)
 
 abbrev has_ended : OfRun → Bool

@@ -147,7 +147,8 @@ pub order_died_weakly : {rounds : ℕ} (h h₁ h₂ : HistoryState) (g f : Grips
     → after ≡ fallen → later ≡ between → OrderIsBeside rounds h g line table → OrderIsBeside rounds h₂ f after later
 order_died_weakly {rounds = rounds} h h₁ h₂ g f d r k number first line fallen after table between later weak fit at below one two home number_is first_is fell same still kept =
     order_answered_weakly h₁ h₂ g f d.0 r k Down fallen after between later refl (ap (λ (x : HistoryState). is_weak x.setting.mode) one ∙ weak) fit_then at two home same still
-    (order_fell h h₁ g r d.0 number (event_place h.history (if first then Some (run_no r) else None) (accesses_at table d.0) line.marks) line fallen table between (subst (λ x. d.0 < x) (sym kept.table_is.devices) below) one place number_is fell.marks fell.spare fell.runs fell.sealed fell.counted kept)
+    (order_fell h h₁ g r d.0 number (event_place h.history (if first then Some (run_no r) else None) (accesses_at table d.0) line.marks) line fallen table
+    between (subst (λ x. d.0 < x) (sym kept.table_is.devices) below) one place number_is fell.marks fell.spare fell.runs fell.sealed fell.counted kept)
   where
     w : Setting
     w = h.setting

@@ -67,7 +67,9 @@ hand_set w g f r hands hand run is others k =
     }
 
 -- a device goes out to a run that holds none
-pub hand_goes : (w : Setting) (g f : Grips) (r : ℕ) (d : DeviceNo) (purpose : Purpose) (hands after : List (Option DeviceNo)) → is_run w.runs r ≡ true → d.0 < length w.first → grip_wait w g r ≡ None → g d.0 ≡ None → f ≡ put g d.0 (Some (record { maker = r; purpose = purpose })) → after ≡ slice_set hands (r - 1) (Some d)
+pub hand_goes : (w : Setting) (g f : Grips) (r : ℕ) (d : DeviceNo) (purpose : Purpose) (hands after : List (Option DeviceNo)) → is_run w.runs r ≡ true
+    → d.0 < length w.first → grip_wait w g r ≡ None → g d.0 ≡ None → f ≡ put g d.0 (Some (record { maker = r; purpose = purpose }))
+    → after ≡ slice_set hands (r - 1) (Some d)
     → HandsAre w g hands → HandsAre w f after
 hand_goes w g f r d purpose hands after run within free home gone set k =
     subst (λ (x : Grips). HandsAre w x after) (sym gone) (subst (HandsAre w new) (sym set) (hand_set w g new r hands (Some d) run (sym found) (λ q e other. others_hold g r d.0 (Some grip) refl (subst (IsOf r) (sym home) tt) q e other) k))
@@ -86,7 +88,9 @@ hand_goes w g f r d purpose hands after run within free home gone set k =
 pub hand_comes : (w : Setting) (n : Reading) (g f : Grips) (r d : ℕ) (purpose : Purpose) (hands after : List (Option DeviceNo)) → is_run w.runs r ≡ true → g d ≡ Some (record { maker = r; purpose = purpose }) → GripsFit w n g → f ≡ put g d None → after ≡ slice_set hands (r - 1) None
     → HandsAre w g hands → HandsAre w f after
 hand_comes w n g f r d purpose hands after run out fit home set k =
-    subst (λ (x : Grips). HandsAre w x after) (sym home) (subst (HandsAre w new) (sym set) (hand_set w g new r hands None run (sym (find_none (has_grip new r) 0 (length w.first) (λ y low high. unheld y (new y) refl))) (λ q e other. others_hold g r d None tt (subst (IsOf r) (sym out) refl) q e other) k))
+    subst (λ (x : Grips). HandsAre w x after) (sym home) (subst (HandsAre w new) (sym set)
+    (hand_set w g new r hands None run (sym (find_none (has_grip new r) 0 (length w.first) (λ y low high. unheld y (new y) refl)))
+    (λ q e other. others_hold g r d None tt (subst (IsOf r) (sym out) refl) q e other) k))
   where
     new : Grips
     new = put g d None
@@ -117,7 +121,9 @@ pub probe_comes : (w : Setting) (g f : Grips) (d : ℕ) (purpose : Purpose) (han
 probe_comes w g f d purpose hands out home k = subst (λ (x : Grips). HandsAre w x hands) (sym home) (probe_held w g (put g d None) hands (others_hold g 0 d None tt (subst (IsOf 0) (sym out) refl)) k)
 
 -- whoever's grip it was
-pub hands_come : (w : Setting) (n : Reading) (g : Grips) (maker d : ℕ) (purpose : Purpose) (hands : List (Option DeviceNo)) → (nat_lt 0 maker ≡ true → is_run w.runs maker ≡ true) → g d ≡ Some (record { maker = maker; purpose = purpose }) → GripsFit w n g → HandsAre w g hands → HandsAre w (put g d None) (with_hand hands maker None)
+pub hands_come : (w : Setting) (n : Reading) (g : Grips) (maker d : ℕ) (purpose : Purpose) (hands : List (Option DeviceNo))
+    → (nat_lt 0 maker ≡ true → is_run w.runs maker ≡ true) → g d ≡ Some (record { maker = maker; purpose = purpose }) → GripsFit w n g → HandsAre w g hands
+    → HandsAre w (put g d None) (with_hand hands maker None)
 hands_come w n g maker d purpose hands run out fit k = elim (nat_lt 0 maker) as (λ b. nat_lt 0 maker ≡ b → HandsAre w (put g d None) (if b then slice_set hands (maker - 1) None else hands)) [
   | true ↦ (λ some. hand_comes w n g (put g d None) maker d purpose hands (slice_set hands (maker - 1) None) (run some) out fit refl refl k)
   | false ↦ (λ none. let detector : maker ≡ 0 = grind (arith, common_steps) in probe_comes w g (put g d None) d purpose hands (out ∙ ap (λ m. Some (record { maker = m; purpose = purpose })) detector) refl k)

@@ -88,7 +88,9 @@ history_added s maker m g e may kept =
 -- Runs that act in turn
 
 -- where a run acts it waits for none, also when fewer runs are live and no other one stands before it
-turn_by : (w : Setting) (n m : Reading) (h : Grips) → ((q : ℕ) → is_live m q ≡ true → live_before m q ≡ live_runs m (before q n.line)) → ((q : ℕ) → is_live m q ≡ true → is_live n q ≡ true) → ((q d : ℕ) → IsTrue (is_live m q && (has_touched m h q d || has_grip h q d)) → strict_wait w n q ≡ None) → ActsInTurn w m h
+turn_by : (w : Setting) (n m : Reading) (h : Grips) → ((q : ℕ) → is_live m q ≡ true → live_before m q ≡ live_runs m (before q n.line))
+    → ((q : ℕ) → is_live m q ≡ true → is_live n q ≡ true)
+    → ((q d : ℕ) → IsTrue (is_live m q && (has_touched m h q d || has_grip h q d)) → strict_wait w n q ≡ None) → ActsInTurn w m h
 turn_by w n m h line fewer waitless q d acts = strict_fewer_by w.runs w.kinds w.first w.mode.model w.mode.scheduler n m q (line q (and_parts (is_live m q) (has_touched m h q d || has_grip h q d) acts).0) (λ x there now. fewer x now) (waitless q d acts)
 
 -- a run that acts with less acts with more
@@ -180,10 +182,14 @@ last_turn w n g r m first stands unplaced untouched' gripless turn q d acts = el
     others apart =
         let acts' : IsTrue (is_live n q && (has_touched n g q d || has_grip g q d)) = acts_more _ _ _ _ _ _ _ _ (same_true (live q apart)) (same_true (did_is q d)) (λ e. e) (λ e. e) acts in
         let there : list_any (is_ran q) n.line ≡ true = live_stands n q stands (grind (arith, common_steps)) in
-        strict_fewer_by w.runs w.kinds w.first w.mode.model w.mode.scheduler n then' q (ap (live_runs then') (ap (before q) (end_line w n r m first) ∙ before_more q n.line (Ran (run_no r)) there)) (λ x among now. same_true (live x (other x (any_taken (is_ran x) _ n.line among))) now) (turn q d acts')
+        strict_fewer_by w.runs w.kinds w.first w.mode.model w.mode.scheduler n then' q
+        (ap (live_runs then') (ap (before q) (end_line w n r m first) ∙ before_more q n.line (Ran (run_no r)) there))
+        (λ x among now. same_true (live x (other x (any_taken (is_ran x) _ n.line among))) now) (turn q d acts')
 
 -- .. or anywhere, where no run waits for another one by its model
-placing_turn : (w : Setting) (n : Reading) (g : Grips) (r at m : ℕ) → Standing n → is_none (n.run r).placed ≡ true → ((d : ℕ) → did n r d ≡ false) → ((d : ℕ) → has_grip g r d ≡ false) → (scheduler_of w.mode ≡ Fcfs → at ≡ length n.line) → ActsInTurn w n g → ActsInTurn w (entry w n (Placed (run_no r) at m)) g
+placing_turn : (w : Setting) (n : Reading) (g : Grips) (r at m : ℕ) → Standing n → is_none (n.run r).placed ≡ true → ((d : ℕ) → did n r d ≡ false)
+    → ((d : ℕ) → has_grip g r d ≡ false) → (scheduler_of w.mode ≡ Fcfs → at ≡ length n.line) → ActsInTurn w n g
+    → ActsInTurn w (entry w n (Placed (run_no r) at m)) g
 placing_turn w n g r at m stands unplaced untouched' gripless last turn q d acts = by_model w.mode.model w.mode.scheduler last (λ first end. subst (λ k. ActsInTurn w (entry w n (Placed (run_no r) k m)) g) (sym end) (last_turn w n g r m first stands unplaced untouched' gripless turn) q d acts)
   where
     then' : Reading
@@ -261,7 +267,10 @@ doom_turn : (w : Setting) (n : Reading) (g : Grips) (r : ℕ) (cause : Cause) �
 doom_turn w n g r cause turn = turn_less w n (entry w n (Doomed (run_no r) cause)) g g (λ q now. refl) (λ q. same_true (doomed_live w n (run_no r) cause q)) (λ q d. put_keeps (λ o. is_some (o.on d).view) n.run r _ refl q) (same_grips g) turn
 
 undo_turn : (w : Setting) (n : Reading) (g h : Grips) (r d : ℕ) (drove : Bool) → AreFewer h g → ActsInTurn w n g → ActsInTurn w (entry w n (Undid (run_no r) (device_no d) drove)) h
-undo_turn w n g h r d drove less turn = turn_less w n (entry w n (Undid (run_no r) (device_no d) drove)) g h (λ q now. refl) (λ q. same_true (put_keeps (λ o. is_some o.placed && is_none o.ended) n.run r _ refl q)) (λ q e. put_keeps (λ o. is_some (o.on e).view) n.run r _ (put_keeps (λ x. is_some x.view) (n.run r).on d _ refl e) q) less turn
+undo_turn w n g h r d drove less turn =
+    turn_less w n (entry w n (Undid (run_no r) (device_no d) drove)) g h (λ q now. refl)
+    (λ q. same_true (put_keeps (λ o. is_some o.placed && is_none o.ended) n.run r _ refl q))
+    (λ q e. put_keeps (λ o. is_some (o.on e).view) n.run r _ (put_keeps (λ x. is_some x.view) (n.run r).on d _ refl e) q) less turn
 
 -- one device more is out: its maker waits for none, where it is a live run
 pub grip_turn : (w : Setting) (n : Reading) (g : Grips) (r d : ℕ) (p : Purpose) → (is_live n r ≡ true → strict_wait w n r ≡ None) → ActsInTurn w n g → ActsInTurn w n (put g d (Some (record { maker = r; purpose = p })))
@@ -277,7 +286,12 @@ grip_turn w n g r d p alone turn q e acts = elim (q == r) as (λ b. (q == r) ≡
     other_grip other = elim (e == d) as (λ b. unwrap_or (option_map (λ x. x.maker == q) (if b then Some new else g e)) false ≡ true → has_grip g q e ≡ true) [ true ↦ (λ f. absurd (let both : true ≡ false = sym f ∙ other in cc)) | false ↦ (λ f. f) ]
 
     other_command : (r == q) ≡ false → grips_command (put g d (Some new)) q e ≡ true → grips_command g q e ≡ true
-    other_command other = elim (e == d) as (λ b. unwrap_or (option_map (λ x. (x.maker == q) && is_command x.purpose) (if b then Some new else g e)) false ≡ true → grips_command g q e ≡ true) [ true ↦ (λ f. absurd (let both : (r == q) ≡ true = grind (arith, common_steps) in let all : true ≡ false = sym both ∙ other in cc)) | false ↦ (λ f. f) ]
+    other_command other =
+        elim (e == d) as
+        (λ b. unwrap_or (option_map (λ x. (x.maker == q) && is_command x.purpose) (if b then Some new else g e)) false ≡ true → grips_command g q e ≡ true) [
+          | true ↦ (λ f. absurd (let both : (r == q) ≡ true = grind (arith, common_steps) in let all : true ≡ false = sym both ∙ other in cc))
+          | false ↦ (λ f. f)
+        ]
 
 -- A run arrives
 
@@ -302,7 +316,9 @@ arrival_may s r m follows later kept =
 
 -- A run is placed at the end
 
-placing_order : (w : Setting) (n : Reading) (r m : ℕ) → scheduler_of w.mode ≡ Fcfs → Standing n → StampsAreBelow n → is_none (n.run r).placed ≡ true → IsTrue (placed_in_order n n.line) → IsTrue (placed_in_order (entry w n (Placed (run_no r) (length n.line) m)) (entry w n (Placed (run_no r) (length n.line) m)).line)
+placing_order : (w : Setting) (n : Reading) (r m : ℕ) → scheduler_of w.mode ≡ Fcfs → Standing n → StampsAreBelow n → is_none (n.run r).placed ≡ true
+    → IsTrue (placed_in_order n n.line)
+    → IsTrue (placed_in_order (entry w n (Placed (run_no r) (length n.line) m)) (entry w n (Placed (run_no r) (length n.line) m)).line)
 placing_order w n r m first stands stamps unplaced ordered = subst (λ l. IsTrue (placed_in_order then' l)) (sym (end_line w n r m first)) (order_at_end n then' r n.line same below ordered)
   where
     new : OfRun
@@ -379,7 +395,10 @@ in_turn_wrote s r d live wrote kept = kept.in_turn r d (acting (is_live (read_of
     acting l t c h el et = grind (arith, common_steps)
 
 alone_now : (s : Configuration) (r : ℕ) → s.setting.mode.scheduler ≡ Fcfs → is_live (read_of s) r ≡ true → strict_wait s.setting (read_of s) r ≡ None → HistoryIsKept s → IsTrue (is_alone s.setting (read_of s) r)
-alone_now s r first_come live waitless kept = is_alone_by s.setting.runs s.setting.kinds s.setting.first s.setting.mode.model s.setting.mode.scheduler (read_of s) r (record { in_order = kept.in_order first_come; there = live_stands (read_of s) r stands live; live = λ q now. live_stands (read_of s) q stands now }) waitless
+alone_now s r first_come live waitless kept =
+    is_alone_by s.setting.runs s.setting.kinds s.setting.first s.setting.mode.model s.setting.mode.scheduler (read_of s) r
+    (record { in_order = kept.in_order first_come; there = live_stands (read_of s) r stands live; live = λ q now. live_stands (read_of s) q stands now })
+    waitless
   where
     stands : Standing (read_of s)
     stands = standing s.setting (entries_of s.history) kept.well_formed
@@ -426,7 +445,9 @@ answered_may s h r k m a follows clean later served less none live waitless kept
     n = read_of s
 
 -- by its device, which comes home
-pub answer_may : (s : Configuration) (r k d m : ℕ) (a : Answer) → may_follow s.setting (read_of s) (Did (run_no r) k a) ≡ true → entry_is_clean s.setting (read_of s) (Did (run_no r) k a) ≡ true → (read_of s).moment ≤ m → ServesStrict s.setting → s.grips d ≡ Some (record { maker = r; purpose = Commands k })
+pub answer_may : (s : Configuration) (r k d m : ℕ) (a : Answer) → may_follow s.setting (read_of s) (Did (run_no r) k a) ≡ true
+    → entry_is_clean s.setting (read_of s) (Did (run_no r) k a) ≡ true → (read_of s).moment ≤ m → ServesStrict s.setting
+    → s.grips d ≡ Some (record { maker = r; purpose = Commands k })
     → ((e : ℕ) (p : Purpose) → s.grips e ≡ Some (record { maker = r; purpose = p }) → e ≡ d) → is_live (read_of s) r ≡ true → HistoryIsKept s → MayAdd s (Did (run_no r) k a) m (put s.grips d None)
 answer_may s r k d m a follows clean later served out alone live kept = answered_may s (put s.grips d None) r k m a follows clean later served (less_one s.grips d) (last_home s.grips r d alone) live (in_turn_out s r d (Commands k) out live kept) kept
 
@@ -469,7 +490,9 @@ commit_may s r m follows later up kept =
 
 -- A run is doomed
 
-pub doom_may : (s : Configuration) (r m : ℕ) (cause : Cause) → may_follow s.setting (read_of s) (Doomed (run_no r) cause) ≡ true → (s.setting.mode.scheduler ≡ Fcfs → keeps_leases (Doomed (run_no r) cause) ≡ true) → shows s.setting (read_of s) r cause ≡ true → moment_of cause (read_of s).moment ≤ m → HistoryIsKept s
+pub doom_may : (s : Configuration) (r m : ℕ) (cause : Cause) → may_follow s.setting (read_of s) (Doomed (run_no r) cause) ≡ true
+    → (s.setting.mode.scheduler ≡ Fcfs → keeps_leases (Doomed (run_no r) cause) ≡ true) → shows s.setting (read_of s) r cause ≡ true
+    → moment_of cause (read_of s).moment ≤ m → HistoryIsKept s
     → MayAdd s (Doomed (run_no r) cause) m s.grips
 doom_may s r m cause follows keeps shown later kept =
     record {

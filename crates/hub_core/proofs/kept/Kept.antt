@@ -85,7 +85,10 @@ probes_out s m d new of_run = probes_fewer s s.history m (put s.grips d (Some ne
 -- Parts of a configuration that change
 
 -- another history, moment and grips, with no more restarts and probes out
-pub kept_after : (s : Configuration) (rounds opened : ℕ) (held after : ℕ → ℕ) (h : List Kept) (m : ℕ) (g : Grips) → HistoryIsKept (record s { history = h; moment = m; grips = g }) → ((d : ℕ) → probes_of (record s { history = h; moment = m; grips = g }) d ≤ probes_of s d) → UndosFit s.setting g → OrderIsKept s.setting (reading s.setting (entries_of h)) g after → ConfigurationIsKept s rounds opened held
+pub kept_after : (s : Configuration) (rounds opened : ℕ) (held after : ℕ → ℕ) (h : List Kept) (m : ℕ) (g : Grips)
+    → HistoryIsKept (record s { history = h; moment = m; grips = g })
+    → ((d : ℕ) → probes_of (record s { history = h; moment = m; grips = g }) d ≤ probes_of s d) → UndosFit s.setting g
+    → OrderIsKept s.setting (reading s.setting (entries_of h)) g after → ConfigurationIsKept s rounds opened held
     → ConfigurationIsKept (record s { history = h; moment = m; grips = g }) rounds opened after
 kept_after s rounds opened held after h m g history fewer undos order kept =
     record {
@@ -125,12 +128,17 @@ kept_at s rounds opened m held kept =
     kept_after s rounds opened held held s.history (max s.moment m) s.grips (history_same s (max s.moment m) s.grips (still_later s m kept.history) kept.history.in_turn kept.history.first kept.history) (probes_fewer s s.history (max s.moment m) s.grips refl (λ d e. e)) kept.undos kept.order kept
 
 -- one entry more
-pub kept_with : (s : Configuration) (rounds opened maker m : ℕ) (held after : ℕ → ℕ) (g : Grips) (e : Entry) → MayAdd s e m g → ((d : ℕ) → probes_of (added s maker m g e) d ≤ probes_of s d) → UndosFit s.setting g → OrderIsKept s.setting (entry s.setting (read_of s) e) g after → ConfigurationIsKept s rounds opened held → ConfigurationIsKept (added s maker m g e) rounds opened after
+pub kept_with : (s : Configuration) (rounds opened maker m : ℕ) (held after : ℕ → ℕ) (g : Grips) (e : Entry) → MayAdd s e m g
+    → ((d : ℕ) → probes_of (added s maker m g e) d ≤ probes_of s d) → UndosFit s.setting g → OrderIsKept s.setting (entry s.setting (read_of s) e) g after
+    → ConfigurationIsKept s rounds opened held → ConfigurationIsKept (added s maker m g e) rounds opened after
 kept_with s rounds opened maker m held after g e may fewer undos order kept =
     kept_after s rounds opened held after (s.history ++ kept_by maker (e ∷ [])) m g (history_added s maker m g e may kept.history) fewer undos (subst (λ n. OrderIsKept s.setting n g after) (sym (read_with s maker (e ∷ []))) order) kept
 
 -- two entries more
-pub kept_with_two : (s : Configuration) (rounds opened maker m : ℕ) (held after : ℕ → ℕ) (g : Grips) (e f : Entry) → MayAdd s e m g → MayAdd (added s maker m g e) f m g → ((d : ℕ) → probes_of (record s { history = s.history ++ kept_by maker (e ∷ f ∷ []); moment = m; grips = g }) d ≤ probes_of s d) → UndosFit s.setting g → OrderIsKept s.setting (entry s.setting (entry s.setting (read_of s) e) f) g after → ConfigurationIsKept s rounds opened held
+pub kept_with_two : (s : Configuration) (rounds opened maker m : ℕ) (held after : ℕ → ℕ) (g : Grips) (e f : Entry) → MayAdd s e m g
+    → MayAdd (added s maker m g e) f m g
+    → ((d : ℕ) → probes_of (record s { history = s.history ++ kept_by maker (e ∷ f ∷ []); moment = m; grips = g }) d ≤ probes_of s d) → UndosFit s.setting g
+    → OrderIsKept s.setting (entry s.setting (entry s.setting (read_of s) e) f) g after → ConfigurationIsKept s rounds opened held
     → ConfigurationIsKept (record s { history = s.history ++ kept_by maker (e ∷ f ∷ []); moment = m; grips = g }) rounds opened after
 kept_with_two s rounds opened maker m held after g e f may next fewer undos order kept =
     kept_after s rounds opened held after (s.history ++ kept_by maker (e ∷ f ∷ [])) m g
@@ -211,7 +219,9 @@ take_kept s rounds opened held r m kept =
           moves (Arrived (run_no r) now) refl (arrival_may s r now follows later kept.history) (arrives_kept w n s.grips held r now read follows kept.order);
       enters = λ x enters ok shown clean. let follows : may_follow w n (Placed (run_no r) (length x.front) now) ≡ true = first_follows w n (Placed (run_no r) (length x.front) now) ok in
           let place = enters_place w n s.grips r now x kept.order.grips.runs enters in
-          moves (Placed (run_no r) (length x.front) now) refl (placing_may s r (length x.front) now follows later (entered_is_scheduled w n s.grips r now x kept.order.grips.runs enters) place enters.unplaced (λ d. gripless w n s.grips r d kept.order.grips enters.run (unplaced (n.run r).placed enters.unplaced)) kept.history)
+          moves (Placed (run_no r) (length x.front) now) refl
+          (placing_may s r (length x.front) now follows later (entered_is_scheduled w n s.grips r now x kept.order.grips.runs enters) place enters.unplaced
+          (λ d. gripless w n s.grips r d kept.order.grips enters.run (unplaced (n.run r).placed enters.unplaced)) kept.history)
           (joined_order w n s.grips held r (length x.front) now read follows place.clear kept.order);
       aborted = λ cause act doomed over ok shown clean. let follows : may_follow w n (Ended (run_no r) (Aborted cause)) ≡ true = first_follows w n (Ended (run_no r) (Aborted cause)) ok in
           moves (Ended (run_no r) (Aborted cause)) refl (aborted_may s r now cause follows later kept.history) (aborts_kept w n s.grips held r cause read follows act.free (over kept.strong) kept.order);
@@ -283,7 +293,9 @@ take_kept s rounds opened held r m kept =
         → ConfigurationIsKept (after_choice (at_moment s m) r (HandsOut d p)) rounds opened held
     goes d p of_run fits first alone order =
         kept_after s rounds opened held held s.history now (put s.grips d (Some (record { maker = r; purpose = p })))
-        (history_same s now (put s.grips d (Some (record { maker = r; purpose = p }))) later (grip_turn w n s.grips r d p (λ live. alone) kept.history.in_turn) (out_with s.grips (λ e q. not (is_command q.purpose && (n.run q.maker).answered_doomed)) d (record { maker = r; purpose = p }) first kept.history.first) kept.history)
+        (history_same s now (put s.grips d (Some (record { maker = r; purpose = p }))) later (grip_turn w n s.grips r d p (λ live. alone) kept.history.in_turn)
+        (out_with s.grips (λ e q. not (is_command q.purpose && (n.run q.maker).answered_doomed)) d (record { maker = r; purpose = p }) first kept.history.first)
+        kept.history)
         (probes_out s now d (record { maker = r; purpose = p }) of_run) (out_with s.grips (λ e q. undo_fits (kind_at w.kinds e) q.purpose) d (record { maker = r; purpose = p }) fits kept.undos) order kept
 
     -- the doom of a borrower, whose lease is overdue
@@ -315,10 +327,13 @@ take_kept s rounds opened held r m kept =
     -- the answer Down with no call, and the doom of a must command
     downs : (c : Command) → Commanding w n s.grips r c → IsNext w n s.grips r now c → busy_wait w n s.grips r c.device.0 ≡ false → answers_down w n r c.device.0 ≡ true
         → Follows w n (Moves (down_entries r (next_of n r) c)) → Shows w n (Moves (down_entries r (next_of n r) c)) → IsClean w n (Moves (down_entries r (next_of n r) c)) → ConfigurationIsKept (after_choice (at_moment s m) r (Moves (down_entries r (next_of n r) c))) rounds opened held
-    downs c run next home down ok shown clean = elim c.must as (λ b. c.must ≡ b → IsTrue (along w (may_follow w) n (entries b)) → IsTrue (along w (abort_is_justified w) n (entries b)) → IsTrue (along w (entry_is_clean w) n (entries b)) → ConfigurationIsKept (record s { history = s.history ++ kept_by r (entries b); moment = now }) rounds opened held) [
-      | true ↦ dooms
-      | false ↦ misses
-    ] refl ok shown clean
+    downs c run next home down ok shown clean =
+        elim c.must as (λ b. c.must ≡ b → IsTrue (along w (may_follow w) n (entries b)) → IsTrue (along w (abort_is_justified w) n (entries b))
+        → IsTrue (along w (entry_is_clean w) n (entries b))
+        → ConfigurationIsKept (record s { history = s.history ++ kept_by r (entries b); moment = now }) rounds opened held) [
+          | true ↦ dooms
+          | false ↦ misses
+        ] refl ok shown clean
       where
         answer : Entry
         answer = Did (run_no r) (next_of n r) Down
@@ -358,7 +373,10 @@ take_kept s rounds opened held r m kept =
             → ConfigurationIsKept (record s { history = s.history ++ kept_by r (answer ∷ doom ∷ []); moment = now }) rounds opened held
         dooms must ok shown clean =
             kept_with_two s rounds opened r now held held s.grips answer doom answers
-            (doom_may after r now (MustDown (next_of n r)) (subst (λ x. may_follow w x doom ≡ true) read_after (first_follows w (entry w n answer) doom follows.1)) (λ first_come. refl) (subst (λ x. shows w x r (MustDown (next_of n r)) ≡ true) read_after (both (shows w (entry w n answer) r (MustDown (next_of n r))) true shown).0) so_far.moment so_far)
+            (doom_may after r now (MustDown (next_of n r))
+            (subst (λ x. may_follow w x doom ≡ true) read_after (first_follows w (entry w n answer) doom follows.1)) (λ first_come. refl)
+            (subst (λ x. shows w x r (MustDown (next_of n r)) ≡ true) read_after (both (shows w (entry w n answer) r (MustDown (next_of n r))) true shown).0)
+            so_far.moment so_far)
             (probes_told s r now (answer ∷ doom ∷ []) refl) kept.undos (down_doomed_kept w n s.grips held r c (MustDown (next_of n r)) told) kept
           where
             follows : (may_follow w n answer ≡ true) × IsTrue (along w (may_follow w) (entry w n answer) (doom ∷ []))

@@ -128,7 +128,9 @@ probe_counted s rounds opened held d m (Some u) out kept = by_model ((read_of s)
     first a b h = grind (arith, common_steps)
 
 -- .. and restores a value of its kind
-pub restored_fits : (s : Configuration) (rounds opened : ℕ) (held : ℕ → ℕ) (d m u : ℕ) → s.grips d ≡ Some (record { maker = m; purpose = Probes (Some u) }) → d < length s.setting.first → IsTrue (has_value (kind_at s.setting.kinds d) (held d)) → IsKeptByModel s rounds opened held → IsTrue (has_value (kind_at s.setting.kinds d) u)
+pub restored_fits : (s : Configuration) (rounds opened : ℕ) (held : ℕ → ℕ) (d m u : ℕ) → s.grips d ≡ Some (record { maker = m; purpose = Probes (Some u) })
+    → d < length s.setting.first → IsTrue (has_value (kind_at s.setting.kinds d) (held d)) → IsKeptByModel s rounds opened held
+    → IsTrue (has_value (kind_at s.setting.kinds d) u)
 restored_fits s rounds opened held d m u out below fits kept = by_model (IsTrue (has_value (kind_at s.setting.kinds d) u)) s rounds opened held kept
     (λ c. c.undos d (record { maker = m; purpose = Probes (Some u) }) out)
     (λ c. subst (λ x. IsTrue (has_value (kind_at s.setting.kinds d) x)) (c.held_is d below ∙ sym (second ((read_of s).up d) u ((read_of s).last d) (c.out d (record { maker = m; purpose = Probes (Some u) }) out))) fits)

@@ -97,7 +97,9 @@ end_line w n r m first = ap (λ l. take (length n.line) l ++ Ran (run_no r) ∷ 
     by_line (i ∷ is) = ap (λ l. i ∷ l) (by_line is)
 
 -- a run that is placed at the end is the last one by its stamp
-pub order_at_end : (n m : Reading) (r : ℕ) (line : List Item) → ((q : ℕ) → q ≢ r → stamp_of m q ≡ stamp_of n q) → ((q : ℕ) → list_any (is_ran q) line ≡ true → (q ≢ r) × (nat_lt (stamp_of m q) (stamp_of m r) ≡ true)) → IsTrue (placed_in_order n line) → IsTrue (placed_in_order m (line ++ Ran (run_no r) ∷ []))
+pub order_at_end : (n m : Reading) (r : ℕ) (line : List Item) → ((q : ℕ) → q ≢ r → stamp_of m q ≡ stamp_of n q)
+    → ((q : ℕ) → list_any (is_ran q) line ≡ true → (q ≢ r) × (nat_lt (stamp_of m q) (stamp_of m r) ≡ true)) → IsTrue (placed_in_order n line)
+    → IsTrue (placed_in_order m (line ++ Ran (run_no r) ∷ []))
 order_at_end n m r [] same below ordered = refl
 order_at_end n m r (Ran x ∷ is) same below ordered =
     let here : (x.0 ≢ r) × (nat_lt (stamp_of m x.0) (stamp_of m r) ≡ true) = below x.0 (grind (arith, common_steps)) in

@@ -82,7 +82,9 @@ entry_kept {rounds = rounds} h h₂ g maker e line table new kept =
 
 -- The start
 
-pub order_begins : (rounds : ℕ) (w : Setting) (line : Marked) (table : List LineageState) → line.marks ≡ [] → line.sealed ≡ 0 → AreKeptOf w.runs line.runs → most_items (length w.runs) (length w.first) rounds ≤ line.spare → TableIsOpened w.runs w.first table → IsOrderOf rounds w (nothing_read w) no_grips line table
+pub order_begins : (rounds : ℕ) (w : Setting) (line : Marked) (table : List LineageState) → line.marks ≡ [] → line.sealed ≡ 0 → AreKeptOf w.runs line.runs
+    → most_items (length w.runs) (length w.first) rounds ≤ line.spare → TableIsOpened w.runs w.first table
+    → IsOrderOf rounds w (nothing_read w) no_grips line table
 order_begins rounds w line table none none_sealed runs room opened = record {
   table_is = record {
     devices = opened.devices;
@@ -116,7 +118,9 @@ length_with at x marks =
     omega (arith, after, before, whole)
 
 -- .. at a place that is clear as the line stands then
-pub order_placed : {rounds : ℕ} (h h₂ : HistoryState) (g : Grips) (r at m : ℕ) (line after : Marked) (table later : List LineageState) → IsRead h.setting (read_in h) → GripsFit h.setting (read_in h) g → is_weak h.setting.mode ≡ false → IsClear h.setting (in_order (read_in h) (line_for h.setting (read_in h) r m)) g r at
+pub order_placed : {rounds : ℕ} (h h₂ : HistoryState) (g : Grips) (r at m : ℕ) (line after : Marked) (table later : List LineageState)
+    → IsRead h.setting (read_in h) → GripsFit h.setting (read_in h) g → is_weak h.setting.mode ≡ false
+    → IsClear h.setting (in_order (read_in h) (line_for h.setting (read_in h) r m)) g r at
     → h₂ ≡ with_entry h r (Placed (run_no r) at m) → IsWellFormed h₂.setting (entries_of h₂.history)
     → after.marks ≡ with_item at (Ran (run_no r)) (marks_for h.setting (read_in h) r m line.marks) → after.spare + 1 ≡ line.spare → after.runs ≡ line.runs → IsSealed after
     → ChangesEach (scheduled_on h.setting.runs r (planned_times h.setting (read_in h) r (front_for h.setting (read_in h) r at m) m) (drop at (items_of (marks_for h.setting (read_in h) r m line.marks)))) table later
@@ -142,7 +146,9 @@ order_placed {rounds = rounds} h h₂ g r at m line after table later read fit s
     changed = subst (λ is. ChangesEach (scheduled_on w.runs r (planned_times w n r (front_for w n r at m) m) (drop at is)) table later) (marks_arranged w n g r m line.marks kept.line_is).items changes
 
 -- .. under the weak model, where it has no access
-pub order_joined : {rounds : ℕ} (h h₂ : HistoryState) (g : Grips) (r at m : ℕ) (line after : Marked) (table : List LineageState) → is_weak h.setting.mode ≡ true → IsRead h.setting (read_in h) → GripsFit h.setting (read_in h) g → sealed_in (read_in h) ≤ at → h₂ ≡ with_entry h r (Placed (run_no r) at m) → IsWellFormed h₂.setting (entries_of h₂.history)
+pub order_joined : {rounds : ℕ} (h h₂ : HistoryState) (g : Grips) (r at m : ℕ) (line after : Marked) (table : List LineageState) → is_weak h.setting.mode ≡ true
+    → IsRead h.setting (read_in h) → GripsFit h.setting (read_in h) g → sealed_in (read_in h) ≤ at → h₂ ≡ with_entry h r (Placed (run_no r) at m)
+    → IsWellFormed h₂.setting (entries_of h₂.history)
     → after.marks ≡ with_item at (Ran (run_no r)) line.marks → after.spare + 1 ≡ line.spare → after.runs ≡ line.runs → after.sealed ≡ line.sealed → OrderIsBeside rounds h g line table → OrderIsBeside rounds h₂ g after table
 order_joined {rounds = rounds} h h₂ g r at m line after table weak read fit behind new formed marks spare runs stays kept = entry_kept h h₂ g r (Placed (run_no r) at m) after table new (record {
   table_is = fits_weakly w n _ g g table weak (λ d. refl) kept.table_is;
@@ -345,12 +351,16 @@ done_after w n r k a d number on = (λ i. ap (λ (o : OfRun). is_some o.doomed) 
     left : pends w (entry w n (Did (run_no r) k a)) r d ≡ touches_from w.runs r d (k + 1)
     left = ap (λ (o : OfRun). touches_from w.runs r d (length o.answers)) (put_same n.run r (answered_run w n r k a)) ∙ left_after w n r k a d number
 
-pub order_told_down : {rounds : ℕ} (h h₂ : HistoryState) (g : Grips) (held : ℕ → ℕ) (r k : ℕ) (last : Bool) (line after : Marked) (table later : List LineageState) → IsToldDown h.setting (read_in h) g held r (command_at h.setting.runs r k) → (command_at h.setting.runs r k).device.0 < length h.setting.first → k ≡ next_of (read_in h) r
+pub order_told_down : {rounds : ℕ} (h h₂ : HistoryState) (g : Grips) (held : ℕ → ℕ) (r k : ℕ) (last : Bool) (line after : Marked)
+    (table later : List LineageState) → IsToldDown h.setting (read_in h) g held r (command_at h.setting.runs r k)
+    → (command_at h.setting.runs r k).device.0 < length h.setting.first → k ≡ next_of (read_in h) r
     → h₂ ≡ with_entry h r (Did (run_no r) k Down) → last ≡ is_done_there h.setting (read_in h) r k → after.marks ≡ touching r (command_at h.setting.runs r k).device.0 line.marks → after.spare ≡ line.spare → after.runs ≡ line.runs → after.sealed ≡ line.sealed
     → later ≡ with_lineage table (command_at h.setting.runs r k).device.0 (noted_first r (is_first r (lineage_at table (command_at h.setting.runs r k).device.0)) ViewedDown None last)
     → OrderIsBeside rounds h g line table → OrderIsBeside rounds h₂ g after later
 order_told_down {rounds = rounds} h h₂ g held r k last line after table later told below number new last_is marks spare runs stays changed kept = entry_kept h h₂ g r (Did (run_no r) k Down) after later new (record {
-  table_is = fits_ordered w _ g later told.strong (subst (λ j. TableIsKept w (entry w n (Did (run_no r) j Down)) g later) (sym number) (told_table w n g held r c table later told (subst (λ j. ChangesEach (answered_change w n r j Down) table later) number changes) (kept.table_is.ordered told.strong)));
+  table_is =
+      fits_ordered w _ g later told.strong (subst (λ j. TableIsKept w (entry w n (Did (run_no r) j Down)) g later) (sym number) (told_table w n g held r c table
+      later told (subst (λ j. ChangesEach (answered_change w n r j Down) table later) number changes) (kept.table_is.ordered told.strong)));
   line_is = subst (MarksAreKept (entry w n (Did (run_no r) k Down)) g) (sym marks) (marks_told w n g r k Down line.marks refl kept.line_is);
   sealed = touched_sealed r c.device.0 line after marks stays kept.sealed;
   runs = subst (AreKeptOf w.runs) (sym runs) kept.runs;
@@ -438,7 +448,11 @@ order_doomed_if h h₂ g r (Some cause) line after table later fit none new form
   where
     -- the history without the doom is well formed too
     before' : IsWellFormed h.setting (entries_of h.history)
-    before' = (and_parts (is_well_formed h.setting (entries_of h.history)) (along h.setting (may_follow h.setting) (read_in h) (Doomed (run_no r) cause ∷ [])) (sym (along_on h.setting (may_follow h.setting) (nothing_read h.setting) (entries_of h.history) (Doomed (run_no r) cause ∷ [])) ∙ subst (IsWellFormed h.setting) (entries_on h.history r (Doomed (run_no r) cause ∷ [])) (subst (λ (x : HistoryState). IsWellFormed x.setting (entries_of x.history)) new formed))).0
+    before' =
+        (and_parts (is_well_formed h.setting (entries_of h.history)) (along h.setting (may_follow h.setting) (read_in h) (Doomed (run_no r) cause ∷ []))
+        (sym (along_on h.setting (may_follow h.setting) (nothing_read h.setting) (entries_of h.history) (Doomed (run_no r) cause ∷ []))
+        ∙ subst (IsWellFormed h.setting) (entries_on h.history r (Doomed (run_no r) cause ∷ []))
+        (subst (λ (x : HistoryState). IsWellFormed x.setting (entries_of x.history)) new formed))).0
 
 -- a run that holds no grip has out no command
 pub none_commands : (w : Setting) (g : Grips) (r : ℕ) → HoldsNone g r → (d : ℕ) → grips_command g r d ≡ false
@@ -461,7 +475,9 @@ none_out w n g d r p run at fit e = at_ (put g d None e) refl
 
 -- A run is undone on a device
 
-pub order_undone : {rounds : ℕ} (h h₂ : HistoryState) (g f : Grips) (r d v : ℕ) (line : Marked) (table : List LineageState) → h₂ ≡ with_entry h r (Undid (run_no r) (device_no d) true) → g d ≡ Some (record { maker = r; purpose = Undoes v }) → f ≡ put g d None → OrderIsBeside rounds h g line table → OrderIsBeside rounds h₂ f line table
+pub order_undone : {rounds : ℕ} (h h₂ : HistoryState) (g f : Grips) (r d v : ℕ) (line : Marked) (table : List LineageState) → h₂
+    ≡ with_entry h r (Undid (run_no r) (device_no d) true) → g d ≡ Some (record { maker = r; purpose = Undoes v }) → f ≡ put g d None
+    → OrderIsBeside rounds h g line table → OrderIsBeside rounds h₂ f line table
 order_undone {rounds = rounds} h h₂ g f r d v line table new out home kept = entry_kept h h₂ f r (Undid (run_no r) (device_no d) true) line table new (subst (λ (x : Grips). IsOrderOf rounds w (entry w n (Undid (run_no r) (device_no d) true)) x line table) (sym home) (record {
   table_is = fits_still w n _ g _ table (λ e. refl) (λ own. undid_table w n g d r v table out own) kept.table_is;
   line_is = marks_undone w n (put g d None) r d true line.marks (marks_undo_home n g r d v line.marks out kept.line_is);
@@ -479,13 +495,15 @@ order_undone {rounds = rounds} h h₂ g f r d v line table new out home kept = e
 -- .. or its write there is dropped
 pub order_dropped : {rounds : ℕ} (h h₂ : HistoryState) (g : Grips) (r d : ℕ) (line after : Marked) (table later : List LineageState) → IsRead h.setting (read_in h) → d < length table → h₂ ≡ with_entry h r (Undid (run_no r) (device_no d) false) → after ≡ line → later ≡ with_lineage table d (undone r)
     → OrderIsBeside rounds h g line table → OrderIsBeside rounds h₂ g after later
-order_dropped {rounds = rounds} h h₂ g r d line after table later read below new same changed kept = entry_kept h h₂ g r (Undid (run_no r) (device_no d) false) after later new (subst (λ (x : Marked). IsOrderOf rounds w (entry w n (Undid (run_no r) (device_no d) false)) g x later) (sym same) (record {
-  table_is = fits_changed w n _ g g (undone_change r d) table later (λ e. refl) (λ e. undone_change_bare r d e) changes (λ own. undo_dropped_table w n g d r false table later read changes own) kept.table_is;
-  line_is = marks_undone w n g r d false line.marks kept.line_is;
-  sealed = kept.sealed;
-  runs = kept.runs;
-  room = omega (arith, kept.room);
-}))
+order_dropped {rounds = rounds} h h₂ g r d line after table later read below new same changed kept =
+    entry_kept h h₂ g r (Undid (run_no r) (device_no d) false) after later new
+    (subst (λ (x : Marked). IsOrderOf rounds w (entry w n (Undid (run_no r) (device_no d) false)) g x later) (sym same) (record {
+      table_is = fits_changed w n _ g g (undone_change r d) table later (λ e. refl) (λ e. undone_change_bare r d e) changes (λ own. undo_dropped_table w n g d r false table later read changes own) kept.table_is;
+      line_is = marks_undone w n g r d false line.marks kept.line_is;
+      sealed = kept.sealed;
+      runs = kept.runs;
+      room = omega (arith, kept.room);
+    }))
   where
     w : Setting
     w = h.setting

@@ -101,15 +101,19 @@ order_rose {rounds = rounds} h h₂ g maker d number place line after table late
     changes = subst (ChangesEach (turned_change d true) table) (sym changed) (changes_one table d (counted_up true) below)
 
 -- a run is doomed whose command out, if it has one, is on this device
-pub order_lost : {rounds : ℕ} (h h₂ : HistoryState) (g : Grips) (maker r : ℕ) (cause : Cause) (out : Option DeviceNo) (line after : Marked) (table later : List LineageState) → IsRead h.setting (read_in h) → GripsFit h.setting (read_in h) g → is_doomed (read_in h) r ≡ false → ((d : ℕ) → grips_command g r d ≡ is_named_device out d)
+pub order_lost : {rounds : ℕ} (h h₂ : HistoryState) (g : Grips) (maker r : ℕ) (cause : Cause) (out : Option DeviceNo) (line after : Marked)
+    (table later : List LineageState) → IsRead h.setting (read_in h) → GripsFit h.setting (read_in h) g → is_doomed (read_in h) r ≡ false
+    → ((d : ℕ) → grips_command g r d ≡ is_named_device out d)
     → h₂ ≡ with_entry h maker (Doomed (run_no r) cause) → after ≡ line → ChangesEach (doomed_unless out r) table later → OrderIsBeside rounds h g line table → OrderIsBeside rounds h₂ g after later
-order_lost {rounds = rounds} h h₂ g maker r cause out line after table later read fit sound same new still changes kept = entry_kept h h₂ g maker (Doomed (run_no r) cause) after later new (subst (λ (x : Marked). IsOrderOf rounds w (entry w n (Doomed (run_no r) cause)) g x later) (sym still) (record {
-  table_is = fits_changed w n _ g g (doomed_unless out r) table later (λ d. refl) (λ d. unless_bare out r d) changes (λ own. doomed_unless_table w n g r cause out table later read fit sound same changes own) kept.table_is;
-  line_is = marks_doomed w n g r cause line.marks kept.line_is;
-  sealed = kept.sealed;
-  runs = kept.runs;
-  room = kept.room;
-}))
+order_lost {rounds = rounds} h h₂ g maker r cause out line after table later read fit sound same new still changes kept =
+    entry_kept h h₂ g maker (Doomed (run_no r) cause) after later new
+    (subst (λ (x : Marked). IsOrderOf rounds w (entry w n (Doomed (run_no r) cause)) g x later) (sym still) (record {
+      table_is = fits_changed w n _ g g (doomed_unless out r) table later (λ d. refl) (λ d. unless_bare out r d) changes (λ own. doomed_unless_table w n g r cause out table later read fit sound same changes own) kept.table_is;
+      line_is = marks_doomed w n g r cause line.marks kept.line_is;
+      sealed = kept.sealed;
+      runs = kept.runs;
+      room = kept.room;
+    }))
   where
     w : Setting
     w = h.setting

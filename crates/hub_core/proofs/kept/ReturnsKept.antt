@@ -98,10 +98,14 @@ home_with s maker d m entries = record s { history = s.history ++ kept_by maker 
 comes_home : (s : Configuration) (rounds opened maker d m : ℕ) (held after : ℕ → ℕ) (entries : List Entry) → HistoryIsKept (home_with s maker d m entries) → ((e : ℕ) → probes_of (home_with s maker d m entries) e ≤ probes_of s e)
     → OrderIsKept s.setting (fold (entry s.setting) (read_of s) entries) (put s.grips d None) after → ConfigurationIsKept s rounds opened held → ConfigurationIsKept (home_with s maker d m entries) rounds opened after
 comes_home s rounds opened maker d m held after entries history fewer order kept =
-    kept_after s rounds opened held after (s.history ++ kept_by maker entries) m (put s.grips d None) history fewer (out_less s.grips (λ e q. undo_fits (kind_at s.setting.kinds e) q.purpose) d kept.undos) (subst (λ n. OrderIsKept s.setting n (put s.grips d None) after) (sym (read_with s maker entries)) order) kept
+    kept_after s rounds opened held after (s.history ++ kept_by maker entries) m (put s.grips d None) history fewer
+    (out_less s.grips (λ e q. undo_fits (kind_at s.setting.kinds e) q.purpose) d kept.undos)
+    (subst (λ n. OrderIsKept s.setting n (put s.grips d None) after) (sym (read_with s maker entries)) order) kept
 
 -- an entry comes first, and then these
-first_then : (s : Configuration) (maker m : ℕ) (g : Grips) (e : Entry) (more : List Entry) → HistoryIsKept (record s { history = (s.history ++ kept_by maker (e ∷ [])) ++ kept_by maker more; moment = m; grips = g }) → HistoryIsKept (record s { history = s.history ++ kept_by maker (e ∷ more); moment = m; grips = g })
+first_then : (s : Configuration) (maker m : ℕ) (g : Grips) (e : Entry) (more : List Entry)
+    → HistoryIsKept (record s { history = (s.history ++ kept_by maker (e ∷ [])) ++ kept_by maker more; moment = m; grips = g })
+    → HistoryIsKept (record s { history = s.history ++ kept_by maker (e ∷ more); moment = m; grips = g })
 first_then s maker m g e more kept = subst (λ h. HistoryIsKept (record s { history = h; moment = m; grips = g })) (append_assoc s.history (kept_by maker (e ∷ [])) (kept_by maker more)) kept
 
 -- what tests say along three entries, or two
@@ -112,7 +116,9 @@ each_of a b c h = let first = both a (b && c) h in let rest = both b c first.1 i
 no_news : (s : Configuration) (maker d m : ℕ) → (read_of s).moment ≤ m → HistoryIsKept s → HistoryIsKept (home_with s maker d m [])
 no_news s maker d m later kept =
     subst (λ h. HistoryIsKept (record s { history = h; moment = m; grips = put s.grips d None })) (sym (append-nil s.history))
-    (history_same s m (put s.grips d None) later (turn_less s.setting (read_of s) (read_of s) s.grips (put s.grips d None) (λ q now. refl) (λ q now. now) (λ q e. refl) (less_one s.grips d) kept.in_turn) (first_less (read_of s) (read_of s) s.grips (put s.grips d None) (λ q. refl) (less_one s.grips d) kept.first) kept)
+    (history_same s m (put s.grips d None) later
+    (turn_less s.setting (read_of s) (read_of s) s.grips (put s.grips d None) (λ q now. refl) (λ q now. now) (λ q e. refl) (less_one s.grips d) kept.in_turn)
+    (first_less (read_of s) (read_of s) s.grips (put s.grips d None) (λ q. refl) (less_one s.grips d) kept.first) kept)
 
 -- A command comes back
 
@@ -187,7 +193,9 @@ command_shows s rounds opened held r k d told c back kept = subst (λ j. IsTrue 
     n = read_of s
 
 -- a write has worked
-wrote_home : (s : Configuration) (rounds opened : ℕ) (held : ℕ → ℕ) (r k d now v : ℕ) → s.grips d ≡ Some (record { maker = r; purpose = Commands k }) → BringsFor s held r d v (Commands k) Worked → IsTrue (has_value (kind_at s.setting.kinds d) v) → (read_of s).moment ≤ now → ConfigurationIsKept s rounds opened held
+wrote_home : (s : Configuration) (rounds opened : ℕ) (held : ℕ → ℕ) (r k d now v : ℕ) → s.grips d ≡ Some (record { maker = r; purpose = Commands k })
+    → BringsFor s held r d v (Commands k) Worked → IsTrue (has_value (kind_at s.setting.kinds d) v) → (read_of s).moment ≤ now
+    → ConfigurationIsKept s rounds opened held
     → ConfigurationIsKept (home_with s r d now (Did (run_no r) k Fine ∷ [])) rounds opened (put held d v)
 wrote_home s rounds opened held r k d now v out brings value later kept =
     let back : (c : Command) × Returns s r k d c = returns s rounds opened held r k d out kept in
@@ -203,7 +211,9 @@ wrote_home s rounds opened held r k d now v out brings value later kept =
     n = read_of s
 
 -- a read has found a value: its run goes on, or was doomed before, or is doomed by it
-found_home : (s : Configuration) (rounds opened : ℕ) (held : ℕ → ℕ) (r k d now v x : ℕ) → s.grips d ≡ Some (record { maker = r; purpose = Commands k }) → BringsFor s held r d v (Commands k) (Sensed x) → IsTrue (has_value (kind_at s.setting.kinds d) v) → (read_of s).moment ≤ now → ConfigurationIsKept s rounds opened held
+found_home : (s : Configuration) (rounds opened : ℕ) (held : ℕ → ℕ) (r k d now v x : ℕ) → s.grips d ≡ Some (record { maker = r; purpose = Commands k })
+    → BringsFor s held r d v (Commands k) (Sensed x) → IsTrue (has_value (kind_at s.setting.kinds d) v) → (read_of s).moment ≤ now
+    → ConfigurationIsKept s rounds opened held
     → ConfigurationIsKept (home_with s r d now (command_entries s.setting (read_of s) r k (Sensed x))) rounds opened (put held d v)
 found_home s rounds opened held r k d now v x out brings value later kept = subst (λ h. ConfigurationIsKept (home_with s r d now (command_entries w n r k (Sensed x))) rounds opened h) (sym (put_own held d v brings.2)) by_failure
   where
@@ -270,7 +280,11 @@ found_home s rounds opened held r k d now v x out brings value later kept = subs
         passes f b h g = grind (arith, common_steps)
 
     dooms : (failed && not (is_doomed n r)) ≡ true → ConfigurationIsKept (home_with s r d now (answer ∷ doom ∷ [])) rounds opened held
-    dooms e = comes_home s rounds opened r d now held held (answer ∷ doom ∷ []) (first_then s r now home answer (doom ∷ []) (history_added after_answer r now home doom (doom_may after_answer r now (Refuted k x) (subst (λ y. may_follow w y doom ≡ true) read_after follows.1) (λ first_come. refl) (subst (λ y. shows w y r (Refuted k x) ≡ true) read_after (both (shows w (entry w n answer) r (Refuted k x)) true (shown e)).0) told.moment told) told)) (probes_home s r now d (answer ∷ doom ∷ []) refl)
+    dooms e =
+        comes_home s rounds opened r d now held held (answer ∷ doom ∷ []) (first_then s r now home answer (doom ∷ []) (history_added after_answer r now home
+        doom (doom_may after_answer r now (Refuted k x) (subst (λ y. may_follow w y doom ≡ true) read_after follows.1) (λ first_come. refl)
+        (subst (λ y. shows w y r (Refuted k x) ≡ true) read_after (both (shows w (entry w n answer) r (Refuted k x)) true (shown e)).0) told.moment told) told))
+        (probes_home s r now d (answer ∷ doom ∷ []) refl)
         (subst (λ y. OrderIsKept w (entry w (entry w n (Did (run_no r) k (Found y))) (Doomed (run_no r) (Refuted k y))) home held) (sym same) (refuted_kept w n s.grips held d r k read out brings.0 kept.order)) kept
       where
         follows : (may_follow w n answer ≡ true) × (may_follow w (entry w n answer) doom ≡ true)
@@ -359,19 +373,28 @@ died_home s rounds opened held r k d now v out value later kept = by_doomed (is_
     read_answered = read_with fallen r (answer ∷ []) ∙ ap (λ x. entry w x answer) read_fallen
 
     kept_answered : HistoryIsKept answered
-    kept_answered = history_added fallen r now home answer (answer_may fallen r k d now Down (ap (λ x. may_follow w x answer) read_fallen ∙ follows.1) clean kept_fallen.moment (serves_strict s.setting rounds opened kept.opens) out back.1.alone (ap (λ x. is_live x r) read_fallen ∙ back.1.known.live) kept_fallen) kept_fallen
+    kept_answered =
+        history_added fallen r now home answer
+        (answer_may fallen r k d now Down (ap (λ x. may_follow w x answer) read_fallen ∙ follows.1) clean kept_fallen.moment
+        (serves_strict s.setting rounds opened kept.opens) out back.1.alone (ap (λ x. is_live x r) read_fallen ∙ back.1.known.live) kept_fallen) kept_fallen
 
     KeptWith : List Entry → Type 0
     KeptWith more = ConfigurationIsKept (home_with s r d now (fall ∷ answer ∷ more)) rounds opened after
 
     goes_on : (did n r d ≡ true → is_doomed n r ≡ true) → (fails c Down ≡ true → is_doomed n r ≡ true) → KeptWith []
-    goes_on kept_it may_fail = comes_home s rounds opened r d now held after (fall ∷ answer ∷ []) (first_then s r now home fall (answer ∷ []) kept_answered) (probes_home s r now d (fall ∷ answer ∷ []) refl) (died_kept w n s.grips held after d r k back.1.read kept.strong out kept_it may_fail still kept.order) kept
+    goes_on kept_it may_fail =
+        comes_home s rounds opened r d now held after (fall ∷ answer ∷ []) (first_then s r now home fall (answer ∷ []) kept_answered)
+        (probes_home s r now d (fall ∷ answer ∷ []) refl)
+        (died_kept w n s.grips held after d r k back.1.read kept.strong out kept_it may_fail still kept.order) kept
 
     dooms : (cause : Cause) → ((x : ℕ) → moment_of cause x ≡ x) → keeps_leases (Doomed (run_no r) cause) ≡ true → IsMade (Doomed (run_no r) cause ∷ []) → KeptWith (Doomed (run_no r) cause ∷ [])
     dooms cause steady keeps is_made =
         comes_home s rounds opened r d now held after (fall ∷ answer ∷ Doomed (run_no r) cause ∷ [])
         (first_then s r now home fall (answer ∷ Doomed (run_no r) cause ∷ []) (first_then fallen r now home answer (Doomed (run_no r) cause ∷ [])
-        (history_added answered r now home (Doomed (run_no r) cause) (doom_may answered r now cause (ap (λ x. may_follow w x (Doomed (run_no r) cause)) read_answered ∙ (both (may_follow w down (Doomed (run_no r) cause)) true is_made.0).0) (λ first_come. keeps) (ap (λ x. shows w x r cause) read_answered ∙ (both (shows w down r cause) true is_made.1).0) (subst (λ x. x ≤ now) (sym (steady (read_of answered).moment)) kept_answered.moment) kept_answered) kept_answered)))
+        (history_added answered r now home (Doomed (run_no r) cause) (doom_may answered r now cause
+        (ap (λ x. may_follow w x (Doomed (run_no r) cause)) read_answered ∙ (both (may_follow w down (Doomed (run_no r) cause)) true is_made.0).0)
+        (λ first_come. keeps) (ap (λ x. shows w x r cause) read_answered ∙ (both (shows w down r cause) true is_made.1).0)
+        (subst (λ x. x ≤ now) (sym (steady (read_of answered).moment)) kept_answered.moment) kept_answered) kept_answered)))
         (probes_home s r now d (fall ∷ answer ∷ Doomed (run_no r) cause ∷ []) refl) (died_doomed_kept w n s.grips held after d r k cause back.1.read kept.strong out still kept.order) kept
 
     not_lost : (a b : Bool) → (a && not b) ≡ false → b ≡ false → a ≡ true → ⊥
@@ -417,7 +440,9 @@ undo_is s rounds opened held r d u out kept =
 undone_home : (s : Configuration) (rounds opened : ℕ) (held : ℕ → ℕ) (r d now v u : ℕ) → s.grips d ≡ Some (record { maker = r; purpose = Undoes u }) → v ≡ u → (read_of s).moment ≤ now → ConfigurationIsKept s rounds opened held
     → ConfigurationIsKept (home_with s r d now (Undid (run_no r) (device_no d) true ∷ [])) rounds opened (put held d v)
 undone_home s rounds opened held r d now v u out brings later kept =
-    comes_home s rounds opened r d now held (put held d v) (Undid (run_no r) (device_no d) true ∷ []) (history_added s r now (put s.grips d None) (Undid (run_no r) (device_no d) true) (undo_may s r d now true follows later (serves_strict s.setting rounds opened kept.opens) kept.history) kept.history) (probes_home s r now d (Undid (run_no r) (device_no d) true ∷ []) refl)
+    comes_home s rounds opened r d now held (put held d v) (Undid (run_no r) (device_no d) true ∷ []) (history_added s r now (put s.grips d None)
+    (Undid (run_no r) (device_no d) true) (undo_may s r d now true follows later (serves_strict s.setting rounds opened kept.opens) kept.history) kept.history)
+    (probes_home s r now d (Undid (run_no r) (device_no d) true ∷ []) refl)
     (subst (λ y. OrderIsKept w (entry w n (Undid (run_no r) (device_no d) true)) (put s.grips d None) (put held d y)) (sym brings) (undone_kept w n s.grips held r d u (read_facts w (entries_of s.history) kept.history.well_formed) out kept.order)) kept
   where
     w : Setting
@@ -434,7 +459,9 @@ dropped_home : (s : Configuration) (rounds opened : ℕ) (held : ℕ → ℕ) (r
     → ConfigurationIsKept (home_with s r d now (Fell (device_no d) ∷ Undid (run_no r) (device_no d) false ∷ [])) rounds opened (put held d v)
 dropped_home s rounds opened held r d now v u out later kept =
     comes_home s rounds opened r d now held (put held d v) (fall ∷ drop ∷ [])
-    (first_then s r now (put s.grips d None) fall (drop ∷ []) (history_added fallen r now (put s.grips d None) drop (undo_may fallen r d now false (ap (λ x. may_follow w x drop) (read_with s r (fall ∷ [])) ∙ follows.1) kept_fallen.moment (serves_strict s.setting rounds opened kept.opens) kept_fallen) kept_fallen))
+    (first_then s r now (put s.grips d None) fall (drop ∷ [])
+    (history_added fallen r now (put s.grips d None) drop (undo_may fallen r d now false (ap (λ x. may_follow w x drop) (read_with s r (fall ∷ [])) ∙ follows.1)
+    kept_fallen.moment (serves_strict s.setting rounds opened kept.opens) kept_fallen) kept_fallen))
     (probes_home s r now d (fall ∷ drop ∷ []) refl) (undo_died_kept w n s.grips held (put held d v) d r u (read_facts w (entries_of s.history) kept.history.well_formed) kept.strong out (λ e ne. put_other held d v e ne) kept.order) kept
   where
     w : Setting
@@ -461,13 +488,15 @@ dropped_home s rounds opened held r d now v u out later kept =
 -- A probe comes back
 
 -- it has found the device up, as it was counted, ..
-answered_home : (s : Configuration) (rounds opened : ℕ) (held : ℕ → ℕ) (r d now v : ℕ) → s.grips d ≡ Some (record { maker = r; purpose = Probes None }) → v ≡ held d → (read_of s).moment ≤ now → ConfigurationIsKept s rounds opened held → ConfigurationIsKept (home_with s r d now []) rounds opened (put held d v)
+answered_home : (s : Configuration) (rounds opened : ℕ) (held : ℕ → ℕ) (r d now v : ℕ) → s.grips d ≡ Some (record { maker = r; purpose = Probes None }) → v
+    ≡ held d → (read_of s).moment ≤ now → ConfigurationIsKept s rounds opened held → ConfigurationIsKept (home_with s r d now []) rounds opened (put held d v)
 answered_home s rounds opened held r d now v out brings later kept =
     comes_home s rounds opened r d now held (put held d v) [] (no_news s r d now later kept.history) (probes_home s r now d [] refl)
     (subst (OrderIsKept s.setting (read_of s) (put s.grips d None)) (sym (put_own held d v brings)) (probe_worked_kept s.setting (read_of s) s.grips held d r out kept.order)) kept
 
 -- .. or down, as it was counted
-missed_home : (s : Configuration) (rounds opened : ℕ) (held : ℕ → ℕ) (r d now v u : ℕ) → s.grips d ≡ Some (record { maker = r; purpose = Probes (Some u) }) → (read_of s).moment ≤ now → ConfigurationIsKept s rounds opened held → ConfigurationIsKept (home_with s r d now []) rounds opened (put held d v)
+missed_home : (s : Configuration) (rounds opened : ℕ) (held : ℕ → ℕ) (r d now v u : ℕ) → s.grips d ≡ Some (record { maker = r; purpose = Probes (Some u) })
+    → (read_of s).moment ≤ now → ConfigurationIsKept s rounds opened held → ConfigurationIsKept (home_with s r d now []) rounds opened (put held d v)
 missed_home s rounds opened held r d now v u out later kept =
     comes_home s rounds opened r d now held (put held d v) [] (no_news s r d now later kept.history) (probes_home s r now d [] refl) (probe_missed_kept s.setting (read_of s) s.grips held (put held d v) d r u out (λ e ne. put_other held d v e ne) kept.order) kept
 

@@ -46,7 +46,9 @@ placed_sealed r at line after behind marks sealed is =
     sealed ∙ is ∙ sym (front_placed r line.marks at low) ∙ ap front_of (sym marks)
 
 -- an event comes: no fewer items stand before the first live run
-pub turned_sealed : (history : List Kept) (first : Option RunNo) (xs : List Access) (x : Item) (line after : Marked) → list_any (λ y. is_sealed (Ran y.run) line) xs ≡ false → after.marks ≡ with_item (event_place history first xs line.marks) x line.marks → after.sealed ≡ line.sealed → IsSealed line → after.sealed ≤ front_of after.marks
+pub turned_sealed : (history : List Kept) (first : Option RunNo) (xs : List Access) (x : Item) (line after : Marked)
+    → list_any (λ y. is_sealed (Ran y.run) line) xs ≡ false → after.marks ≡ with_item (event_place history first xs line.marks) x line.marks
+    → after.sealed ≡ line.sealed → IsSealed line → after.sealed ≤ front_of after.marks
 turned_sealed history first xs x line after none marks sealed is =
     let whole = front_within line.marks in
     let behind = event_unsealed history first xs line none (omega (arith, whole, is)) in
@@ -70,7 +72,9 @@ live_is_unsealed n g r line live kept is = ap (λ k. stands (Ran r) (take k line
     going o lives = grind (arith, common_steps)
 
 -- so no run with an access is one
-accesses_unsealed : (w : Setting) (n : Reading) (g : Grips) (d : ℕ) (covering : ℕ → Bool) (access : ℕ → Access) (line : Marked) → ((r : ℕ) → (access r).run ≡ run_no r) → MarksAreKept n g line.marks → IsSealed line → (is : List Item) → list_any (λ x. is_sealed (Ran x.run) line) (accesses_along (uses w n d) covering access is) ≡ false
+accesses_unsealed : (w : Setting) (n : Reading) (g : Grips) (d : ℕ) (covering : ℕ → Bool) (access : ℕ → Access) (line : Marked)
+    → ((r : ℕ) → (access r).run ≡ run_no r) → MarksAreKept n g line.marks → IsSealed line
+    → (is : List Item) → list_any (λ x. is_sealed (Ran x.run) line) (accesses_along (uses w n d) covering access is) ≡ false
 accesses_unsealed w n g d covering access line own kept sealed [] = refl
 accesses_unsealed w n g d covering access line own kept sealed (Ran r ∷ is) = by_test (uses w n d r.0 && not (list_any (of_run covering) is)) refl (accesses_unsealed w n g d covering access line own kept sealed is)
   where

@@ -162,7 +162,9 @@ not_yet true e = absurd (cc)
 not_yet false e = refl
 
 -- an answer undoes nothing
-answer_undoes_none : (w : Setting) (n : Reading) (r k : ℕ) (a : Answer) (devices : ℕ) → undone_of devices (put (n.run r).on (command_at w.runs r k).device.0 (answered (kind_at w.kinds (command_at w.runs r k).device.0) (command_at w.runs r k) (is_some (n.run r).doomed) (n.run r).register a ((n.run r).on (command_at w.runs r k).device.0))) ≡ undone_of devices (n.run r).on
+answer_undoes_none : (w : Setting) (n : Reading) (r k : ℕ) (a : Answer) (devices : ℕ)
+    → undone_of devices (put (n.run r).on (command_at w.runs r k).device.0 (answered (kind_at w.kinds (command_at w.runs r k).device.0) (command_at w.runs r k)
+    (is_some (n.run r).doomed) (n.run r).register a ((n.run r).on (command_at w.runs r k).device.0))) ≡ undone_of devices (n.run r).on
 unfolding undone_of
 answer_undoes_none w n r k a devices = sum_same (λ d. one_if ((n.run r).on d).undid) _ devices (λ d less. put_keeps (λ x. one_if x.undid) (n.run r).on (command_at w.runs r k).device.0 _ refl d)
 
@@ -345,7 +347,9 @@ pub sized_history : (s : Configuration) (rounds : ℕ) → IsSized s rounds → 
 sized_history s rounds sized =
     let size : (read_of s).size ≡ length (entries_of s.history) = size_is s.setting (entries_of s.history) in
     let told : IsTold s.setting (read_of s) = told_from s.setting (nothing_read s.setting) (entries_of s.history) (told_start s.setting) sized.well_formed in
-    let fits : sum_below (λ i. told_of (length s.setting.first) ((read_of s).run (suc i))) (length s.setting.runs) ≤ length s.setting.runs * 132 = sum_fits (λ i. told_of (length s.setting.first) ((read_of s).run (suc i))) (length s.setting.runs) 132 (λ i. told_fits s.setting (read_of s) (suc i) (shapes s.setting (entries_of s.history) sized.well_formed) (sized.few_commands (suc i))) in
+    let fits : sum_below (λ i. told_of (length s.setting.first) ((read_of s).run (suc i))) (length s.setting.runs)
+    ≤ length s.setting.runs * 132 = sum_fits (λ i. told_of (length s.setting.first) ((read_of s).run (suc i))) (length s.setting.runs) 132
+    (λ i. told_fits s.setting (read_of s) (suc i) (shapes s.setting (entries_of s.history) sized.well_formed) (sized.few_commands (suc i))) in
     let events : events_told (read_of s) (length s.setting.first) ≤ most_events (length s.setting.first) rounds = events_fit s rounds sized in
     let same : length (entries_of s.history) ≡ length s.history = length_map (λ k. k.entry) s.history in
     omega (arith, size, told, fits, events, same)

@@ -86,7 +86,9 @@ fits_still w n m g f table counted kept fits = record {
 }
 
 -- .. and one that is changed
-pub fits_changed : (w : Setting) (n m : Reading) (g f : Grips) (change : ℕ → LineageState → LineageState) (old new : List LineageState) → ((d : ℕ) → m.up d ≡ n.up d) → ((d : ℕ) → KeepsBare (change d)) → ChangesEach change old new → (TableIsKept w n g old → TableIsKept w m f new) → TableFits w n g old → TableFits w m f new
+pub fits_changed : (w : Setting) (n m : Reading) (g f : Grips) (change : ℕ → LineageState → LineageState) (old new : List LineageState)
+    → ((d : ℕ) → m.up d ≡ n.up d) → ((d : ℕ) → KeepsBare (change d)) → ChangesEach change old new → (TableIsKept w n g old → TableIsKept w m f new)
+    → TableFits w n g old → TableFits w m f new
 fits_changed w n m g f change old new counted keeps changes kept fits = record {
   devices = changes.devices ∙ fits.devices;
   ordered = λ strong. kept (fits.ordered strong);
@@ -94,7 +96,9 @@ fits_changed w n m g f change old new counted keeps changes kept fits = record {
 }
 
 -- .. in how its devices are counted
-pub fits_turned : (w : Setting) (n m : Reading) (g f : Grips) (change : ℕ → LineageState → LineageState) (old new : List LineageState) → ((d : ℕ) (s : LineageState) → LineageIsBare n d s → LineageIsBare m d (change d s)) → ChangesEach change old new → (TableIsKept w n g old → TableIsKept w m f new) → TableFits w n g old → TableFits w m f new
+pub fits_turned : (w : Setting) (n m : Reading) (g f : Grips) (change : ℕ → LineageState → LineageState) (old new : List LineageState)
+    → ((d : ℕ) (s : LineageState) → LineageIsBare n d s → LineageIsBare m d (change d s)) → ChangesEach change old new
+    → (TableIsKept w n g old → TableIsKept w m f new) → TableFits w n g old → TableFits w m f new
 fits_turned w n m g f change old new turns changes kept fits = record {
   devices = changes.devices ∙ fits.devices;
   ordered = λ strong. kept (fits.ordered strong);

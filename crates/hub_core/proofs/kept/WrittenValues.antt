@@ -106,7 +106,9 @@ pub writes_fit : (w : Setting) (h : List Entry) → ValuesFit w → IsWellFormed
 writes_fit w h fit ok = writes_from w (nothing_read w) h fit (λ r d. refl) ok
 
 -- so does the value along a line: the last write that is not undone, else the first value
-line_value : (w : Setting) (n : Reading) (g : Grips) (d : ℕ) (line : List Item) → WritesFit w n → IsTrue (has_value (kind_at w.kinds d) (stand_at w.first d).value) → has_value (kind_at w.kinds d) (unwrap_or (option_map (λ e. e.value) (last_some (write_of n g d) line)) (stand_at w.first d).value) ≡ true
+line_value : (w : Setting) (n : Reading) (g : Grips) (d : ℕ) (line : List Item) → WritesFit w n
+    → IsTrue (has_value (kind_at w.kinds d) (stand_at w.first d).value)
+    → has_value (kind_at w.kinds d) (unwrap_or (option_map (λ e. e.value) (last_some (write_of n g d) line)) (stand_at w.first d).value) ≡ true
 line_value w n g d line all first = by_write (last_some (write_of n g d) line) (λ e at. last_some_of Fits (write_of n g d) write_fits line None (λ e none. absurd (cc)) e at)
   where
     Fits : Write → Type 0

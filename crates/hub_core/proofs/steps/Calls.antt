@@ -316,7 +316,9 @@ give_counted s d e grip told on other = read_back (λ n. counted_of n e) _ s d g
     fell x at = λ i. ((ap (λ y. put n.up y false e) at ∙ put_other n.up d false e other) i, n.rose e)
 
     dead : (k : ℕ) (doomed lost must : Bool) → (command_at w.runs r k).device.0 ≡ d
-        → counted_of (fold (entry w) (entry w (entry w n (Fell (command_at w.runs r k).device)) (Did (run_no r) k Down)) (if doomed then [] else (if lost then Doomed (run_no r) (Lost (command_at w.runs r k).device) ∷ [] else (if must then Doomed (run_no r) (MustDown k) ∷ [] else [])))) e ≡ counted_of n e
+        → counted_of (fold (entry w) (entry w (entry w n (Fell (command_at w.runs r k).device)) (Did (run_no r) k Down)) (if doomed then []
+        else (if lost then Doomed (run_no r) (Lost (command_at w.runs r k).device) ∷ [] else (if must then Doomed (run_no r) (MustDown k) ∷ [] else [])))) e
+        ≡ counted_of n e
     dead k true lost must at = fell _ at
     dead k false true must at = fell _ at
     dead k false false true at = fell _ at

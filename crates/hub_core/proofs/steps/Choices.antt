@@ -117,7 +117,8 @@ pub record HoldsOfEach (P : Choice → Type 0) (w : Setting) (n : Reading) (g : 
 
 -- The cases
 
-place_is : (P : Choice → Type 0) (w : Setting) (n : Reading) (g : Grips) (r m : ℕ) → HoldsOfEach P w n g r m → (p : Placing) → scheduled_place w n g r m ≡ p → is_run w.runs r ≡ true → is_none (n.run r).arrived ≡ false → is_none (n.run r).placed ≡ true → follow_wait w n r ≡ None → P (place_choice r m p)
+place_is : (P : Choice → Type 0) (w : Setting) (n : Reading) (g : Grips) (r m : ℕ) → HoldsOfEach P w n g r m → (p : Placing) → scheduled_place w n g r m ≡ p
+    → is_run w.runs r ≡ true → is_none (n.run r).arrived ≡ false → is_none (n.run r).placed ≡ true → follow_wait w n r ≡ None → P (place_choice r m p)
 place_is P w n g r m each (At s) place run arrived unplaced leader = each.enters s (record { run = run; arrived = arrived; unplaced = unplaced; leader = leader; place = place })
 place_is P w n g r m each (DeniedBy d x) place run arrived unplaced leader = each.waits (Denied (device_no d) (run_no x))
 

@@ -76,10 +76,13 @@ fell_follows : (w : Setting) (n : Reading) (d : DeviceNo) → is_device w d.0 �
 fell_follows w n d home up = rw (home, up) refl
 
 died_follows : (w : Setting) (n : Reading) (r : ℕ) (c : Command) → MayAnswer w n r c Died → IsTrue (along w (may_follow w) n (command_entries w n r (next_of n r) Died))
-died_follows w n r c may = subst (λ x. IsTrue (along w (may_follow w) n (dead_entries x))) (sym (command_is w n r c may.next)) (rw (fell_follows w n c.device may.home may.up, did_follows w fallen r c Down may.run may.live may.next may.first may.suited) (elim (is_doomed n r) as (λ b. is_doomed n r ≡ b → IsTrue (along w (may_follow w) later (if b then [] else dooms' c))) [
-  | true ↦ (λ e. refl)
-  | false ↦ (λ sound. doomed sound)
-] refl))
+died_follows w n r c may =
+    subst (λ x. IsTrue (along w (may_follow w) n (dead_entries x))) (sym (command_is w n r c may.next))
+    (rw (fell_follows w n c.device may.home may.up, did_follows w fallen r c Down may.run may.live may.next may.first may.suited)
+    (elim (is_doomed n r) as (λ b. is_doomed n r ≡ b → IsTrue (along w (may_follow w) later (if b then [] else dooms' c))) [
+      | true ↦ (λ e. refl)
+      | false ↦ (λ sound. doomed sound)
+    ] refl))
   where
     fallen : Reading
     fallen = entry w n (Fell c.device)

@@ -263,11 +263,15 @@ own_entry w n d grip told r k a only = by_purpose grip.purpose told only
         probes : (b : Bool) (told : Told) → give_entries w n d (record { maker = grip.maker; purpose = Probes v }) told ≡ Did r k a ∷ [] → (r.0 ≡ grip.maker) × (is_access a ≡ true)
         probes b Worked only = back Worked (n.up d) only
         probes b (Sensed x) only = back (Sensed x) (n.up d) only
-        probes b Died only = elim (n.up d) as (λ b. (if b then Fell (device_no d) ∷ option_to_list (option_map (λ x. Doomed (run_no x) (Lost (device_no d))) (lost_by w n d)) else []) ≡ Did r k a ∷ [] → (r.0 ≡ grip.maker) × (is_access a ≡ true)) [ true ↦ (λ e. absurd (cc)) | false ↦ (λ e. absurd (cc)) ] only
+        probes b Died only =
+            elim (n.up d) as
+            (λ b. (if b then Fell (device_no d) ∷ option_to_list (option_map (λ x. Doomed (run_no x) (Lost (device_no d))) (lost_by w n d)) else [])
+            ≡ Did r k a ∷ [] → (r.0 ≡ grip.maker) × (is_access a ≡ true)) [ true ↦ (λ e. absurd (cc)) | false ↦ (λ e. absurd (cc)) ] only
 
 -- the device is home: those that were blocked there are free, or wait behind the run that was answered
 pub back : (s : Configuration) (m d : ℕ) (grip : Grip) (told : Told) (b after : BlockedState) → s.moment ≤ m → s.grips d ≡ Some grip → IsKept s → IsKept (stepped s grip.maker (give_entries s.setting (read_of s) d grip told) m s.probes (put s.grips d None)) → AreBlocked s b
-    → AreLeft b after (λ e. IsAnsweredStill (stepped s grip.maker (give_entries s.setting (read_of s) d grip told) m s.probes (put s.grips d None)) d (give_entries s.setting (read_of s) d grip told) ⊎ ((e ≢ d) × (list_all (is_quiet s.setting e) (give_entries s.setting (read_of s) d grip told) ≡ true)))
+    → AreLeft b after (λ e. IsAnsweredStill (stepped s grip.maker (give_entries s.setting (read_of s) d grip told) m s.probes (put s.grips d None)) d
+    (give_entries s.setting (read_of s) d grip told) ⊎ ((e ≢ d) × (list_all (is_quiet s.setting e) (give_entries s.setting (read_of s) d grip told) ≡ true)))
     → AreBlocked (stepped s grip.maker (give_entries s.setting (read_of s) d grip told) m s.probes (put s.grips d None)) after
 back s m d grip told b after later out was now are left = left_stay s t b after Left are left each
   where

@@ -103,7 +103,9 @@ follower_along w n r f (e ∷ es) ok left at = follower_along w (entry w n e) r 
 -- a step that makes no such entry leaves the run waiting
 pub follower_stays : (s t : Configuration) (made : List Kept) (r : ℕ) (f : RunNo) → IsWellFormed t.setting (entries_of t.history) → t.setting ≡ s.setting → t.history ≡ s.history ++ made → list_all (keeps_follower r f.0) (entries_of made) ≡ true
     → IsFollower s.setting (read_of s) r f → IsFollower t.setting (read_of t) r f
-follower_stays s t made r f formed setting history left at = subst (λ w. IsFollower w (reading w (entries_of t.history)) r f) (sym setting) (subst (λ h. IsFollower w (reading w h) r f) (sym parts) (subst (λ n. IsFollower w n r f) (sym (reading_on w before more)) (follower_along w (read_of s) r f more ok left at)))
+follower_stays s t made r f formed setting history left at =
+    subst (λ w. IsFollower w (reading w (entries_of t.history)) r f) (sym setting) (subst (λ h. IsFollower w (reading w h) r f) (sym parts)
+    (subst (λ n. IsFollower w n r f) (sym (reading_on w before more)) (follower_along w (read_of s) r f more ok left at)))
   where
     w : Setting
     w = s.setting

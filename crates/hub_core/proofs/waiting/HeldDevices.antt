@@ -130,7 +130,9 @@ behind_waits w n g r m k c strong guard current behind = ap is_wait (command_is 
 pub held_waits : (s : Configuration) (rounds opened : ℕ) (held : ℕ → ℕ) (x q d : ℕ) → ConfigurationIsKept s rounds opened held → is_live (read_of s) x ≡ true → is_doomed (read_of s) x ≡ false → has_touched (read_of s) s.grips x d ≡ true
     → pends s.setting (read_of s) x d ≡ true → q ≢ x → next_device s q ≡ Some d → asks_on s.setting (read_of s) q d ≡ true → NeverRevokes s q d → IsBlocked s q
 held_waits s rounds opened held x q d kept live sound touched pending other next asks calm =
-    calm_waits s q d 0 at calm (ap is_wait (command_choice s q d 0 at) ∙ behind_waits w n s.grips q (max s.moment 0) (next_of n q) at.command kept.strong (sym (at_asks w n s.grips q d at) ∙ asks) (ap (λ e. overdue_for w n s.grips q e (max s.moment 0)) at.device ∙ calm kept.strong asks (max s.moment 0)) behind)
+    calm_waits s q d 0 at calm (ap is_wait (command_choice s q d 0 at)
+    ∙ behind_waits w n s.grips q (max s.moment 0) (next_of n q) at.command kept.strong (sym (at_asks w n s.grips q d at) ∙ asks)
+    (ap (λ e. overdue_for w n s.grips q e (max s.moment 0)) at.device ∙ calm kept.strong asks (max s.moment 0)) behind)
   where
     w : Setting
     w = s.setting
@@ -145,7 +147,10 @@ held_waits s rounds opened held x q d kept live sound touched pending other next
     stands = order_stands w n s.grips held (read_facts w (entries_of s.history) kept.history.well_formed) kept.order
 
     behind : is_some (behind_wait w n s.grips q at.command.device.0) ≡ true
-    behind = ap (λ e. is_some (behind_wait w n s.grips q e)) at.device ∙ behind_holder w n s.grips x q d (stands.last d) (live_stands n x (standing w (entries_of s.history) kept.history.well_formed) live) (record { live = live; sound = sound; pending = pending; touched = touched }) (at_open w n s.grips q d at) other
+    behind =
+        ap (λ e. is_some (behind_wait w n s.grips q e)) at.device
+        ∙ behind_holder w n s.grips x q d (stands.last d) (live_stands n x (standing w (entries_of s.history) kept.history.well_formed) live)
+        (record { live = live; sound = sound; pending = pending; touched = touched }) (at_open w n s.grips q d at) other
 
 -- After an answer
 

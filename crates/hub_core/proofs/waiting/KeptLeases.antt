@@ -78,7 +78,10 @@ calm_answered w n g x k a r d calm m =
     fewer q overdue = by_parts (is_doomed n q) (nat_lt (stamp_of n r) (stamp_of n q)) (is_live n q) (pends w u q d) (pends w n q d) (nat_lt (lease_deadline w n q d) m) (touches w.runs q d && has_effect u g q d) (touches w.runs q d && has_effect n g q d) (same ∙ overdue) (runs q).pending
       where
         same : (not (is_doomed n q) && nat_lt (stamp_of n r) (stamp_of n q) && (is_live n q && (if is_doomed n q then touches w.runs q d && has_effect u g q d else pends w u q d)) && nat_lt (lease_deadline w n q d) m) ≡ is_overdue w u g r d m q
-        same = sym (λ i. not (is_some ((runs q).doomed i)) && nat_lt (stamp r i) (stamp q i) && ((is_some ((runs q).placed i) && is_none ((runs q).ended i)) && (if is_some ((runs q).doomed i) then touches w.runs q d && has_effect u g q d else pends w u q d)) && nat_lt (min (planned_end ((runs q).planned i) d + tenth_up (estimate_to_last d (commands_of w.runs q))) greatest) m)
+        same =
+            sym (λ i. not (is_some ((runs q).doomed i)) && nat_lt (stamp r i) (stamp q i) && ((is_some ((runs q).placed i) && is_none ((runs q).ended i))
+            && (if is_some ((runs q).doomed i) then touches w.runs q d && has_effect u g q d else pends w u q d))
+            && nat_lt (min (planned_end ((runs q).planned i) d + tenth_up (estimate_to_last d (commands_of w.runs q))) greatest) m)
           where
             stamp : (y : ℕ) → stamp_of u y ≡ stamp_of n y
             stamp y = λ i. unwrap_or (option_map (λ p. p.stamp) ((runs y).placed i)) 0

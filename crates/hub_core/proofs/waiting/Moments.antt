@@ -23,7 +23,9 @@ use Rattle.std.proofs.Common.{ap, arith, refl, sym, ◌∙◌}
 use Rattle.std.specs.Prelude.{Bool, None, Option, Some, [], false, if◌then◌else◌, is_some, max, option_map, true, ℕ, ◌∷◌, ◌≡◌}
 
 -- at two moments at which no lease is overdue, or where it is skipped, the next command does the same
-pub same_command : (w : Setting) (n : Reading) (g : Grips) (r a b k : ℕ) (c : Command) → (is_weak w.mode ≡ false → holds c.when (n.run r).register ≡ true → overdue_for w n g r c.device.0 a ≡ None) → (is_weak w.mode ≡ false → holds c.when (n.run r).register ≡ true → overdue_for w n g r c.device.0 b ≡ None)
+pub same_command : (w : Setting) (n : Reading) (g : Grips) (r a b k : ℕ) (c : Command)
+    → (is_weak w.mode ≡ false → holds c.when (n.run r).register ≡ true → overdue_for w n g r c.device.0 a ≡ None)
+    → (is_weak w.mode ≡ false → holds c.when (n.run r).register ≡ true → overdue_for w n g r c.device.0 b ≡ None)
     → decide_command w n g r a k c ≡ decide_command w n g r b k c
 same_command w n g r a b k c now then' = by_guard (holds c.when (n.run r).register) refl
   where

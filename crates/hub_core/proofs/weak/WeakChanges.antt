@@ -24,7 +24,9 @@ use Rattle.std.specs.Prelude.{IsTrue, List, None, Some, [], false, fold, is_some
 use Rattle.window_order.proofs.Grips.{HoldsNone}
 
 -- another moment, other grips, and other probes left, with the same history
-pub weak_same : (s : Configuration) (rounds opened m : ℕ) (held probes : ℕ → ℕ) (g : Grips) → (read_of s).moment ≤ m → ((d : ℕ) → probes_of (record s { moment = m; probes = probes; grips = g }) d ≤ rounds) → GripsFit s.setting (read_of s) g → EachOut g (goes_weakly (read_of s)) → WeakIsKept s rounds opened held
+pub weak_same : (s : Configuration) (rounds opened m : ℕ) (held probes : ℕ → ℕ) (g : Grips) → (read_of s).moment ≤ m
+    → ((d : ℕ) → probes_of (record s { moment = m; probes = probes; grips = g }) d ≤ rounds) → GripsFit s.setting (read_of s) g
+    → EachOut g (goes_weakly (read_of s)) → WeakIsKept s rounds opened held
     → WeakIsKept (record s { moment = m; probes = probes; grips = g }) rounds opened held
 weak_same s rounds opened m held probes g later few fit out kept =
     record {
@@ -56,7 +58,8 @@ pub record MayMake (s : Configuration) (entries : List Entry) (m : ℕ) (g : Gri
 abbrev pub made_with : Configuration → ℕ → ℕ → Grips → List Entry → Configuration
 made_with s maker m g entries = record s { history = s.history ++ kept_by maker entries; moment = m; grips = g }
 
-pub weak_made : (s : Configuration) (rounds opened maker m : ℕ) (held after : ℕ → ℕ) (g : Grips) (entries : List Entry) → MayMake s entries m g after (fold (entry s.setting) (read_of s) entries) → ((d : ℕ) → probes_of (made_with s maker m g entries) d ≤ probes_of s d) → WeakIsKept s rounds opened held
+pub weak_made : (s : Configuration) (rounds opened maker m : ℕ) (held after : ℕ → ℕ) (g : Grips) (entries : List Entry) → MayMake s entries m g after
+    (fold (entry s.setting) (read_of s) entries) → ((d : ℕ) → probes_of (made_with s maker m g entries) d ≤ probes_of s d) → WeakIsKept s rounds opened held
     → WeakIsKept (made_with s maker m g entries) rounds opened after
 weak_made s rounds opened maker m held after g entries may fewer kept =
     record {

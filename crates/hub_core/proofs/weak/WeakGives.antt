@@ -74,7 +74,9 @@ record ComesHome (s : Configuration) (entries : List Entry) (d now v : ℕ) (n :
   last : (e : ℕ) → e ≢ d → n.last e ≡ (read_of s).last e
   here : v ≡ n.last d
 
-comes_home : (s : Configuration) (rounds opened maker d now v : ℕ) (held : ℕ → ℕ) (entries : List Entry) → ComesHome s entries d now v (fold (entry s.setting) (read_of s) entries) → ((e : ℕ) → probes_of (made_with s maker now (put s.grips d None) entries) e ≤ probes_of s e) → WeakIsKept s rounds opened held
+comes_home : (s : Configuration) (rounds opened maker d now v : ℕ) (held : ℕ → ℕ) (entries : List Entry)
+    → ComesHome s entries d now v (fold (entry s.setting) (read_of s) entries)
+    → ((e : ℕ) → probes_of (made_with s maker now (put s.grips d None) entries) e ≤ probes_of s e) → WeakIsKept s rounds opened held
     → WeakIsKept (made_with s maker now (put s.grips d None) entries) rounds opened (put held d v)
 comes_home s rounds opened maker d now v held entries home fewer kept =
     weak_made s rounds opened maker now held (put held d v) (put s.grips d None) entries (record {
@@ -287,7 +289,9 @@ command_home s rounds opened held r k d now v told out brings stays value later 
 
 -- A probe comes back
 
-probe_home : (s : Configuration) (rounds opened : ℕ) (held : ℕ → ℕ) (r d now v : ℕ) (o : Option ℕ) (told : Told) → s.grips d ≡ Some (record { maker = r; purpose = Probes o }) → BringsFor s held r d v (Probes o) told → (has_died told ≡ true → v ≡ held d) → (read_of s).moment ≤ now → WeakIsKept s rounds opened held
+probe_home : (s : Configuration) (rounds opened : ℕ) (held : ℕ → ℕ) (r d now v : ℕ) (o : Option ℕ) (told : Told) → s.grips d
+    ≡ Some (record { maker = r; purpose = Probes o }) → BringsFor s held r d v (Probes o) told → (has_died told ≡ true → v ≡ held d) → (read_of s).moment ≤ now
+    → WeakIsKept s rounds opened held
     → WeakIsKept (made_with s r now (put s.grips d None) (probe_entries s.setting (read_of s) d told)) rounds opened (put held d v)
 probe_home s rounds opened held r d now v o told out brings stays later kept = by_value o told out brings stays
   where
@@ -373,7 +377,9 @@ probe_home s rounds opened held r d now v o told out brings stays later kept = b
 
 -- What is kept stays so when a device comes home: where its call died, the hub leaves what it holds as it was
 
-pub weak_give : (s : Configuration) (rounds opened : ℕ) (held : ℕ → ℕ) (d now v : ℕ) (grip : Grip) (told : Told) → s.grips d ≡ Some grip → Brings s held d v grip told → (has_died told ≡ true → v ≡ held d) → IsTrue (has_value (kind_at s.setting.kinds d) v) → (read_of s).moment ≤ now → WeakIsKept s rounds opened held
+pub weak_give : (s : Configuration) (rounds opened : ℕ) (held : ℕ → ℕ) (d now v : ℕ) (grip : Grip) (told : Told) → s.grips d ≡ Some grip
+    → Brings s held d v grip told → (has_died told ≡ true → v ≡ held d) → IsTrue (has_value (kind_at s.setting.kinds d) v) → (read_of s).moment ≤ now
+    → WeakIsKept s rounds opened held
     → WeakIsKept (after_give (record s { moment = now }) d grip told) rounds opened (put held d v)
 weak_give s rounds opened held d now v grip told out brings stays value later kept = by_purpose grip.purpose out brings
   where

@@ -74,7 +74,9 @@ record TellOf (n m : Reading) (r : ℕ) : Type 0 where
   last : m.last ≡ n.last
   rose : m.rose ≡ n.rose
 
-told_made : (s : Configuration) (rounds opened r m : ℕ) (held : ℕ → ℕ) (entries : List Entry) → TellOf (read_of s) (fold (entry s.setting) (read_of s) entries) r → HoldsNone s.grips r → IsTrue (along s.setting (may_follow s.setting) (read_of s) entries) → IsTrue (along s.setting (weakly_allowed s.setting) (read_of s) entries)
+told_made : (s : Configuration) (rounds opened r m : ℕ) (held : ℕ → ℕ) (entries : List Entry)
+    → TellOf (read_of s) (fold (entry s.setting) (read_of s) entries) r → HoldsNone s.grips r
+    → IsTrue (along s.setting (may_follow s.setting) (read_of s) entries) → IsTrue (along s.setting (weakly_allowed s.setting) (read_of s) entries)
     → (fold (entry s.setting) (read_of s) entries).moment ≤ m → NoneHasFailed s.setting (fold (entry s.setting) (read_of s) entries) → WeakIsKept s rounds opened held → WeakIsKept (record s { history = s.history ++ kept_by r entries; moment = m }) rounds opened held
 told_made s rounds opened r m held entries tell none follows allowed moment passes kept =
     weak_made s rounds opened r m held held s.grips entries (record {
@@ -101,7 +103,10 @@ weak_take s rounds opened held r m kept =
       waits = λ why ok allowed. timed;
       arrives = λ run none ok allowed. moves (Arrived (run_no r) now) (record { others = λ q other. put_other n.run r _ q other; up = refl; last = refl; rose = refl }) (idle run (unplaced (n.run r) (shaped r).arrived none)) ok allowed (omega (arith, later))
           (λ q. put_keeps (λ o. o.doomed) n.run r _ refl q) (λ q. put_keeps (λ o. o.answers) n.run r _ refl q);
-      enters = λ x enters ok allowed. moves (Placed (run_no r) (length x.front) now) (record { others = λ q other. put_other n.run r _ q other; up = refl; last = refl; rose = refl }) (idle enters.run (not_live (n.run r).placed (is_none (n.run r).ended) enters.unplaced)) ok allowed (omega (arith, later))
+      enters =
+          λ x enters ok allowed. moves (Placed (run_no r) (length x.front) now)
+          (record { others = λ q other. put_other n.run r _ q other; up = refl; last = refl; rose = refl })
+          (idle enters.run (not_live (n.run r).placed (is_none (n.run r).ended) enters.unplaced)) ok allowed (omega (arith, later))
           (λ q. put_keeps (λ o. o.doomed) n.run r _ refl q) (λ q. put_keeps (λ o. o.answers) n.run r _ refl q);
       aborted = λ cause act doomed over ok allowed. moves (Ended (run_no r) (Aborted cause)) (record { others = λ q other. put_other n.run r _ q other; up = refl; last = refl; rose = refl }) (holds_none w s.grips r kept.grips.homed act.free) ok allowed later
           (λ q. put_keeps (λ o. o.doomed) n.run r _ refl q) (λ q. put_keeps (λ o. o.answers) n.run r _ refl q);
@@ -158,7 +163,9 @@ weak_take s rounds opened held r m kept =
     idle run gone d p at = absurd (let both : true ≡ false = sym (holds_is s.grips r d p at) ∙ gripless w n s.grips r d kept.grips run gone in cc)
 
     -- a step with one entry, which is no answer and no doom
-    moves : (e : Entry) → TellOf n (entry w n e) r → HoldsNone s.grips r → IsTrue (along w (may_follow w) n (e ∷ [])) → IsTrue (along w (weakly_allowed w) n (e ∷ [])) → (entry w n e).moment ≤ now → ((q : ℕ) → ((entry w n e).run q).doomed ≡ (n.run q).doomed) → ((q : ℕ) → ((entry w n e).run q).answers ≡ (n.run q).answers)
+    moves : (e : Entry) → TellOf n (entry w n e) r → HoldsNone s.grips r → IsTrue (along w (may_follow w) n (e ∷ []))
+        → IsTrue (along w (weakly_allowed w) n (e ∷ [])) → (entry w n e).moment ≤ now → ((q : ℕ) → ((entry w n e).run q).doomed ≡ (n.run q).doomed)
+        → ((q : ℕ) → ((entry w n e).run q).answers ≡ (n.run q).answers)
         → WeakIsKept (record s { history = s.history ++ kept_by r (e ∷ []); moment = now }) rounds opened held
     moves e tell none ok allowed moment dooms answers = told_made s rounds opened r now held (e ∷ []) tell none ok allowed moment (passes_same w n (entry w n e) dooms answers kept.passes) kept
 
@@ -182,7 +189,9 @@ weak_take s rounds opened held r m kept =
     downs : (c : Command) → Commanding w n s.grips r c → (is_weak w.mode ≡ false → IsNext w n s.grips r now c) → busy_wait w n s.grips r c.device.0 ≡ false → answers_down w n r c.device.0 ≡ true
         → Follows w n (Moves (down_entries r (next_of n r) c)) → IsAllowed w n (Moves (down_entries r (next_of n r) c)) → WeakIsKept (after_choice (at_moment s m) r (Moves (down_entries r (next_of n r) c))) rounds opened held
     downs c run next home down ok allowed = elim c.must as (λ b. c.must ≡ b → IsTrue (along w (may_follow w) n (entries b)) → IsTrue (along w (weakly_allowed w) n (entries b)) → WeakIsKept (record s { history = s.history ++ kept_by r (entries b); moment = now }) rounds opened held) [
-      | true ↦ (λ must ok allowed. told_made s rounds opened r now held (entries true) (record { others = others true; up = refl; last = refl; rose = refl }) free ok allowed later (passes_doomed w n (fold (entry w) n (entries true)) r (MustDown (next_of n r)) (others true) (ap (λ (o : OfRun). o.doomed) (put_same answered.run r _)) kept.passes) kept)
+      | true ↦ (λ must ok allowed. told_made s rounds opened r now held (entries true)
+          (record { others = others true; up = refl; last = refl; rose = refl }) free ok allowed later (passes_doomed w n (fold (entry w) n (entries true)) r
+          (MustDown (next_of n r)) (others true) (ap (λ (o : OfRun). o.doomed) (put_same answered.run r _)) kept.passes) kept)
       | false ↦ (λ may ok allowed. told_made s rounds opened r now held (entries false) (record { others = others false; up = refl; last = refl; rose = refl }) free ok allowed later (passes_did w n r (next_of n r) Down c run.next (ap (λ b. b && refutes c.job Down) may) run.sound kept.passes) kept)
     ] refl ok allowed
       where

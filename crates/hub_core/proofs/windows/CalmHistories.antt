@@ -104,7 +104,8 @@ no_event false m ms none = refl
 
 calm_did : (w : Setting) (n : Reading) (r k : ℕ) (a : Answer) → unwrap_or (view_by a) true ≡ true → not (same_answer Down a) ≡ true → CalmReads w n → CalmReads w (entry w n (Did (run_no r) k a))
 calm_did w n r k a up told p =
-    calm_put w n (entry w n (Did (run_no r) k a)) r _ refl log refl (λ d. put_all (λ e x. unwrap_or x.view true ≡ true) (n.run r).on c.device.0 _ (p.views r) (view_up (kind_at w.kinds c.device.0) c (is_some (n.run r).doomed) (n.run r).register a ((n.run r).on c.device.0) up (p.views r c.device.0)) d)
+    calm_put w n (entry w n (Did (run_no r) k a)) r _ refl log refl (λ d. put_all (λ e x. unwrap_or x.view true ≡ true) (n.run r).on c.device.0 _ (p.views r)
+    (view_up (kind_at w.kinds c.device.0) c (is_some (n.run r).doomed) (n.run r).register a ((n.run r).on c.device.0) up (p.views r c.device.0)) d)
     (list_all-append (λ b. not (same_answer Down b)) (n.run r).answers (a ∷ []) ∙ both (p.told r)) p
   where
     c : Command
@@ -233,7 +234,9 @@ entry_calm w n (Doomed r (MustDown c)) up homed p ok clean shown kept none = abs
 entry_calm w n (Doomed r (Refuted c x)) up homed p ok clean shown kept none = refl
 entry_calm w n (Doomed r (Lost d)) up homed p ok clean shown kept none = absurd (both_ways (list_any is_fall (span_of r.0 (n.log d.0))) (none_in_span r.0 (n.log d.0) (p.log d.0)) (and_parts (sees_up n r.0 d.0) (list_any is_fall (span_of r.0 (n.log d.0))) shown).1)
 entry_calm w n (Doomed r (Revoked lender d deadline m)) up homed p ok clean shown kept none = absurd (cc)
-entry_calm w n (Doomed r (DownAtEnd d)) up homed p ok clean shown kept none = absurd (both_ways (equals_some (down_at_end w n no_grips r.0) d.0) (ap (λ o. equals_some o d.0) (none_at_end w n r.0 up p)) (and_parts (is_none (next_command w n r.0)) (equals_some (down_at_end w n no_grips r.0) d.0) shown).1)
+entry_calm w n (Doomed r (DownAtEnd d)) up homed p ok clean shown kept none =
+    absurd (both_ways (equals_some (down_at_end w n no_grips r.0) d.0) (ap (λ o. equals_some o d.0) (none_at_end w n r.0 up p))
+    (and_parts (is_none (next_command w n r.0)) (equals_some (down_at_end w n no_grips r.0) d.0) shown).1)
 entry_calm w n (Ended r e) up homed p ok clean shown kept none = refl
 
 -- no failure of these devices is told

@@ -130,7 +130,9 @@ plain_committed s r plain quiet calm run none = committed ((read_of s).run r).en
     committed (Some (Aborted cause)) e doomed = absurd (let both : true ≡ false = sym (doomed refl) ∙ sound in cc)
 
 -- .. where runs are served as they come
-pub ended_committed : (s : Configuration) (rounds opened : ℕ) (held : ℕ → ℕ) (r : ℕ) → ConfigurationIsKept s rounds opened held → IsQuiet s → s.setting.mode.scheduler ≡ Fcfs → NoneFailed s → is_run s.setting.runs r ≡ true → has_must_check s.setting.runs r ≡ false → ((read_of s).run r).ended ≡ Some Committed
+pub ended_committed : (s : Configuration) (rounds opened : ℕ) (held : ℕ → ℕ) (r : ℕ) → ConfigurationIsKept s rounds opened held → IsQuiet s
+    → s.setting.mode.scheduler ≡ Fcfs → NoneFailed s → is_run s.setting.runs r ≡ true → has_must_check s.setting.runs r ≡ false
+    → ((read_of s).run r).ended ≡ Some Committed
 ended_committed s rounds opened held r kept quiet first calm run none = plain_committed s r (is_plain s rounds opened held kept first) quiet calm run none
 
 -- and no device is out

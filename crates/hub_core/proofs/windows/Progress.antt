@@ -190,7 +190,8 @@ command_goes w n g r m k c first home = elim (holds c.when (n.run r).register) a
         let clean : dirty_wait w n g r c ≡ None = alone.dirty c in
         let free : strict_wait w n r ≡ None = alone.strict in
         ap is_wait (command_current w n g r m k c (ap (find (is_overdue w n g r c.device.0 m)) none))
-        ∙ (λ i. is_wait (first_case (option_map (λ x. Waits (Behind c.device (run_no x))) (behind' i) ∷ option_map (λ x. Waits (Dirty c.device (run_no x))) (clean i) ∷ option_map (λ x. Waits (Strict (run_no x))) (free i) ∷ busy_case w n g r c ∷ down_case w n r k c ∷ []) (HandsOut c.device.0 (Commands k))))
+        ∙ (λ i. is_wait (first_case (option_map (λ x. Waits (Behind c.device (run_no x))) (behind' i) ∷ option_map (λ x. Waits (Dirty c.device (run_no x)))
+        (clean i) ∷ option_map (λ x. Waits (Strict (run_no x))) (free i) ∷ busy_case w n g r c ∷ down_case w n r k c ∷ []) (HandsOut c.device.0 (Commands k))))
         ∙ unbarred
 
     done : is_wait (first_case (command_cases (is_weak w.mode) w n g r m k c) (HandsOut c.device.0 (Commands k))) ≡ false
@@ -200,7 +201,9 @@ command_goes w n g r m k c first home = elim (holds c.when (n.run r).register) a
     ] refl
 
 -- with its devices home a run goes on: it arrives; it is placed, where it waits for no run that it follows and is denied no device; or, in a model with an order where it stands behind no live run, it acts
-pub run_goes : (w : Setting) (n : Reading) (g : Grips) (r m : ℕ) → ((d : ℕ) → g d ≡ None) → (is_none (n.run r).placed ≡ true → (follow_wait w n r ≡ None) × (is_wait (place_choice r m (scheduled_place w n g r m)) ≡ false)) → (is_none (n.run r).placed ≡ false → is_weak w.mode ≡ false → live_before n r ≡ [])
+pub run_goes : (w : Setting) (n : Reading) (g : Grips) (r m : ℕ) → ((d : ℕ) → g d ≡ None)
+    → (is_none (n.run r).placed ≡ true → (follow_wait w n r ≡ None) × (is_wait (place_choice r m (scheduled_place w n g r m)) ≡ false))
+    → (is_none (n.run r).placed ≡ false → is_weak w.mode ≡ false → live_before n r ≡ [])
     → is_wait (decide w n g r m) ≡ false
 run_goes w n g r m home comes first =
     by_test IsGoing (not (is_run w.runs r)) Absent _ (λ e. refl)
@@ -257,8 +260,14 @@ some_run_moves s rounds opened held r kept home run going = by_live (find (is_li
 
     -- the least run that has not ended
     from_least : NoneIsLive n → (q : ℕ) × IsLeastUnended w n q → (q : ℕ) × (is_run w.runs q ≡ true) × ((n.run q).ended ≡ None) × ((m : ℕ) → is_wait (choice_of s q m) ≡ false)
-    from_least over (q, least) =
-        (q, least.run, least.going, λ m. run_goes w n s.grips q (max s.moment m) home (λ unplaced. (least_leads w n q kept.opens.follows least, placed_at_once w n s.grips q (max s.moment m) over)) (λ placed. absurd (both_ways (is_live n q) (over q) (ap (λ o. is_some (n.run q).placed && is_none o) least.going ∙ some_of (n.run q).placed placed))))
+    from_least over (q, least) = (
+      q,
+      least.run,
+      least.going,
+      λ m. run_goes w n s.grips q (max s.moment m) home
+          (λ unplaced. (least_leads w n q kept.opens.follows least, placed_at_once w n s.grips q (max s.moment m) over))
+          (λ placed. absurd (both_ways (is_live n q) (over q) (ap (λ o. is_some (n.run q).placed && is_none o) least.going ∙ some_of (n.run q).placed placed))),
+    )
 
     by_live : (o : Option ℕ) → find (is_live n) (run_numbers w) ≡ o → (q : ℕ) × (is_run w.runs q ≡ true) × ((n.run q).ended ≡ None) × ((m : ℕ) → is_wait (choice_of s q m) ≡ false)
     by_live (Some x) e = let live : is_live n x ≡ true = (find_least (is_live n) 1 (length w.runs) x e).does in from_line (first_live n x n.line (live_stands n x (standing w (entries_of s.history) kept.history.well_formed) live) live)

@@ -74,10 +74,12 @@ placed_after n r stamp (Back d k ∷ is) later there = placed_after n r stamp is
 -- the runs before a run of the line were placed before it
 pub placed_before : (n : Reading) (r : ℕ) (line : List Item) → IsTrue (placed_in_order n line) → list_any (is_ran r) line ≡ true → Each (λ x. nat_lt (stamp_of n x) (stamp_of n r) ≡ true) (live_runs n (before r line))
 placed_before n r [] ordered there = tt
-placed_before n r (Ran x ∷ is) ordered there = subst (λ l. Each (λ q. nat_lt (stamp_of n q) (stamp_of n r) ≡ true) (live_runs n l)) (sym (take_while-cons (λ i. not (is_ran r i)) (Ran x) is)) (elim (x.0 == r) as (λ b. (x.0 == r) ≡ b → Each (λ q. nat_lt (stamp_of n q) (stamp_of n r) ≡ true) (live_runs n (cond (not b) (Ran x ∷ before r is) []))) [
-  | true ↦ (λ e. tt)
-  | false ↦ (λ e. let rest : list_any (is_ran r) is ≡ true = grind (arith, common_steps) in first (placed_after n r (stamp_of n x.0) is (grind (arith, common_steps)) rest) (placed_before n r is (grind (arith, common_steps)) rest))
-] refl)
+placed_before n r (Ran x ∷ is) ordered there =
+    subst (λ l. Each (λ q. nat_lt (stamp_of n q) (stamp_of n r) ≡ true) (live_runs n l)) (sym (take_while-cons (λ i. not (is_ran r i)) (Ran x) is))
+    (elim (x.0 == r) as (λ b. (x.0 == r) ≡ b → Each (λ q. nat_lt (stamp_of n q) (stamp_of n r) ≡ true) (live_runs n (cond (not b) (Ran x ∷ before r is) []))) [
+      | true ↦ (λ e. tt)
+      | false ↦ (λ e. let rest : list_any (is_ran r) is ≡ true = grind (arith, common_steps) in first (placed_after n r (stamp_of n x.0) is (grind (arith, common_steps)) rest) (placed_before n r is (grind (arith, common_steps)) rest))
+    ] refl)
   where
     first : nat_lt (stamp_of n x.0) (stamp_of n r) ≡ true → Each (λ q. nat_lt (stamp_of n q) (stamp_of n r) ≡ true) (live_runs n (before r is)) → Each (λ q. nat_lt (stamp_of n q) (stamp_of n r) ≡ true) (live_runs n (Ran x ∷ before r is))
     first now rest = elim (is_live n x.0) as (λ b. Each (λ q. nat_lt (stamp_of n q) (stamp_of n r) ≡ true) (cons_option (if b then Some x.0 else None) (live_runs n (before r is)))) [

@@ -8,7 +8,9 @@ pub devices-init : goal.devices-init
 devices-init c = changed_none (λ d. committed_lineage c.args.r.0) c.args.table.now
 
 pub devices-preserved : goal.devices-preserved
-devices-preserved c = changed_more c.args.r.0 (λ d. committed_lineage c.args.r.0) (λ d. commits_nothing c.args.r.0) c.args.table.now c.devices.table c.devices.from.0 c.devices.invariant c.in-Some.d.0 c.commit_on.new.table c.in-Some.ensures.next.0 c.in-Some.ensures.homed c.in-Some.ensures.next.2 c.commit_on.ensures
+devices-preserved c =
+    changed_more c.args.r.0 (λ d. committed_lineage c.args.r.0) (λ d. commits_nothing c.args.r.0) c.args.table.now c.devices.table c.devices.from.0
+    c.devices.invariant c.in-Some.d.0 c.commit_on.new.table c.in-Some.ensures.next.0 c.in-Some.ensures.homed c.in-Some.ensures.next.2 c.commit_on.ensures
 
 pub returns-clause-devices : goal.returns-clause-devices
 returns-clause-devices c = c.devices.invariant.devices

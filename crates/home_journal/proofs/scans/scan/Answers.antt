@@ -41,7 +41,9 @@ pub returns-then-not-read_state-clause-damaged : goal.returns-then-not-read_stat
 returns-then-not-read_state-clause-damaged c =
     let more : c.slots.place < c.args.layout.most = search rules in
     let is_open : get_or c.slots.rest.now 0 0 ≡ 1 = search rules in
-    scan_bad c.args.kinds.now c.args.layout.size c.args.layout.most c.slots.place c.args.bytes.now c.slots.rest.now _ c.slots.last.devices.items c.slots.invariant.0 (omega (arith, c.in-len1-up.len_at_least)) is_open refl c.requires.size more (omega (arith, c.if-behind-size.false)) (c.read_state.ensures.bad (search rules))
+    scan_bad c.args.kinds.now c.args.layout.size c.args.layout.most c.slots.place c.args.bytes.now c.slots.rest.now _ c.slots.last.devices.items
+    c.slots.invariant.0 (omega (arith, c.in-len1-up.len_at_least)) is_open refl c.requires.size more (omega (arith, c.if-behind-size.false))
+    (c.read_state.ensures.bad (search rules))
 
 pub slots-preserved : goal.slots-preserved
 slots-preserved c =

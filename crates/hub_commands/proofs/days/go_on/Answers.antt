@@ -11,7 +11,10 @@ pub returns-in-Err-clause-written : goal.returns-in-Err-clause-written
 returns-in-Err-clause-written g c course held f home records going next =
     let D = g.D.Device in
     let K = g.K.Sink in
-    let same : NextIs (g.W.Way.works c.args._way.now) (shown_by D.tag D.plan D.stands D.turns D.probes D.faults) (course_behind c.args.script.now c.args.before course) c.args.options.mode records (Err c.in-Err.windows) = subst (λ n. NextIs (g.W.Way.works c.args._way.now) (shown_by D.tag D.plan D.stands D.turns D.probes D.faults) (course_behind c.args.script.now c.args.before course) c.args.options.mode records n) c.in-Err.is next in (
+    let same : NextIs (g.W.Way.works c.args._way.now) (shown_by D.tag D.plan D.stands D.turns D.probes D.faults)
+    (course_behind c.args.script.now c.args.before course) c.args.options.mode records (Err c.in-Err.windows) =
+    subst (λ n. NextIs (g.W.Way.works c.args._way.now) (shown_by D.tag D.plan D.stands D.turns D.probes D.faults)
+    (course_behind c.args.script.now c.args.before course) c.args.options.mode records n) c.in-Err.is next in (
       c.end_without_devices.ensures.status,
       starved (g.W.Way.works c.args._way.now) (shown_by D.tag D.plan D.stands D.turns D.probes D.faults) (course_behind c.args.script.now c.args.before course) c.args.options
           held (K.holds c.args.sink.now) f (K.faults c.args.sink.now)
@@ -23,7 +26,10 @@ pub returns-in-Ok-write_piece-clause-written : goal.returns-in-Ok-write_piece-cl
 returns-in-Ok-write_piece-clause-written g c course held f home records going next =
     let D = g.D.Device in
     let K = g.K.Sink in
-    let gone : NextIs (g.W.Way.works c.args._way.now) (shown_by D.tag D.plan D.stands D.turns D.probes D.faults) (course_behind c.args.script.now c.args.before course) c.args.options.mode records (Ok c.in-Ok.day) = subst (λ n. NextIs (g.W.Way.works c.args._way.now) (shown_by D.tag D.plan D.stands D.turns D.probes D.faults) (course_behind c.args.script.now c.args.before course) c.args.options.mode records n) c.in-Ok.is next in (
+    let gone : NextIs (g.W.Way.works c.args._way.now) (shown_by D.tag D.plan D.stands D.turns D.probes D.faults)
+    (course_behind c.args.script.now c.args.before course) c.args.options.mode records (Ok c.in-Ok.day) =
+    subst (λ n. NextIs (g.W.Way.works c.args._way.now) (shown_by D.tag D.plan D.stands D.turns D.probes D.faults)
+    (course_behind c.args.script.now c.args.before course) c.args.options.mode records n) c.in-Ok.is next in (
       ap (λ ws. length ws) gone.more ∙ length_more records gone.closed,
       goes_on (g.W.Way.works c.args._way.now) (shown_by D.tag D.plan D.stands D.turns D.probes D.faults) (course_behind c.args.script.now c.args.before course) c.args.options
           held (K.holds c.args.sink.now) (K.holds c.write_piece.new.sink) f (K.faults c.args.sink.now) (K.faults c.write_piece.new.sink)
@@ -35,7 +41,10 @@ pub returns-in-Err-write_piece-clause-written : goal.returns-in-Err-write_piece-
 returns-in-Err-write_piece-clause-written g c course held f home records going next =
     let D = g.D.Device in
     let K = g.K.Sink in
-    let gone : NextIs (g.W.Way.works c.args._way.now) (shown_by D.tag D.plan D.stands D.turns D.probes D.faults) (course_behind c.args.script.now c.args.before course) c.args.options.mode records (Ok c.in-Ok.day) = subst (λ n. NextIs (g.W.Way.works c.args._way.now) (shown_by D.tag D.plan D.stands D.turns D.probes D.faults) (course_behind c.args.script.now c.args.before course) c.args.options.mode records n) c.in-Ok.is next in (
+    let gone : NextIs (g.W.Way.works c.args._way.now) (shown_by D.tag D.plan D.stands D.turns D.probes D.faults)
+    (course_behind c.args.script.now c.args.before course) c.args.options.mode records (Ok c.in-Ok.day) =
+    subst (λ n. NextIs (g.W.Way.works c.args._way.now) (shown_by D.tag D.plan D.stands D.turns D.probes D.faults)
+    (course_behind c.args.script.now c.args.before course) c.args.options.mode records n) c.in-Ok.is next in (
       c.stop.ensures.status,
       lines_stopped (g.W.Way.works c.args._way.now) (shown_by D.tag D.plan D.stands D.turns D.probes D.faults) (course_behind c.args.script.now c.args.before course) c.args.options
           held (K.holds c.args.sink.now) (K.holds c.write_piece.new.sink) f (K.faults c.args.sink.now) (K.faults c.write_piece.new.sink)

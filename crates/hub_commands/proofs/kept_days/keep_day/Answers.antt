@@ -154,7 +154,9 @@ returns g c =
             goes_on = so.1;
             ended = subst (λ cs. HasEndedKept IsReplayOf shown Q.told Q.seen Q.images Q.moment Q.images_since Q.faults c.args.script.now cs c.args.options sink c.args.journal.disk c.hand_back-disk.result c.end-finish.result.day c.end-finish.result.fault)
                 (same_course c.args.script.now before c.args.journal.last so.0 none so.1)
-                (ended_kept Q.told Q.seen Q.images Q.moment Q.images_since Q.faults c.args.script.now before IsReplayOf shown course c.args.options sink c.args.journal.disk c.hand_back-disk.result c.windows.kept.day.windows.items c.windows.kept.journal c.end-finish.result.day c.end-finish.result.fault
+                (ended_kept Q.told Q.seen Q.images Q.moment Q.images_since Q.faults c.args.script.now before IsReplayOf shown course c.args.options sink
+                c.args.journal.disk c.hand_back-disk.result c.windows.kept.day.windows.items c.windows.kept.journal c.end-finish.result.day
+                c.end-finish.result.fault
                 so.2.on_disk c.hand_back-disk.ensures.disk c.hand_back-disk.ensures.durable end (back_windows c.end-finish.result.day c.windows.kept.day.windows.items c.end-finish.ensures.kept));
           });
       durable = c.settled.ensures.durable;

@@ -13,7 +13,9 @@ returns-in-Err-go_on g c =
     let D = g.B.Dev.Device in
     let K = g.K.Sink in
     let end = c.in-Err-go_on.ensures.written (new_course c.args.script.now) (K.holds c.args.sink.now) (K.faults c.args.sink.now) c.windows.day.home c.windows.day.windows.items c.windows.invariant.going
-    (next_is (IsRunWithin (g.C.Clock.earliest c.args.clock.now) (g.C.Clock.latest c.args.clock.now)) (shown_by D.tag D.plan D.stands D.turns D.probes D.faults) (new_course c.args.script.now) c.args.options.mode c.windows.day.windows.items c.run_next-next.result c.run_next-next.ensures.played c.run_next-next.ensures.starved) in
+    (next_is (IsRunWithin (g.C.Clock.earliest c.args.clock.now) (g.C.Clock.latest c.args.clock.now)) (shown_by D.tag D.plan D.stands D.turns D.probes D.faults)
+    (new_course c.args.script.now) c.args.options.mode c.windows.day.windows.items c.run_next-next.result c.run_next-next.ensures.played
+    c.run_next-next.ensures.starved) in
     record {
       status = end.0;
       ends = end.1;
@@ -27,7 +29,9 @@ windows-preserved g c =
     let D = g.B.Dev.Device in
     let K = g.K.Sink in
     let on = c.in-Ok-go_on.ensures.written (new_course c.args.script.now) (K.holds c.args.sink.now) (K.faults c.args.sink.now) c.windows.day.home c.windows.day.windows.items c.windows.invariant.going
-    (next_is (IsRunWithin (g.C.Clock.earliest c.args.clock.now) (g.C.Clock.latest c.args.clock.now)) (shown_by D.tag D.plan D.stands D.turns D.probes D.faults) (new_course c.args.script.now) c.args.options.mode c.windows.day.windows.items c.run_next-next.result c.run_next-next.ensures.played c.run_next-next.ensures.starved) in
+    (next_is (IsRunWithin (g.C.Clock.earliest c.args.clock.now) (g.C.Clock.latest c.args.clock.now)) (shown_by D.tag D.plan D.stands D.turns D.probes D.faults)
+    (new_course c.args.script.now) c.args.options.mode c.windows.day.windows.items c.run_next-next.result c.run_next-next.ensures.played
+    c.run_next-next.ensures.starved) in
     let counted = c.windows.invariant.counted in
     let more = on.0 in
     record {

@@ -15,11 +15,20 @@ returns-then-eq-clause-waits c =
 pub accesses-preserved-then-waits : goal.accesses-preserved-then-waits
 accesses-preserved-then-waits c =
     let i = c.accesses.invariant in
-    let q : Knot × Access = (c.in-Some.k, c.in-Some.access.now) in
-    (i.0 ++ q ∷ [], seen_list c.args.accesses.now.pairs i.0 c.accesses.k-iterator c.next.new.self q i.1 c.in-Some.ensures.steps, seen_none c.args.r.0 i.0 q i.2 (sym c.eq.ensures ∙ c.if-eq.false), seen_waits i.0 q c.accesses.waits c.accesses.waits i.3 (c.if-waits.true ∙ ap (λ b. b || is_scheduled q.1.status) (sym c.if-waits.true)))
+    let q : Knot × Access = (c.in-Some.k, c.in-Some.access.now) in (
+      i.0 ++ q ∷ [],
+      seen_list c.args.accesses.now.pairs i.0 c.accesses.k-iterator c.next.new.self q i.1 c.in-Some.ensures.steps,
+      seen_none c.args.r.0 i.0 q i.2 (sym c.eq.ensures ∙ c.if-eq.false),
+      seen_waits i.0 q c.accesses.waits c.accesses.waits i.3 (c.if-waits.true ∙ ap (λ b. b || is_scheduled q.1.status) (sym c.if-waits.true)),
+    )
 
 pub accesses-preserved : goal.accesses-preserved
 accesses-preserved c =
     let i = c.accesses.invariant in
-    let q : Knot × Access = (c.in-Some.k, c.in-Some.access.now) in
-    (i.0 ++ q ∷ [], seen_list c.args.accesses.now.pairs i.0 c.accesses.k-iterator c.next.new.self q i.1 c.in-Some.ensures.steps, seen_none c.args.r.0 i.0 q i.2 (sym c.eq.ensures ∙ c.if-eq.false), seen_waits i.0 q c.accesses.waits c.eq-waits.result i.3 (c.eq-waits.ensures ∙ tests_scheduled c.in-Some.access.now.status ∙ ap (λ b. b || is_scheduled q.1.status) (sym c.if-waits.false)))
+    let q : Knot × Access = (c.in-Some.k, c.in-Some.access.now) in (
+      i.0 ++ q ∷ [],
+      seen_list c.args.accesses.now.pairs i.0 c.accesses.k-iterator c.next.new.self q i.1 c.in-Some.ensures.steps,
+      seen_none c.args.r.0 i.0 q i.2 (sym c.eq.ensures ∙ c.if-eq.false),
+      seen_waits i.0 q c.accesses.waits c.eq-waits.result i.3
+          (c.eq-waits.ensures ∙ tests_scheduled c.in-Some.access.now.status ∙ ap (λ b. b || is_scheduled q.1.status) (sym c.if-waits.false)),
+    )

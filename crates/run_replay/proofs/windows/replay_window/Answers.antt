@@ -6,7 +6,16 @@ use Rattle.std.proofs.Common.{sym, ◌∙◌}
 pub unreachable-requires : goal.unreachable-requires
 unreachable-requires g c =
     let D = g.D.Device in
-    let quiet = quiet_then D.tag D.stands D.turns D.probes D.faults c.args.hub c.args.turns.now c.args.seed c.args.rounds c.in-Ok.player c.play.new.self c.finish.new.self (record { opens = c.in-Ok.ensures.opened; plays = c.play.ensures.played; finishes = c.finish.ensures.finished; window = c.play.ensures.window; still = c.finish.ensures.window; rounds_played = c.play.ensures.rounds; rounds_last = c.finish.ensures.rounds }) c.kept-2.ensures.player.kept c.kept-2.ensures.hub in
+    let quiet = quiet_then D.tag D.stands D.turns D.probes D.faults c.args.hub c.args.turns.now c.args.seed c.args.rounds c.in-Ok.player c.play.new.self
+    c.finish.new.self (record {
+      opens = c.in-Ok.ensures.opened;
+      plays = c.play.ensures.played;
+      finishes = c.finish.ensures.finished;
+      window = c.play.ensures.window;
+      still = c.finish.ensures.window;
+      rounds_played = c.play.ensures.rounds;
+      rounds_last = c.finish.ensures.rounds;
+    }) c.kept-2.ensures.player.kept c.kept-2.ensures.hub in
     let not_none = sym quiet ∙ c.in-Err-close.ensures.refused in cc
 
 pub returns-clause-replayed : goal.returns-clause-replayed

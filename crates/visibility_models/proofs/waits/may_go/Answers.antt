@@ -13,7 +13,9 @@ pub find_unended-requires-clause-known : goal.find_unended-requires-clause-known
 find_unended-requires-clause-known c = (on_its_way c.args.model c.args.s.now.table.now c.args.s.now.line.now.marks c.args.s.now.book.now.items (runs_of c.args.s.now.roster.now) c.args.r c.requires (sym c.is_strict.ensures ∙ c.if-is_strict.true)).others
 
 pub find_unended-requires-clause-past : goal.find_unended-requires-clause-past
-find_unended-requires-clause-past c = waits_from_front (model_bars c.args.model (runs_of c.args.s.now.roster.now) c.args.r.0) c.args.model c.args.s.now.table.now c.args.s.now.line.now.marks c.args.s.now.book.now.items (runs_of c.args.s.now.roster.now) c.args.r.0 c.requires (sym c.is_strict.ensures ∙ c.if-is_strict.true)
+find_unended-requires-clause-past c =
+    waits_from_front (model_bars c.args.model (runs_of c.args.s.now.roster.now) c.args.r.0) c.args.model c.args.s.now.table.now c.args.s.now.line.now.marks
+    c.args.s.now.book.now.items (runs_of c.args.s.now.roster.now) c.args.r.0 c.requires (sym c.is_strict.ensures ∙ c.if-is_strict.true)
 
 pub returns-then-is_strict-clause-wait : goal.returns-then-is_strict-clause-wait
 returns-then-is_strict-clause-wait c = λ s is.

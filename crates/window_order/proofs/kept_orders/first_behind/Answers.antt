@@ -8,10 +8,14 @@ use Rattle.window_order.specs.TableChanges.{first_with_access}
 
 pub returns-then-is_some : goal.returns-then-is_some
 returns-then-is_some c =
-    found_first (accesses_at c.args.table.now c.args.d.0) (items_of c.args.line.now.marks) c.items.k c.run_with_access-found.result (c.run_with_access-found.ensures ∙ ap (λ o. first_with_access (accesses_at c.args.table.now c.args.d.0) (option_to_list o)) (sym c.unwrap-item.ensures ∙ c.get.ensures)) (sym c.if-is_some.ensures)
+    found_first (accesses_at c.args.table.now c.args.d.0) (items_of c.args.line.now.marks) c.items.k c.run_with_access-found.result
+    (c.run_with_access-found.ensures ∙ ap (λ o. first_with_access (accesses_at c.args.table.now c.args.d.0) (option_to_list o))
+    (sym c.unwrap-item.ensures ∙ c.get.ensures)) (sym c.if-is_some.ensures)
     ∙ c.items.invariant
 
 pub items-preserved : goal.items-preserved
 items-preserved c =
-    found_none (accesses_at c.args.table.now c.args.d.0) (items_of c.args.line.now.marks) c.items.k c.run_with_access-found.result (c.run_with_access-found.ensures ∙ ap (λ o. first_with_access (accesses_at c.args.table.now c.args.d.0) (option_to_list o)) (sym c.unwrap-item.ensures ∙ c.get.ensures)) (sym c.if-is_some.ensures)
+    found_none (accesses_at c.args.table.now c.args.d.0) (items_of c.args.line.now.marks) c.items.k c.run_with_access-found.result
+    (c.run_with_access-found.ensures ∙ ap (λ o. first_with_access (accesses_at c.args.table.now c.args.d.0) (option_to_list o))
+    (sym c.unwrap-item.ensures ∙ c.get.ensures)) (sym c.if-is_some.ensures)
     ∙ c.items.invariant

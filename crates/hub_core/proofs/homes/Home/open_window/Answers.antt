@@ -19,13 +19,19 @@ open-requires g c = index_fits (setting_for c.args.self c.args.roster c.args.mod
 -- the hub of a window that opens, which is kept and has its room
 pub invariant_of-result : goal.invariant_of-result
 invariant_of-result g c =
-    let same = is_first_hub c.args.self c.args.roster c.args.mode c.args.rounds c.in-Ok.room.state.devices.items _ _ _ _ _ _ _ _ (seen_home c.args.self _ _ _ c.in-Ok-behind_gate.ensures.kinds c.in-Ok-behind_gate.ensures.world c.in-Ok-behind_gate.ensures.opened) (setting_of_indexed _ _ _ _ _ _ c.empty_history.ensures.setting c.in-Ok-open.ensures) c.empty_history.ensures.history c.in-Ok-behind_gate.ensures.places c.in-Ok-behind_gate.ensures.tickets in
+    let same = is_first_hub c.args.self c.args.roster c.args.mode c.args.rounds c.in-Ok.room.state.devices.items _ _ _ _ _ _ _ _
+    (seen_home c.args.self _ _ _ c.in-Ok-behind_gate.ensures.kinds c.in-Ok-behind_gate.ensures.world c.in-Ok-behind_gate.ensures.opened)
+    (setting_of_indexed _ _ _ _ _ _ c.empty_history.ensures.setting c.in-Ok-open.ensures) c.empty_history.ensures.history c.in-Ok-behind_gate.ensures.places
+    c.in-Ok-behind_gate.ensures.tickets in
     let kept : HomeIsKept g.D.Device.tag g.D.Device.stands g.D.Device.turns g.D.Device.probes g.D.Device.faults c.args.self = c.behind_gate.ensures.kept in
     let opens : Opens g.D.Device.tag g.D.Device.stands g.D.Device.turns g.D.Device.probes g.D.Device.faults c.args.self c.args.roster c.args.mode c.args.rounds c.in-Ok.room.state.devices.items = record { kept = kept; may = c.requires.may; knows = c.in-Ok.ensures.devices } in
     let enough : most_entries (length c.args.roster.runs.items) (length c.args.self.world) c.args.rounds ≤ c.empty_history.result.spare = omega (arith, c.empty_history.ensures.spare, c.in-Ok.ensures.history.room) in
     record {
       shown = subst (λ (t : OpenHub g.row.D.Denot). HubIsKept g.D.Device.stands g.D.Device.turns g.D.Device.probes g.D.Device.faults t) (sym same) (first_kept _ _ _ _ _ c.args.self c.args.roster c.args.mode _ _ opens);
-      room = subst (λ (t : OpenHub g.row.D.Denot). HasRoomLeft c.args.rounds (record { setting = t.setting; history = t.history; spare = c.empty_history.result.spare }) c.in-Ok.room.closing) (sym same) (first_room c.args.self c.args.roster c.args.mode c.args.rounds _ _ kept.size enough c.in-Ok.ensures.closing);
+      room =
+          subst (λ (t : OpenHub g.row.D.Denot). HasRoomLeft c.args.rounds
+          (record { setting = t.setting; history = t.history; spare = c.empty_history.result.spare }) c.in-Ok.room.closing) (sym same)
+          (first_room c.args.self c.args.roster c.args.mode c.args.rounds _ _ kept.size enough c.in-Ok.ensures.closing);
       order = subst (λ (t : OpenHub g.row.D.Denot). OrderIsBeside c.args.rounds (record { setting = t.setting; history = t.history; spare = c.empty_history.result.spare }) (configuration_of t).grips c.in-Ok.room.state.order.line c.in-Ok.room.state.order.table) (sym same)
           (first_order _ _ _ _ _ c.args.self c.args.roster c.args.mode c.args.rounds c.empty_history.result.spare _ _ _ opens c.in-Ok.ensures.order);
       hands = subst (λ (t : OpenHub g.row.D.Denot). HandsAre t.setting (configuration_of t).grips c.in-Ok.room.state.hands.items) (sym same) (first_hands _ _ _ _ _ c.args.self c.args.roster c.args.mode c.args.rounds _ _ opens c.in-Ok.ensures.hands);
@@ -35,7 +41,10 @@ invariant_of-result g c =
 pub invariant_of-result-in-Ok-behind_gate : goal.invariant_of-result-in-Ok-behind_gate
 invariant_of-result-in-Ok-behind_gate g c = record {
   marks = none_blocked _ _ c.in-Ok.ensures.blocked;
-  scratch = first_scratch c.args.self c.args.roster c.args.mode c.args.rounds _ _ _ _ _ c.in-Ok.room.scratch (seen_home c.args.self _ _ _ c.in-Ok-behind_gate.ensures.kinds c.in-Ok-behind_gate.ensures.world c.in-Ok-behind_gate.ensures.opened) (setting_of_indexed _ _ _ _ _ _ c.empty_history.ensures.setting c.in-Ok-open.ensures) c.in-Ok.ensures.scratch;
+  scratch =
+      first_scratch c.args.self c.args.roster c.args.mode c.args.rounds _ _ _ _ _ c.in-Ok.room.scratch
+      (seen_home c.args.self _ _ _ c.in-Ok-behind_gate.ensures.kinds c.in-Ok-behind_gate.ensures.world c.in-Ok-behind_gate.ensures.opened)
+      (setting_of_indexed _ _ _ _ _ _ c.empty_history.ensures.setting c.in-Ok-open.ensures) c.in-Ok.ensures.scratch;
 }
 
 pub returns-in-Ok-behind_gate-clause-opened : goal.returns-in-Ok-behind_gate-clause-opened
@@ -43,5 +52,8 @@ returns-in-Ok-behind_gate-clause-opened g c =
     let kept : HomeIsKept g.D.Device.tag g.D.Device.stands g.D.Device.turns g.D.Device.probes g.D.Device.faults c.args.self = c.behind_gate.ensures.kept in
     let opens : Opens g.D.Device.tag g.D.Device.stands g.D.Device.turns g.D.Device.probes g.D.Device.faults c.args.self c.args.roster c.args.mode c.args.rounds c.in-Ok.room.state.devices.items = record { kept = kept; may = c.requires.may; knows = c.in-Ok.ensures.devices } in
     subst (λ (t : OpenHub g.row.D.Denot). IsOpened g.D.Device.turns g.D.Device.probes g.D.Device.faults (setting_for c.args.self c.args.roster c.args.mode) c.args.rounds c.args.self t)
-    (sym (is_first_hub c.args.self c.args.roster c.args.mode c.args.rounds c.in-Ok.room.state.devices.items _ _ _ _ _ _ _ _ (seen_home c.args.self _ _ _ c.in-Ok-behind_gate.ensures.kinds c.in-Ok-behind_gate.ensures.world c.in-Ok-behind_gate.ensures.opened) (setting_of_indexed _ _ _ _ _ _ c.empty_history.ensures.setting c.in-Ok-open.ensures) c.empty_history.ensures.history c.in-Ok-behind_gate.ensures.places c.in-Ok-behind_gate.ensures.tickets))
+    (sym (is_first_hub c.args.self c.args.roster c.args.mode c.args.rounds c.in-Ok.room.state.devices.items _ _ _ _ _ _ _ _
+    (seen_home c.args.self _ _ _ c.in-Ok-behind_gate.ensures.kinds c.in-Ok-behind_gate.ensures.world c.in-Ok-behind_gate.ensures.opened)
+    (setting_of_indexed _ _ _ _ _ _ c.empty_history.ensures.setting c.in-Ok-open.ensures) c.empty_history.ensures.history c.in-Ok-behind_gate.ensures.places
+    c.in-Ok-behind_gate.ensures.tickets))
     (first_opened _ _ _ _ _ c.args.self c.args.roster c.args.mode _ _ opens)

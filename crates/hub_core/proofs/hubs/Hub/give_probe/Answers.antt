@@ -17,7 +17,14 @@ use Rattle.std.specs.Prelude.{true, ◌≡◌, ◌≢◌, ◌⊎◌}
 
 pub invariant_of-self-else-is_weak : goal.invariant_of-self-else-is_weak
 invariant_of-self-else-is_weak g c = record {
-  marks = marks_probe_given g.D.Device.stands g.D.Device.turns g.D.Device.probes g.D.Device.faults c.self.inside.window c.give_probe.new.self c.args.grip c.in-Ok.made _ _ (model_before c.self.inside.window c.give_probe.new.self false c.give_probe.ensures.window (sym c.if-is_weak.ensures)) (sym c.if-is_weak.ensures) c.whole.ensures c.whole-in-Ok.ensures (subst (λ made. IsProbeGiven c.self.inside.window c.args.grip made c.give_probe.new.self) c.in-Ok.is c.give_probe.ensures.given) c.self.invariant.marks (subst (λ (x : Slip). AreLeft c.self.inside.blocked c.free_back.new.blocked (λ e. IsAnsweredStill (configuration_of c.give_probe.new.self) x.device.0 (entries_made c.in-Ok.made) ⊎ ((e ≢ x.device.0) × (list_all (is_quiet c.give_probe.new.self.setting e) (entries_made c.in-Ok.made) ≡ true)))) c.slip.ensures c.free_back.ensures);
+  marks =
+      marks_probe_given g.D.Device.stands g.D.Device.turns g.D.Device.probes g.D.Device.faults c.self.inside.window c.give_probe.new.self c.args.grip
+      c.in-Ok.made _ _ (model_before c.self.inside.window c.give_probe.new.self false c.give_probe.ensures.window (sym c.if-is_weak.ensures))
+      (sym c.if-is_weak.ensures) c.whole.ensures c.whole-in-Ok.ensures
+      (subst (λ made. IsProbeGiven c.self.inside.window c.args.grip made c.give_probe.new.self) c.in-Ok.is c.give_probe.ensures.given) c.self.invariant.marks
+      (subst (λ (x : Slip). AreLeft c.self.inside.blocked c.free_back.new.blocked (λ e. IsAnsweredStill (configuration_of c.give_probe.new.self) x.device.0
+      (entries_made c.in-Ok.made) ⊎ ((e ≢ x.device.0) × (list_all (is_quiet c.give_probe.new.self.setting e) (entries_made c.in-Ok.made) ≡ true))))
+      c.slip.ensures c.free_back.ensures);
   scratch = kept_for c.self.inside.window c.give_probe.new.self c.self.inside.scratch c.give_probe.ensures.window c.self.invariant.scratch;
 }
 

@@ -14,13 +14,21 @@ use Rattle.std.specs.Prelude.{◌≡◌, ◌≢◌}
 
 pub invariant_of-self : goal.invariant_of-self
 invariant_of-self g c = record {
-  marks = marks_goes g.D.Device.stands g.D.Device.turns g.D.Device.probes g.D.Device.faults c.self.inside.window c.hand_out-grip.new.self c.args.r.0 c.args.moment _ _ _ (sym c.if-not-is_weak.ensures) (ap (λ (w : Setting). is_weak w.mode) c.hand_out-grip.ensures.window.setting ∙ sym c.if-not-is_weak.ensures) c.whole.ensures c.whole-in-HandsOut.ensures c.hand_out-grip.ensures.out c.self.invariant.marks (subst (λ (x : Slip). AreLeft c.self.inside.blocked c.free_going.new.blocked (λ e. is_out_for_command (configuration_of c.hand_out-grip.new.self) x.device.0 ≡ false → e ≢ x.device.0)) c.slip.ensures c.free_going.ensures);
+  marks =
+      marks_goes g.D.Device.stands g.D.Device.turns g.D.Device.probes g.D.Device.faults c.self.inside.window c.hand_out-grip.new.self c.args.r.0 c.args.moment _
+      _ _ (sym c.if-not-is_weak.ensures) (ap (λ (w : Setting). is_weak w.mode) c.hand_out-grip.ensures.window.setting ∙ sym c.if-not-is_weak.ensures)
+      c.whole.ensures c.whole-in-HandsOut.ensures c.hand_out-grip.ensures.out c.self.invariant.marks
+      (subst (λ (x : Slip). AreLeft c.self.inside.blocked c.free_going.new.blocked
+      (λ e. is_out_for_command (configuration_of c.hand_out-grip.new.self) x.device.0 ≡ false → e ≢ x.device.0)) c.slip.ensures c.free_going.ensures);
   scratch = still_for c.self.inside.window c.hand_out-grip.new.self c.self.inside.scratch c.decide-chosen.new.scratch c.decide-chosen.ensures.size c.hand_out-grip.ensures.window c.self.invariant.scratch;
 }
 
 pub invariant_of-self-then-not-is_weak-2 : goal.invariant_of-self-then-not-is_weak-2
 invariant_of-self-then-not-is_weak-2 g c = record {
-  marks = marks_wait g.D.Device.stands g.D.Device.turns g.D.Device.probes g.D.Device.faults c.self.inside.window c.wait.new.self c.args.r.0 c.args.moment _ _ _ (sym c.if-not-is_weak-2.ensures) (ap (λ (w : Setting). is_weak w.mode) c.wait.ensures.window.setting ∙ sym c.if-not-is_weak-2.ensures) c.whole.ensures c.whole-in-Waits.ensures c.wait.ensures.turn.0 c.self.invariant.marks c.mark_waiting.ensures;
+  marks =
+      marks_wait g.D.Device.stands g.D.Device.turns g.D.Device.probes g.D.Device.faults c.self.inside.window c.wait.new.self c.args.r.0 c.args.moment _ _ _
+      (sym c.if-not-is_weak-2.ensures) (ap (λ (w : Setting). is_weak w.mode) c.wait.ensures.window.setting ∙ sym c.if-not-is_weak-2.ensures) c.whole.ensures
+      c.whole-in-Waits.ensures c.wait.ensures.turn.0 c.self.invariant.marks c.mark_waiting.ensures;
   scratch = still_for c.self.inside.window c.wait.new.self c.self.inside.scratch c.decide-chosen.new.scratch c.decide-chosen.ensures.size c.wait.ensures.window c.self.invariant.scratch;
 }
 
@@ -32,4 +40,6 @@ returns-in_default-clause-earliest g c = subst (λ (s : OpenHub g.row.D.Denot). 
     (turn_earliest c.self.inside.window c.make_step.new.window c.args.r.0 c.args.moment c.make_step.result c.make_step.ensures.turn)
 
 pub returns-in_default-clause-sealed : goal.returns-in_default-clause-sealed
-returns-in_default-clause-sealed g c = seen_so c.self.view_is (λ i. c.make_step.new.window) (turn_sealed g.D.Device.stands g.D.Device.turns g.D.Device.probes g.D.Device.faults c.self.inside.window c.make_step.new.window c.args.r.0 c.args.moment c.make_step.result c.make_step.ensures.turn c.make_step.ensures.kept)
+returns-in_default-clause-sealed g c =
+    seen_so c.self.view_is (λ i. c.make_step.new.window) (turn_sealed g.D.Device.stands g.D.Device.turns g.D.Device.probes g.D.Device.faults
+    c.self.inside.window c.make_step.new.window c.args.r.0 c.args.moment c.make_step.result c.make_step.ensures.turn c.make_step.ensures.kept)

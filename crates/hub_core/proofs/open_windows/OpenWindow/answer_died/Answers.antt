@@ -20,17 +20,30 @@ pub died_by-cause-requires : goal.died_by-cause-requires
 died_by-cause-requires g c = let command = command_back c.self.inside c.args.self.now c.args.grip.slip c.args.grip.task c.args.k c.self.view_is c.requires.kept c.requires.purpose c.self.invariant in record { run = rw c.slip-slip.ensures command.run; there = rw c.slip-slip.ensures command.within }
 
 pub note_fall-fell-requires : goal.note_fall-fell-requires
-note_fall-fell-requires g c = record { may = death_may c.self.inside c.args.k _ c.args.grip c.slip-slip.result c.come_home-came.result.events (grip_back c.self.inside c.args.self.now (ForCommand c.args.k) _ c.args.grip c.self.view_is c.requires.kept c.requires.purpose c.come_home-came.ensures.called) (record { same = c.slip-slip.ensures; up = refl; died = c.requires.died; events_are = c.come_home-came.ensures.events }) c.self.invariant }
+note_fall-fell-requires g c = record {
+  may =
+      death_may c.self.inside c.args.k _ c.args.grip c.slip-slip.result c.come_home-came.result.events (grip_back c.self.inside c.args.self.now
+      (ForCommand c.args.k) _ c.args.grip c.self.view_is c.requires.kept c.requires.purpose c.come_home-came.ensures.called)
+      (record { same = c.slip-slip.ensures; up = refl; died = c.requires.died; events_are = c.come_home-came.ensures.events }) c.self.invariant;
+}
 
 pub answer-entry-requires : goal.answer-entry-requires
 answer-entry-requires g c =
-    let after = after_death c.self.inside c.args.k _ c.args.grip c.slip-slip.result c.is_first-first.result c.died_by-cause.result c.note_fall-fell.new.history c.note_fall-fell.new.order.table (grip_back c.self.inside c.args.self.now (ForCommand c.args.k) _ c.args.grip c.self.view_is c.requires.kept c.requires.purpose c.come_home-came.ensures.called) c.slip-slip.ensures c.requires.died c.is_first-first.ensures c.died_by-cause.ensures c.note_fall-fell.ensures.history c.note_fall-fell.ensures.order.counted c.self.invariant in
+    let after = after_death c.self.inside c.args.k _ c.args.grip c.slip-slip.result c.is_first-first.result c.died_by-cause.result c.note_fall-fell.new.history
+    c.note_fall-fell.new.order.table (grip_back c.self.inside c.args.self.now
+    (ForCommand c.args.k) _ c.args.grip c.self.view_is c.requires.kept c.requires.purpose c.come_home-came.ensures.called) c.slip-slip.ensures c.requires.died
+    c.is_first-first.ensures c.died_by-cause.ensures c.note_fall-fell.ensures.history c.note_fall-fell.ensures.order.counted c.self.invariant in
     record { run = after.run; there = after.there; room = after.room; few = after.few }
 
 pub note_answer-requires : goal.note_answer-requires
 note_answer-requires g c =
-    let after = after_death c.self.inside c.args.k _ c.args.grip c.slip-slip.result c.is_first-first.result c.died_by-cause.result c.note_fall-fell.new.history c.note_fall-fell.new.order.table (grip_back c.self.inside c.args.self.now (ForCommand c.args.k) _ c.args.grip c.self.view_is c.requires.kept c.requires.purpose c.come_home-came.ensures.called) c.slip-slip.ensures c.requires.died c.is_first-first.ensures c.died_by-cause.ensures c.note_fall-fell.ensures.history c.note_fall-fell.ensures.order.counted c.self.invariant in
-    let last = just_answered c.note_fall-fell.new.history c.answer-entry.new.self c.slip-slip.result.maker c.slip-slip.result.maker c.args.k c.slip-slip.result.device.0 c.answer-entry.result Down after.run after.next after.there after.on refl c.answer-entry.ensures.entry c.answer-entry.ensures.new in
+    let after = after_death c.self.inside c.args.k _ c.args.grip c.slip-slip.result c.is_first-first.result c.died_by-cause.result c.note_fall-fell.new.history
+    c.note_fall-fell.new.order.table (grip_back c.self.inside c.args.self.now
+    (ForCommand c.args.k) _ c.args.grip c.self.view_is c.requires.kept c.requires.purpose c.come_home-came.ensures.called) c.slip-slip.ensures c.requires.died
+    c.is_first-first.ensures c.died_by-cause.ensures c.note_fall-fell.ensures.history c.note_fall-fell.ensures.order.counted c.self.invariant in
+    let last =
+    just_answered c.note_fall-fell.new.history c.answer-entry.new.self c.slip-slip.result.maker c.slip-slip.result.maker c.args.k c.slip-slip.result.device.0
+    c.answer-entry.result Down after.run after.next after.there after.on refl c.answer-entry.ensures.entry c.answer-entry.ensures.new in
     record {
       access = refl;
       told = λ strong. record {
@@ -44,17 +57,26 @@ note_answer-requires g c =
     }
 
 pub doom_for-doomed-requires-clause-run : goal.doom_for-doomed-requires-clause-run
-doom_for-doomed-requires-clause-run g c = ap (λ s. is_run s.setting.runs c.slip-slip.result.maker) c.answer-entry.ensures.new ∙ (after_death c.self.inside c.args.k _ c.args.grip c.slip-slip.result c.is_first-first.result c.died_by-cause.result c.note_fall-fell.new.history c.note_fall-fell.new.order.table (grip_back c.self.inside c.args.self.now (ForCommand c.args.k) _ c.args.grip c.self.view_is c.requires.kept c.requires.purpose c.come_home-came.ensures.called) c.slip-slip.ensures c.requires.died c.is_first-first.ensures c.died_by-cause.ensures c.note_fall-fell.ensures.history c.note_fall-fell.ensures.order.counted c.self.invariant).run
+doom_for-doomed-requires-clause-run g c =
+    ap (λ s. is_run s.setting.runs c.slip-slip.result.maker) c.answer-entry.ensures.new ∙ (after_death c.self.inside c.args.k _ c.args.grip c.slip-slip.result
+    c.is_first-first.result c.died_by-cause.result c.note_fall-fell.new.history c.note_fall-fell.new.order.table (grip_back c.self.inside c.args.self.now
+    (ForCommand c.args.k) _ c.args.grip c.self.view_is c.requires.kept c.requires.purpose c.come_home-came.ensures.called) c.slip-slip.ensures c.requires.died
+    c.is_first-first.ensures c.died_by-cause.ensures c.note_fall-fell.ensures.history c.note_fall-fell.ensures.order.counted c.self.invariant).run
 
 pub doom_for-doomed-requires-clause-room : goal.doom_for-doomed-requires-clause-room
 doom_for-doomed-requires-clause-room g c = λ some.
-    let more : 1 < c.note_fall-fell.new.history.spare = (after_death c.self.inside c.args.k _ c.args.grip c.slip-slip.result c.is_first-first.result c.died_by-cause.result c.note_fall-fell.new.history c.note_fall-fell.new.order.table (grip_back c.self.inside c.args.self.now (ForCommand c.args.k) _ c.args.grip c.self.view_is c.requires.kept c.requires.purpose c.come_home-came.ensures.called) c.slip-slip.ensures c.requires.died c.is_first-first.ensures c.died_by-cause.ensures c.note_fall-fell.ensures.history c.note_fall-fell.ensures.order.counted c.self.invariant).doom_room some in
+    let more : 1 < c.note_fall-fell.new.history.spare = (after_death c.self.inside c.args.k _ c.args.grip c.slip-slip.result c.is_first-first.result
+    c.died_by-cause.result c.note_fall-fell.new.history c.note_fall-fell.new.order.table (grip_back c.self.inside c.args.self.now
+    (ForCommand c.args.k) _ c.args.grip c.self.view_is c.requires.kept c.requires.purpose c.come_home-came.ensures.called) c.slip-slip.ensures c.requires.died
+    c.is_first-first.ensures c.died_by-cause.ensures c.note_fall-fell.ensures.history c.note_fall-fell.ensures.order.counted c.self.invariant).doom_room some in
     let left = ap (λ (x : HistoryState). x.spare) c.answer-entry.ensures.new in
     omega (arith, more, left)
 
 pub invariant_of-self : goal.invariant_of-self
 invariant_of-self g c =
-    died_whole c.self.inside _ c.args.k _ c.args.grip c.slip-slip.result c.come_home-came.result.events c.is_first-first.result c.first_death.result c.died_by-cause.result c.note_fall-fell.new.history c.answer-entry.new.self _ _ _ c.note_fall-fell.new.order c.note_answer.new.order (grip_back c.self.inside c.args.self.now (ForCommand c.args.k) _ c.args.grip c.self.view_is c.requires.kept c.requires.purpose c.come_home-came.ensures.called)
+    died_whole c.self.inside _ c.args.k _ c.args.grip c.slip-slip.result c.come_home-came.result.events c.is_first-first.result c.first_death.result
+    c.died_by-cause.result c.note_fall-fell.new.history c.answer-entry.new.self _ _ _ c.note_fall-fell.new.order c.note_answer.new.order (grip_back
+    c.self.inside c.args.self.now (ForCommand c.args.k) _ c.args.grip c.self.view_is c.requires.kept c.requires.purpose c.come_home-came.ensures.called)
     (record { later = omega (arith, c.max-self-inside.ensures); home = c.come_home-came.ensures.home; new = refl })
     (record {
       falls = record { same = c.slip-slip.ensures; up = refl; died = c.requires.died; events_are = c.come_home-came.ensures.events };
@@ -81,7 +103,9 @@ pub returns : goal.returns
 returns g c =
     let t : Inside g.row.D.Denot = record c.self.inside { history = c.doom_for-doomed.new.history; moment = c.max-self-inside.result; away = c.come_home-came.new.self; order = c.doom_for-doomed.new.order } in
     let back : CameHome g.D.Device.stands g.D.Device.turns g.D.Device.probes g.D.Device.faults c.self.inside t (ForCommand c.args.k) _ c.args.grip (death_entries c.slip-slip.result c.args.k c.died_by-cause.result) =
-    died_back c.self.inside t c.args.k _ c.args.grip c.slip-slip.result c.come_home-came.result.events c.is_first-first.result c.died_by-cause.result c.note_fall-fell.new.history c.answer-entry.new.self (grip_back c.self.inside c.args.self.now (ForCommand c.args.k) _ c.args.grip c.self.view_is c.requires.kept c.requires.purpose c.come_home-came.ensures.called)
+    died_back c.self.inside t c.args.k _ c.args.grip c.slip-slip.result c.come_home-came.result.events c.is_first-first.result c.died_by-cause.result
+    c.note_fall-fell.new.history c.answer-entry.new.self (grip_back c.self.inside c.args.self.now
+    (ForCommand c.args.k) _ c.args.grip c.self.view_is c.requires.kept c.requires.purpose c.come_home-came.ensures.called)
     (record { later = omega (arith, c.max-self-inside.ensures); home = c.come_home-came.ensures.home; new = refl })
     (record {
       falls = record { same = c.slip-slip.ensures; up = refl; died = c.requires.died; events_are = c.come_home-came.ensures.events };
@@ -91,5 +115,8 @@ returns g c =
       answered = c.answer-entry.ensures.new ∙ ap (with_entry c.note_fall-fell.new.history c.slip-slip.result.maker) c.answer-entry.ensures.entry;
       doomed = c.doom_for-doomed.ensures.history;
     }) c.self.invariant in
-    let made = back_given c.self.inside t c.args.self.now c.args.moment (ForCommand c.args.k) _ c.args.grip _ (record { a = Some c.note_fall-fell.result.entry; b = Some c.answer-entry.result; c = c.doom_for-doomed.result }) c.self.view_is c.requires.maker c.max-self-inside.ensures back (death_made c.slip-slip.result c.args.k c.died_by-cause.result _ _ _ c.note_fall-fell.ensures.entry c.answer-entry.ensures.entry c.doom_for-doomed.ensures.entry) (three_packed _ _ _) c.self.invariant in
+    let made = back_given c.self.inside t c.args.self.now c.args.moment (ForCommand c.args.k) _ c.args.grip _
+    (record { a = Some c.note_fall-fell.result.entry; b = Some c.answer-entry.result; c = c.doom_for-doomed.result }) c.self.view_is c.requires.maker
+    c.max-self-inside.ensures back (death_made c.slip-slip.result c.args.k c.died_by-cause.result _ _ _ c.note_fall-fell.ensures.entry
+    c.answer-entry.ensures.entry c.doom_for-doomed.ensures.entry) (three_packed _ _ _) c.self.invariant in
     record { given = made.given; window = made.window }

@@ -14,7 +14,10 @@ use Rattle.std.proofs.Common.{ap, arith, refl, sym, ◌∙◌}
 use Rattle.std.specs.Prelude.{None, Some}
 
 pub command-requires : goal.command-requires
-command-requires g c = let may = may_tell_down c.self.inside c.args.r.0 c.args.moment c.args.k c.args.must (chosen_here c.self.inside c.args.self.now c.args.r.0 c.args.moment (AnswersDown c.args.k c.args.must) c.self.view_is c.requires) c.self.invariant in record { run = may.run; there = may.within }
+command-requires g c =
+    let may = may_tell_down c.self.inside c.args.r.0 c.args.moment c.args.k c.args.must
+    (chosen_here c.self.inside c.args.self.now c.args.r.0 c.args.moment (AnswersDown c.args.k c.args.must) c.self.view_is c.requires) c.self.invariant in
+    record { run = may.run; there = may.within }
 
 pub answer-entry-requires : goal.answer-entry-requires
 answer-entry-requires g c =
@@ -49,10 +52,16 @@ note_answer-requires g c =
     }
 
 pub doom_for-doomed-requires-clause-run : goal.doom_for-doomed-requires-clause-run
-doom_for-doomed-requires-clause-run g c = let may = may_tell_down c.self.inside c.args.r.0 c.args.moment c.args.k c.args.must (chosen_here c.self.inside c.args.self.now c.args.r.0 c.args.moment (AnswersDown c.args.k c.args.must) c.self.view_is c.requires) c.self.invariant in ap (λ s. is_run s.setting.runs c.args.r.0) c.answer-entry.ensures.new ∙ may.run
+doom_for-doomed-requires-clause-run g c =
+    let may = may_tell_down c.self.inside c.args.r.0 c.args.moment c.args.k c.args.must
+    (chosen_here c.self.inside c.args.self.now c.args.r.0 c.args.moment (AnswersDown c.args.k c.args.must) c.self.view_is c.requires) c.self.invariant in
+    ap (λ s. is_run s.setting.runs c.args.r.0) c.answer-entry.ensures.new ∙ may.run
 
 pub doom_for-doomed-requires-clause-room : goal.doom_for-doomed-requires-clause-room
-doom_for-doomed-requires-clause-room g c = told_place c.self.inside c.args.r.0 c.args.moment c.args.k c.args.must c.must_down.result c.answer-entry.new.self (chosen_here c.self.inside c.args.self.now c.args.r.0 c.args.moment (AnswersDown c.args.k c.args.must) c.self.view_is c.requires) c.must_down.ensures (c.answer-entry.ensures.new ∙ ap (with_entry c.self.inside.history c.args.r.0) c.answer-entry.ensures.entry) c.self.invariant
+doom_for-doomed-requires-clause-room g c =
+    told_place c.self.inside c.args.r.0 c.args.moment c.args.k c.args.must c.must_down.result c.answer-entry.new.self
+    (chosen_here c.self.inside c.args.self.now c.args.r.0 c.args.moment (AnswersDown c.args.k c.args.must) c.self.view_is c.requires) c.must_down.ensures
+    (c.answer-entry.ensures.new ∙ ap (with_entry c.self.inside.history c.args.r.0) c.answer-entry.ensures.entry) c.self.invariant
 
 pub invariant_of-self : goal.invariant_of-self
 invariant_of-self g c =

@@ -36,7 +36,9 @@ answer-entry-requires g c =
 pub note_answer-requires : goal.note_answer-requires
 note_answer-requires g c =
     let command = command_back c.self.inside c.args.self.now c.args.grip.slip c.args.grip.task c.args.k c.self.view_is c.requires.kept c.requires.purpose c.self.invariant in
-    let last = just_answered c.self.inside.history c.answer-entry.new.self c.args.grip.slip.maker c.slip-slip.result.maker c.args.k c.slip-slip.result.device.0 c.answer-entry.result c.answer-answer.result command.run command.next command.within (command.on ∙ ap (λ s. s.device.0) (sym c.slip-slip.ensures)) (ap (λ s. s.maker) c.slip-slip.ensures) c.answer-entry.ensures.entry c.answer-entry.ensures.new in
+    let last = just_answered c.self.inside.history c.answer-entry.new.self c.args.grip.slip.maker c.slip-slip.result.maker c.args.k c.slip-slip.result.device.0
+    c.answer-entry.result c.answer-answer.result command.run command.next command.within (command.on ∙ ap (λ s. s.device.0) (sym c.slip-slip.ensures))
+    (ap (λ s. s.maker) c.slip-slip.ensures) c.answer-entry.ensures.entry c.answer-entry.ensures.new in
     let tells = may_tell c.self.inside c.args.k _ c.args.grip c.slip-slip.result (grip_back c.self.inside c.args.self.now (ForCommand c.args.k) _ c.args.grip c.self.view_is c.requires.kept c.requires.purpose c.come_home-came.ensures.called) c.slip-slip.ensures c.self.invariant in
     record {
       access = ap is_access c.answer-answer.ensures ∙ told_access c.come_home-came.result.told;
@@ -51,11 +53,16 @@ note_answer-requires g c =
     }
 
 pub doom_for-doomed-requires-clause-run : goal.doom_for-doomed-requires-clause-run
-doom_for-doomed-requires-clause-run g c = ap (λ s. is_run s.setting.runs c.slip-slip.result.maker) c.answer-entry.ensures.new ∙ ap (λ s. is_run c.self.inside.history.setting.runs s.maker) c.slip-slip.ensures ∙ (command_back c.self.inside c.args.self.now c.args.grip.slip c.args.grip.task c.args.k c.self.view_is c.requires.kept c.requires.purpose c.self.invariant).run
+doom_for-doomed-requires-clause-run g c =
+    ap (λ s. is_run s.setting.runs c.slip-slip.result.maker) c.answer-entry.ensures.new
+    ∙ ap (λ s. is_run c.self.inside.history.setting.runs s.maker) c.slip-slip.ensures ∙ (command_back c.self.inside c.args.self.now c.args.grip.slip
+    c.args.grip.task c.args.k c.self.view_is c.requires.kept c.requires.purpose c.self.invariant).run
 
 pub doom_for-doomed-requires-clause-room : goal.doom_for-doomed-requires-clause-room
 doom_for-doomed-requires-clause-room g c = λ some.
-    doom_place c.self.inside c.args.k _ c.args.grip c.slip-slip.result c.answer-answer.result c.refuted-cause.result c.answer-entry.new.self (with_doom c.answer-entry.new.self c.slip-slip.result.maker c.refuted-cause.result) (grip_back c.self.inside c.args.self.now (ForCommand c.args.k) _ c.args.grip c.self.view_is c.requires.kept c.requires.purpose c.come_home-came.ensures.called)
+    doom_place c.self.inside c.args.k _ c.args.grip c.slip-slip.result c.answer-answer.result c.refuted-cause.result c.answer-entry.new.self
+    (with_doom c.answer-entry.new.self c.slip-slip.result.maker c.refuted-cause.result) (grip_back c.self.inside c.args.self.now
+    (ForCommand c.args.k) _ c.args.grip c.self.view_is c.requires.kept c.requires.purpose c.come_home-came.ensures.called)
     (record {
       same = c.slip-slip.ensures;
       lives = c.requires.lives;
@@ -67,7 +74,9 @@ doom_for-doomed-requires-clause-room g c = λ some.
 
 pub invariant_of-self : goal.invariant_of-self
 invariant_of-self g c =
-    answered_whole c.self.inside _ c.come_home-came.result.held c.args.k _ c.args.grip c.slip-slip.result c.answer-answer.result c.refuted-cause.result c.answer-entry.new.self _ _ _ c.note_answer.new.order (grip_back c.self.inside c.args.self.now (ForCommand c.args.k) _ c.args.grip c.self.view_is c.requires.kept c.requires.purpose c.come_home-came.ensures.called)
+    answered_whole c.self.inside _ c.come_home-came.result.held c.args.k _ c.args.grip c.slip-slip.result c.answer-answer.result c.refuted-cause.result
+    c.answer-entry.new.self _ _ _ c.note_answer.new.order (grip_back c.self.inside c.args.self.now
+    (ForCommand c.args.k) _ c.args.grip c.self.view_is c.requires.kept c.requires.purpose c.come_home-came.ensures.called)
     (record { later = omega (arith, c.max-self-inside.ensures); home = c.come_home-came.ensures.home; new = refl })
     (record {
       same = c.slip-slip.ensures;
@@ -93,7 +102,8 @@ pub returns : goal.returns
 returns g c =
     let t : Inside g.row.D.Denot = record c.self.inside { history = c.doom_for-doomed.new.history; moment = c.max-self-inside.result; away = c.come_home-came.new.self; order = c.doom_for-doomed.new.order } in
     let back : CameHome g.D.Device.stands g.D.Device.turns g.D.Device.probes g.D.Device.faults c.self.inside t (ForCommand c.args.k) _ c.args.grip (answer_entries c.slip-slip.result.maker c.args.k c.answer-answer.result c.refuted-cause.result) =
-    answered_back c.self.inside t c.args.k _ c.args.grip c.slip-slip.result c.answer-answer.result c.refuted-cause.result c.answer-entry.new.self (grip_back c.self.inside c.args.self.now (ForCommand c.args.k) _ c.args.grip c.self.view_is c.requires.kept c.requires.purpose c.come_home-came.ensures.called)
+    answered_back c.self.inside t c.args.k _ c.args.grip c.slip-slip.result c.answer-answer.result c.refuted-cause.result c.answer-entry.new.self (grip_back
+    c.self.inside c.args.self.now (ForCommand c.args.k) _ c.args.grip c.self.view_is c.requires.kept c.requires.purpose c.come_home-came.ensures.called)
     (record { later = omega (arith, c.max-self-inside.ensures); home = c.come_home-came.ensures.home; new = refl })
     (record {
       same = c.slip-slip.ensures;
@@ -103,5 +113,8 @@ returns g c =
       answered = c.answer-entry.ensures.new ∙ ap (with_entry c.self.inside.history c.slip-slip.result.maker) c.answer-entry.ensures.entry;
       doomed = c.doom_for-doomed.ensures.history;
     }) in
-    let made = back_given c.self.inside t c.args.self.now c.args.moment (ForCommand c.args.k) _ c.args.grip _ (record { a = Some c.answer-entry.result; b = c.doom_for-doomed.result; c = None }) c.self.view_is c.requires.maker c.max-self-inside.ensures back (answer_made c.slip-slip.result c.args.k c.answer-answer.result c.refuted-cause.result _ _ c.answer-entry.ensures.entry c.doom_for-doomed.ensures.entry) (two_packed _ _) c.self.invariant in
+    let made = back_given c.self.inside t c.args.self.now c.args.moment (ForCommand c.args.k) _ c.args.grip _
+    (record { a = Some c.answer-entry.result; b = c.doom_for-doomed.result; c = None }) c.self.view_is c.requires.maker c.max-self-inside.ensures back
+    (answer_made c.slip-slip.result c.args.k c.answer-answer.result c.refuted-cause.result _ _ c.answer-entry.ensures.entry c.doom_for-doomed.ensures.entry)
+    (two_packed _ _) c.self.invariant in
     record { given = made.given; window = made.window }

@@ -20,13 +20,17 @@ close-devices-requires g c =
 pub rises_in-turns-requires-clause-turns_fell : goal.rises_in-turns-requires-clause-turns_fell
 rises_in-turns-requires-clause-turns_fell g c =
     let quiet = subst (λ (t : OpenHub g.row.D.Denot). not_quiet (configuration_of t) ≡ None) (sym c.self.view_is) c.requires.quiet in
-    let closes : Closes g.D.Device.tag g.D.Device.stands g.D.Device.turns g.D.Device.probes g.D.Device.faults (open_of c.self.inside) c.close-devices.result.items = record { kept = c.self.invariant.shown; quiet = quiet; places = c.close-devices.ensures.devices; numbered = c.close-devices.ensures.numbers } in
+    let closes : Closes g.D.Device.tag g.D.Device.stands g.D.Device.turns g.D.Device.probes g.D.Device.faults
+    (open_of c.self.inside) c.close-devices.result.items =
+    record { kept = c.self.invariant.shown; quiet = quiet; places = c.close-devices.ensures.devices; numbered = c.close-devices.ensures.numbers } in
     turns_fell _ _ _ _ _ _ _ closes
 
 pub rises_in-turns-requires-clause-faults_fell : goal.rises_in-turns-requires-clause-faults_fell
 rises_in-turns-requires-clause-faults_fell g c =
     let quiet = subst (λ (t : OpenHub g.row.D.Denot). not_quiet (configuration_of t) ≡ None) (sym c.self.view_is) c.requires.quiet in
-    let closes : Closes g.D.Device.tag g.D.Device.stands g.D.Device.turns g.D.Device.probes g.D.Device.faults (open_of c.self.inside) c.close-devices.result.items = record { kept = c.self.invariant.shown; quiet = quiet; places = c.close-devices.ensures.devices; numbered = c.close-devices.ensures.numbers } in
+    let closes : Closes g.D.Device.tag g.D.Device.stands g.D.Device.turns g.D.Device.probes g.D.Device.faults
+    (open_of c.self.inside) c.close-devices.result.items =
+    record { kept = c.self.invariant.shown; quiet = quiet; places = c.close-devices.ensures.devices; numbered = c.close-devices.ensures.numbers } in
     faults_fell _ _ _ _ _ _ _ closes
 
 -- the record has room for the line
@@ -45,14 +49,21 @@ copied-world-requires g c =
 pub invariant_of-home : goal.invariant_of-home
 invariant_of-home g c =
     let quiet = subst (λ (t : OpenHub g.row.D.Denot). not_quiet (configuration_of t) ≡ None) (sym c.self.view_is) c.requires.quiet in
-    let closes : Closes g.D.Device.tag g.D.Device.stands g.D.Device.turns g.D.Device.probes g.D.Device.faults (open_of c.self.inside) c.close-devices.result.items = record { kept = c.self.invariant.shown; quiet = quiet; places = c.close-devices.ensures.devices; numbered = c.close-devices.ensures.numbers } in
-    home_left _ _ _ _ _ _ _ c.history.inside.kinds.items c.copied-world.result.items closes (ap (λ (h : HistoryState). h.setting.kinds) c.history.view_is) (subst (IsLastState (configuration_of (open_of c.self.inside))) (sym c.copied-world.ensures) (hub_leaves c.self.inside c.stands_left-last.result.items c.self.invariant quiet (λ e. c.stands_left-last.ensures.ordered (c.is_weak-weak.ensures ∙ e)) (λ e. c.stands_left-last.ensures.weakly (c.is_weak-weak.ensures ∙ e))))
+    let closes : Closes g.D.Device.tag g.D.Device.stands g.D.Device.turns g.D.Device.probes g.D.Device.faults
+    (open_of c.self.inside) c.close-devices.result.items =
+    record { kept = c.self.invariant.shown; quiet = quiet; places = c.close-devices.ensures.devices; numbered = c.close-devices.ensures.numbers } in
+    home_left _ _ _ _ _ _ _ c.history.inside.kinds.items c.copied-world.result.items closes (ap (λ (h : HistoryState). h.setting.kinds) c.history.view_is)
+    (subst (IsLastState (configuration_of (open_of c.self.inside))) (sym c.copied-world.ensures)
+    (hub_leaves c.self.inside c.stands_left-last.result.items c.self.invariant quiet (λ e. c.stands_left-last.ensures.ordered (c.is_weak-weak.ensures ∙ e))
+    (λ e. c.stands_left-last.ensures.weakly (c.is_weak-weak.ensures ∙ e))))
 
 -- and the record
 pub returns : goal.returns
 returns g c =
     let quiet = subst (λ (t : OpenHub g.row.D.Denot). not_quiet (configuration_of t) ≡ None) (sym c.self.view_is) c.requires.quiet in
-    let closes : Closes g.D.Device.tag g.D.Device.stands g.D.Device.turns g.D.Device.probes g.D.Device.faults (open_of c.self.inside) c.close-devices.result.items = record { kept = c.self.invariant.shown; quiet = quiet; places = c.close-devices.ensures.devices; numbered = c.close-devices.ensures.numbers } in
+    let closes : Closes g.D.Device.tag g.D.Device.stands g.D.Device.turns g.D.Device.probes g.D.Device.faults
+    (open_of c.self.inside) c.close-devices.result.items =
+    record { kept = c.self.invariant.shown; quiet = quiet; places = c.close-devices.ensures.devices; numbered = c.close-devices.ensures.numbers } in
     let closed : WindowRecord = record { mode = c.history.inside.mode; first = c.history.inside.first; history = c.into_list.result; order = c.order_of.result; last = record { devices = c.stands_left-last.result }; turns = c.rises_in-turns.result.turns; faults = c.rises_in-turns.result.faults } in
     let tells : Tells g.D.Device.turns g.D.Device.faults (open_of c.self.inside) c.close-devices.result.items closed = record {
       mode = ap (λ (h : HistoryState). h.setting.mode) c.history.view_is;

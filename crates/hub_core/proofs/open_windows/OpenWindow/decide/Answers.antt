@@ -15,29 +15,53 @@ pub decide_doomed-requires : goal.decide_doomed-requires
 decide_doomed-requires g c = record { strong = (strong_seen c.self.inside c.args.self.now false c.self.view_is (sym c.if-is_weak.ensures)); live = hub_is_live _ c.args.self.now c.args.r.0 c.progress-progress.result c.self.view_is c.progress-progress.ensures c.in_default.is c.if-is_none.ensures }
 
 pub returns-in-Some-doomed-clause-choice : goal.returns-in-Some-doomed-clause-choice
-returns-in-Some-doomed-clause-choice g c = hub_dooms _ _ c.args.r.0 c.args.moment c.progress-progress.result c.in-Some-doomed.cause _ c.self.view_is (sym c.if-is_weak.ensures) c.if-not-has_run.ensures c.progress-progress.ensures c.in_default.is c.in_default-grip_of.ensures (ap is_some c.in-Some-arrived.is) c.if-is_none.ensures c.in-Some-doomed.is (c.decide_doomed.ensures _)
+returns-in-Some-doomed-clause-choice g c =
+    hub_dooms _ _ c.args.r.0 c.args.moment c.progress-progress.result c.in-Some-doomed.cause _ c.self.view_is
+    (sym c.if-is_weak.ensures) c.if-not-has_run.ensures c.progress-progress.ensures c.in_default.is c.in_default-grip_of.ensures
+    (ap is_some c.in-Some-arrived.is) c.if-is_none.ensures c.in-Some-doomed.is (c.decide_doomed.ensures _)
 
 pub decide_answered-requires : goal.decide_answered-requires
-decide_answered-requires g c = record { strong = (strong_seen c.self.inside c.args.self.now false c.self.view_is (sym c.if-is_weak.ensures)); turn = hub_under_way _ c.args.self.now c.args.r.0 c.progress-progress.result c.self.view_is c.progress-progress.ensures c.in_default.is c.if-is_none.ensures c.in_default-doomed.is }
+decide_answered-requires g c = record {
+  strong = (strong_seen c.self.inside c.args.self.now false c.self.view_is (sym c.if-is_weak.ensures));
+  turn =
+      hub_under_way _ c.args.self.now c.args.r.0 c.progress-progress.result c.self.view_is c.progress-progress.ensures c.in_default.is c.if-is_none.ensures
+      c.in_default-doomed.is;
+}
 
 pub returns-in-None-clause-choice : goal.returns-in-None-clause-choice
-returns-in-None-clause-choice g c = hub_answers _ _ c.args.r.0 c.args.moment c.progress-progress.result _ c.self.view_is (sym c.if-is_weak.ensures) c.if-not-has_run.ensures c.progress-progress.ensures c.in_default.is c.in_default-grip_of.ensures (ap is_some c.in-Some-arrived.is) c.if-is_none.ensures c.in_default-doomed.is c.in-None.ensures (c.decide_answered.ensures _)
+returns-in-None-clause-choice g c =
+    hub_answers _ _ c.args.r.0 c.args.moment c.progress-progress.result _ c.self.view_is
+    (sym c.if-is_weak.ensures) c.if-not-has_run.ensures c.progress-progress.ensures c.in_default.is c.in_default-grip_of.ensures
+    (ap is_some c.in-Some-arrived.is) c.if-is_none.ensures c.in_default-doomed.is c.in-None.ensures (c.decide_answered.ensures _)
 
 pub decide_command-requires : goal.decide_command-requires
 decide_command-requires g c =
-    let at = hub_at_command g.D.Device.stands g.D.Device.turns g.D.Device.probes g.D.Device.faults _ _ c.args.r.0 c.progress-progress.result c.in-Some-next_command.command c.self.view_is c.self.invariant.shown c.progress-progress.ensures c.in_default.is c.if-is_none.ensures c.in_default-doomed.is c.in-Some-next_command.ensures (sym c.if-holds.ensures) in
+    let at = hub_at_command g.D.Device.stands g.D.Device.turns g.D.Device.probes g.D.Device.faults _ _ c.args.r.0 c.progress-progress.result
+    c.in-Some-next_command.command c.self.view_is c.self.invariant.shown c.progress-progress.ensures c.in_default.is c.if-is_none.ensures c.in_default-doomed.is
+    c.in-Some-next_command.ensures (sym c.if-holds.ensures) in
     record { strong = (strong_seen c.self.inside c.args.self.now false c.self.view_is (sym c.if-is_weak.ensures)); turn = at.0; command = at.1 }
 
 pub decide_skip-requires : goal.decide_skip-requires
-decide_skip-requires g c = record { strong = (strong_seen c.self.inside c.args.self.now false c.self.view_is (sym c.if-is_weak.ensures)); turn = hub_under_way _ c.args.self.now c.args.r.0 c.progress-progress.result c.self.view_is c.progress-progress.ensures c.in_default.is c.if-is_none.ensures c.in_default-doomed.is }
+decide_skip-requires g c = record {
+  strong = (strong_seen c.self.inside c.args.self.now false c.self.view_is (sym c.if-is_weak.ensures));
+  turn =
+      hub_under_way _ c.args.self.now c.args.r.0 c.progress-progress.result c.self.view_is c.progress-progress.ensures c.in_default.is c.if-is_none.ensures
+      c.in_default-doomed.is;
+}
 
 pub returns-then-holds-clause-choice : goal.returns-then-holds-clause-choice
-returns-then-holds-clause-choice g c = hub_commands _ _ c.args.r.0 c.args.moment c.progress-progress.result c.in-Some-next_command.command _ c.self.view_is (sym c.if-is_weak.ensures) c.if-not-has_run.ensures c.progress-progress.ensures c.in_default.is c.in_default-grip_of.ensures (ap is_some c.in-Some-arrived.is) c.if-is_none.ensures c.in_default-doomed.is c.in-Some-next_command.ensures (sym c.if-holds.ensures)
+returns-then-holds-clause-choice g c =
+    hub_commands _ _ c.args.r.0 c.args.moment c.progress-progress.result c.in-Some-next_command.command _ c.self.view_is
+    (sym c.if-is_weak.ensures) c.if-not-has_run.ensures c.progress-progress.ensures c.in_default.is c.in_default-grip_of.ensures
+    (ap is_some c.in-Some-arrived.is) c.if-is_none.ensures c.in_default-doomed.is c.in-Some-next_command.ensures (sym c.if-holds.ensures)
     (subst (λ m. told_choice c.args.r.0 m c.decide_command.result ≡ strong_command c.args.self.now.setting (read_of (configuration_of c.args.self.now)) (configuration_of c.args.self.now).grips c.args.r.0 m c.progress-progress.result.answered c.in-Some-next_command.command)
     (c.max-moment.ensures ∙ ap (λ (t : OpenHub g.row.D.Denot). max t.moment c.args.moment) c.self.view_is) c.decide_command.ensures)
 
 pub returns-else-holds-clause-choice : goal.returns-else-holds-clause-choice
-returns-else-holds-clause-choice g c = hub_skips _ _ c.args.r.0 c.args.moment c.progress-progress.result c.in-Some-next_command.command _ c.self.view_is c.if-not-has_run.ensures c.progress-progress.ensures c.in_default.is c.in_default-grip_of.ensures (ap is_some c.in-Some-arrived.is) c.if-is_none.ensures c.in_default-doomed.is c.in-Some-next_command.ensures (sym c.if-holds.ensures) (c.decide_skip.ensures _)
+returns-else-holds-clause-choice g c =
+    hub_skips _ _ c.args.r.0 c.args.moment c.progress-progress.result c.in-Some-next_command.command _ c.self.view_is c.if-not-has_run.ensures
+    c.progress-progress.ensures c.in_default.is c.in_default-grip_of.ensures (ap is_some c.in-Some-arrived.is) c.if-is_none.ensures c.in_default-doomed.is
+    c.in-Some-next_command.ensures (sym c.if-holds.ensures) (c.decide_skip.ensures _)
 
 pub decide_weakly-requires : goal.decide_weakly-requires
 decide_weakly-requires g c = record {
@@ -46,7 +70,9 @@ decide_weakly-requires g c = record {
 }
 
 pub returns-then-is_weak-clause-choice : goal.returns-then-is_weak-clause-choice
-returns-then-is_weak-clause-choice g c = hub_weakly _ _ c.args.r.0 c.args.moment c.progress-progress.result _ c.self.view_is (sym c.if-is_weak.ensures) c.if-not-has_run.ensures c.progress-progress.ensures c.in_default.is c.in_default-grip_of.ensures (ap is_some c.in-Some-arrived.is) c.if-is_none.ensures (c.decide_weakly.ensures _)
+returns-then-is_weak-clause-choice g c =
+    hub_weakly _ _ c.args.r.0 c.args.moment c.progress-progress.result _ c.self.view_is (sym c.if-is_weak.ensures) c.if-not-has_run.ensures
+    c.progress-progress.ensures c.in_default.is c.in_default-grip_of.ensures (ap is_some c.in-Some-arrived.is) c.if-is_none.ensures (c.decide_weakly.ensures _)
 
 pub returns-in-Some-doomed-clause-planned : goal.returns-in-Some-doomed-clause-planned
 returns-in-Some-doomed-clause-planned g c = λ none. absurd (placed_before _ c.args.self.now c.args.r.0 c.progress-progress.result c.self.view_is c.progress-progress.ensures c.if-is_none.ensures none)

@@ -7,12 +7,14 @@ use Rattle.std.proofs.Common.{sym, ◌∙◌}
 
 pub returns-then-is_out : goal.returns-then-is_out
 returns-then-is_out g c = λ m.
-    let driven = driven_is c.args.self.now.setting (read_of (configuration_of c.args.self.now)) (configuration_of c.args.self.now).grips c.args.r.0 c.in-Drive.d c.in-Drive.value (c.in-Drive.ensures ∙ next_undo_is (configuration_of c.args.self.now) _ _ _ _ c.args.r.0 c.standing-standing.ensures c.requires.live) in
+    let driven = driven_is c.args.self.now.setting (read_of (configuration_of c.args.self.now)) (configuration_of c.args.self.now).grips c.args.r.0 c.in-Drive.d
+    c.in-Drive.value (c.in-Drive.ensures ∙ next_undo_is (configuration_of c.args.self.now) _ _ _ _ c.args.r.0 c.standing-standing.ensures c.requires.live) in
     doomed_busy c.args.self.now.setting (read_of (configuration_of c.args.self.now)) (configuration_of c.args.self.now).grips c.args.r.0 c.args.cause c.in-Drive.d driven.next (sym c.if-is_out.ensures)
 
 pub returns-else-is_out : goal.returns-else-is_out
 returns-else-is_out g c = λ m.
-    let driven = driven_is c.args.self.now.setting (read_of (configuration_of c.args.self.now)) (configuration_of c.args.self.now).grips c.args.r.0 c.in-Drive.d c.in-Drive.value (c.in-Drive.ensures ∙ next_undo_is (configuration_of c.args.self.now) _ _ _ _ c.args.r.0 c.standing-standing.ensures c.requires.live) in
+    let driven = driven_is c.args.self.now.setting (read_of (configuration_of c.args.self.now)) (configuration_of c.args.self.now).grips c.args.r.0 c.in-Drive.d
+    c.in-Drive.value (c.in-Drive.ensures ∙ next_undo_is (configuration_of c.args.self.now) _ _ _ _ c.args.r.0 c.standing-standing.ensures c.requires.live) in
     doomed_goes c.args.self.now.setting (read_of (configuration_of c.args.self.now)) (configuration_of c.args.self.now).grips c.args.r.0 c.args.cause c.in-Drive.d c.in-Drive.value driven (sym c.if-is_out.ensures)
 
 pub returns-then-is_out-2 : goal.returns-then-is_out-2

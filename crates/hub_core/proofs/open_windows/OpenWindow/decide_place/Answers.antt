@@ -23,4 +23,7 @@ returns-in-Timeline-clause-choice g c =
     placed_between c.args.r.0 c.args.moment c.place.result _ _ exact.1 (sym (timed_place (configuration_of c.args.self.now) c.args.r.0 c.args.moment timed ∙ exact.0))
 
 pub returns-in-Timeline-clause-planned : goal.returns-in-Timeline-clause-planned
-returns-in-Timeline-clause-planned g c = λ none timed. holds_gap c.place.new.scratch (configuration_of c.args.self.now) c.args.r.0 c.args.moment c.place.result timed (c.place.ensures.before (configuration_of c.args.self.now) c.standing-standing.ensures timed) (c.place.ensures.planned (configuration_of c.args.self.now) c.standing-standing.ensures timed)
+returns-in-Timeline-clause-planned g c =
+    λ none timed. holds_gap c.place.new.scratch (configuration_of c.args.self.now) c.args.r.0 c.args.moment c.place.result timed
+    (c.place.ensures.before (configuration_of c.args.self.now) c.standing-standing.ensures timed)
+    (c.place.ensures.planned (configuration_of c.args.self.now) c.standing-standing.ensures timed)

@@ -14,11 +14,18 @@ task-task-requires g c = record { command = λ k for. command_given _ _ _ _ _ c.
 
 pub touch-requires : goal.touch-requires
 touch-requires g c =
-    let may = may_mark _ _ _ _ c.args.r.0 c.args.moment c.args.d.0 _ _ _ c.self.invariant.shown.configuration (chosen_here c.self.inside c.args.self.now c.args.r.0 c.args.moment (HandsOut c.args.d c.args.purpose) c.self.view_is c.requires) c.self.invariant.order.line_is c.self.invariant.order.table_is.devices in
+    let may = may_mark _ _ _ _ c.args.r.0 c.args.moment c.args.d.0 _ _ _ c.self.invariant.shown.configuration
+    (chosen_here c.self.inside c.args.self.now c.args.r.0 c.args.moment (HandsOut c.args.d c.args.purpose) c.self.view_is c.requires)
+    c.self.invariant.order.line_is c.self.invariant.order.table_is.devices in
     record { run = may.stands; device = may.device; homed = may.homed }
 
 pub send-requires : goal.send-requires
-send-requires g c = record { may = may_send c.self.inside c.args.r.0 c.args.moment c.args.d.0 _ c.known-known.result c.task-task.result (chosen_here c.self.inside c.args.self.now c.args.r.0 c.args.moment (HandsOut c.args.d c.args.purpose) c.self.view_is c.requires) c.known-known.ensures c.self.invariant }
+send-requires g c = record {
+  may =
+      may_send c.self.inside c.args.r.0 c.args.moment c.args.d.0 _ c.known-known.result c.task-task.result
+      (chosen_here c.self.inside c.args.self.now c.args.r.0 c.args.moment (HandsOut c.args.d c.args.purpose) c.self.view_is c.requires) c.known-known.ensures
+      c.self.invariant;
+}
 
 pub invariant_of-self : goal.invariant_of-self
 invariant_of-self g c =

@@ -15,13 +15,19 @@ use Rattle.std.specs.Prelude.{List}
 use Rattle.window_order.specs.TableChanges.{ChangesEach}
 
 pub arrange-requires-clause-flags : goal.arrange-requires-clause-flags
-arrange-requires-clause-flags g c = λ timed. subst (λ bs. MayArrange bs c.self.inside.order.line) (sym c.flags.ensures) (hub_arranges c.self.inside c.args.self.now c.args.r.0 c.args.at c.args.moment c.args.scratch.now c.self.view_is c.requires.planned (sym c.scheduler.ensures ∙ timed) c.self.invariant)
+arrange-requires-clause-flags g c =
+    λ timed. subst (λ bs. MayArrange bs c.self.inside.order.line) (sym c.flags.ensures) (hub_arranges c.self.inside c.args.self.now c.args.r.0 c.args.at
+    c.args.moment c.args.scratch.now c.self.view_is c.requires.planned (sym c.scheduler.ensures ∙ timed) c.self.invariant)
 
 pub arrange-requires-clause-sealed : goal.arrange-requires-clause-sealed
 arrange-requires-clause-sealed g c = let sealed = c.self.invariant.order.sealed in omega (arith, sealed)
 
 pub join-requires-clause-room : goal.join-requires-clause-room
-join-requires-clause-room g c = let room = line_place c.self.inside c.args.r.0 c.args.at c.args.moment (chosen_here c.self.inside c.args.self.now c.args.r.0 c.args.moment (Joins c.args.at) c.self.view_is c.requires.chosen) c.self.invariant in let same = c.arrange.ensures.spare in omega (arith, room, same)
+join-requires-clause-room g c =
+    let room = line_place c.self.inside c.args.r.0 c.args.at c.args.moment
+    (chosen_here c.self.inside c.args.self.now c.args.r.0 c.args.moment (Joins c.args.at) c.self.view_is c.requires.chosen) c.self.invariant in
+    let same = c.arrange.ensures.spare in
+    omega (arith, room, same)
 
 pub join-requires-clause-place : goal.join-requires-clause-place
 join-requires-clause-place g c =
@@ -44,24 +50,40 @@ join-requires-clause-known g c = ap (λ runs. is_run runs c.args.r.0) c.arrange.
 pub join-requires-clause-absent : goal.join-requires-clause-absent
 join-requires-clause-absent g c =
     let marks = hub_arranged c.self.inside c.args.self.now c.args.r.0 c.args.at c.args.moment c.args.scratch.now _ _ _ c.self.view_is c.requires.planned c.scheduler.ensures c.flags.ensures c.arrange.ensures.marks in
-    ap (stands (Ran c.args.r)) marks ∙ (hub_joins c.self.inside c.args.r.0 c.args.at c.args.moment (chosen_here c.self.inside c.args.self.now c.args.r.0 c.args.moment (Joins c.args.at) c.self.view_is c.requires.chosen) (strong_here c.self.inside c.args.self.now false c.self.view_is c.requires.strong) c.self.invariant).absent
+    ap (stands (Ran c.args.r)) marks ∙ (hub_joins c.self.inside c.args.r.0 c.args.at c.args.moment
+    (chosen_here c.self.inside c.args.self.now c.args.r.0 c.args.moment (Joins c.args.at) c.self.view_is c.requires.chosen)
+    (strong_here c.self.inside c.args.self.now false c.self.view_is c.requires.strong) c.self.invariant).absent
 
 pub join-requires-clause-few : goal.join-requires-clause-few
-join-requires-clause-few g c = rw c.arrange.ensures.table (hub_joins c.self.inside c.args.r.0 c.args.at c.args.moment (chosen_here c.self.inside c.args.self.now c.args.r.0 c.args.moment (Joins c.args.at) c.self.view_is c.requires.chosen) (strong_here c.self.inside c.args.self.now false c.self.view_is c.requires.strong) c.self.invariant).few
+join-requires-clause-few g c =
+    rw c.arrange.ensures.table (hub_joins c.self.inside c.args.r.0 c.args.at c.args.moment
+    (chosen_here c.self.inside c.args.self.now c.args.r.0 c.args.moment (Joins c.args.at) c.self.view_is c.requires.chosen)
+    (strong_here c.self.inside c.args.self.now false c.self.view_is c.requires.strong) c.self.invariant).few
 
 pub join-requires-clause-homed : goal.join-requires-clause-homed
-join-requires-clause-homed g c = rw (c.arrange.ensures.table, c.roster.ensures) ((hub_joins c.self.inside c.args.r.0 c.args.at c.args.moment (chosen_here c.self.inside c.args.self.now c.args.r.0 c.args.moment (Joins c.args.at) c.self.view_is c.requires.chosen) (strong_here c.self.inside c.args.self.now false c.self.view_is c.requires.strong) c.self.invariant).homed)
+join-requires-clause-homed g c =
+    rw (c.arrange.ensures.table, c.roster.ensures) ((hub_joins c.self.inside c.args.r.0 c.args.at c.args.moment
+    (chosen_here c.self.inside c.args.self.now c.args.r.0 c.args.moment (Joins c.args.at) c.self.view_is c.requires.chosen)
+    (strong_here c.self.inside c.args.self.now false c.self.view_is c.requires.strong) c.self.invariant).homed)
 
 pub join-requires-clause-new : goal.join-requires-clause-new
 join-requires-clause-new g c =
     let marks = hub_arranged c.self.inside c.args.self.now c.args.r.0 c.args.at c.args.moment c.args.scratch.now _ _ _ c.self.view_is c.requires.planned c.scheduler.ensures c.flags.ensures c.arrange.ensures.marks in
-    rw (c.arrange.ensures.table, c.roster.ensures, marks) ((hub_joins c.self.inside c.args.r.0 c.args.at c.args.moment (chosen_here c.self.inside c.args.self.now c.args.r.0 c.args.moment (Joins c.args.at) c.self.view_is c.requires.chosen) (strong_here c.self.inside c.args.self.now false c.self.view_is c.requires.strong) c.self.invariant).new)
+    rw (c.arrange.ensures.table, c.roster.ensures, marks) ((hub_joins c.self.inside c.args.r.0 c.args.at c.args.moment
+    (chosen_here c.self.inside c.args.self.now c.args.r.0 c.args.moment (Joins c.args.at) c.self.view_is c.requires.chosen)
+    (strong_here c.self.inside c.args.self.now false c.self.view_is c.requires.strong) c.self.invariant).new)
 
 pub place-requires-clause-room : goal.place-requires-clause-room
 place-requires-clause-room g c = has_place c.self.inside c.args.r.0 c.args.moment _ Going (chosen_here c.self.inside c.args.self.now c.args.r.0 c.args.moment (Joins c.args.at) c.self.view_is c.requires.chosen) c.self.invariant
 
 pub planned_uses-uses-requires-clause-homed : goal.planned_uses-uses-requires-clause-homed
-planned_uses-uses-requires-clause-homed g c = λ k e within. let joins = (hub_joins c.self.inside c.args.r.0 c.args.at c.args.moment (chosen_here c.self.inside c.args.self.now c.args.r.0 c.args.moment (Joins c.args.at) c.self.view_is c.requires.chosen) (strong_here c.self.inside c.args.self.now false c.self.view_is c.requires.strong) c.self.invariant) in let few = joins.few in let homed = joins.homed k e within in omega (arith, few, homed)
+planned_uses-uses-requires-clause-homed g c =
+    λ k e within. let joins = (hub_joins c.self.inside c.args.r.0 c.args.at c.args.moment
+    (chosen_here c.self.inside c.args.self.now c.args.r.0 c.args.moment (Joins c.args.at) c.self.view_is c.requires.chosen)
+    (strong_here c.self.inside c.args.self.now false c.self.view_is c.requires.strong) c.self.invariant) in
+    let few = joins.few in
+    let homed = joins.homed k e within in
+    omega (arith, few, homed)
 
 pub invariant_of-self : goal.invariant_of-self
 invariant_of-self g c =
@@ -69,7 +91,11 @@ invariant_of-self g c =
     let new = c.place.ensures.new ∙ ap (with_entry c.self.inside.history c.args.r.0) c.place.ensures.entry ∙ ap (λ m. with_entry c.self.inside.history c.args.r.0 (Placed c.args.r c.args.at m)) c.max-self-inside.ensures in
     let marks = hub_arranged c.self.inside c.args.self.now c.args.r.0 c.args.at c.args.moment c.args.scratch.now _ _ _ c.self.view_is c.requires.planned c.scheduler.ensures c.flags.ensures c.arrange.ensures.marks in
     let changes = subst₂ (λ (ms : List Mark) (ls : List LineageState). ChangesEach (scheduled_with (runs_of c.roster.result.now) c.args.r.0 c.planned_uses-uses.result (drop c.args.at (items_of ms))) ls c.join.new.self.table) marks c.arrange.ensures.table c.join.ensures.table in
-    let table = joins_planned c.self.inside c.args.self.now c.args.r.0 c.args.at c.args.moment c.max-self-inside.result c.args.scratch.now c.planned_uses-uses.result (runs_of c.roster.result.now) (drop c.args.at (items_of (marks_then c.self.inside c.args.r.0 c.args.moment))) c.join.new.self.table c.self.view_is c.requires.planned c.max-self-inside.ensures c.planned_uses-uses.ensures c.roster.ensures (hub_joins c.self.inside c.args.r.0 c.args.at c.args.moment (chosen_here c.self.inside c.args.self.now c.args.r.0 c.args.moment (Joins c.args.at) c.self.view_is c.requires.chosen) (strong_here c.self.inside c.args.self.now false c.self.view_is c.requires.strong) c.self.invariant).few changes in
+    let table = joins_planned c.self.inside c.args.self.now c.args.r.0 c.args.at c.args.moment c.max-self-inside.result c.args.scratch.now
+    c.planned_uses-uses.result (runs_of c.roster.result.now) (drop c.args.at (items_of (marks_then c.self.inside c.args.r.0 c.args.moment)))
+    c.join.new.self.table c.self.view_is c.requires.planned c.max-self-inside.ensures c.planned_uses-uses.ensures c.roster.ensures (hub_joins c.self.inside
+    c.args.r.0 c.args.at c.args.moment (chosen_here c.self.inside c.args.self.now c.args.r.0 c.args.moment (Joins c.args.at) c.self.view_is c.requires.chosen)
+    (strong_here c.self.inside c.args.self.now false c.self.view_is c.requires.strong) c.self.invariant).few changes in
     joins_whole c.self.inside _ c.args.r.0 c.args.at c.args.moment (record {
       chosen = chosen;
       new = λ i. record c.self.inside { history = new i; moment = c.max-self-inside.ensures i; order = c.join.new.self };

@@ -11,7 +11,11 @@ use Rattle.lock_leasing.specs.Waits.{grip_wait}
 use Rattle.std.proofs.Common.{ap, sym, ◌∙◌}
 
 pub grip_of-out-requires : goal.grip_of-out-requires
-grip_of-out-requires g c = ap (λ s. is_run s.setting.runs c.args.borrower.0) (sym c.self.view_is) ∙ (borrowing c.self.inside c.args.r.0 c.args.moment c.args.borrower c.args.d c.args.deadline (chosen_here c.self.inside c.args.self.now c.args.r.0 c.args.moment (Revokes c.args.borrower c.args.d c.args.deadline) c.self.view_is c.requires) c.self.invariant).run
+grip_of-out-requires g c =
+    ap (λ s. is_run s.setting.runs c.args.borrower.0) (sym c.self.view_is)
+    ∙ (borrowing c.self.inside c.args.r.0 c.args.moment c.args.borrower c.args.d c.args.deadline
+    (chosen_here c.self.inside c.args.self.now c.args.r.0 c.args.moment (Revokes c.args.borrower c.args.d c.args.deadline) c.self.view_is c.requires)
+    c.self.invariant).run
 
 pub doom-requires-2-clause-run : goal.doom-requires-2-clause-run
 doom-requires-2-clause-run g c = (borrowing c.self.inside c.args.r.0 c.args.moment c.args.borrower c.args.d c.args.deadline (chosen_here c.self.inside c.args.self.now c.args.r.0 c.args.moment (Revokes c.args.borrower c.args.d c.args.deadline) c.self.view_is c.requires) c.self.invariant).run

@@ -26,7 +26,8 @@ answer-entry-requires g c =
 pub leave_skipped-requires : goal.leave_skipped-requires
 leave_skipped-requires g c =
     let may = may_skip c.self.inside c.args.r.0 c.args.moment c.args.k (chosen_here c.self.inside c.args.self.now c.args.r.0 c.args.moment (Skips c.args.k) c.self.view_is c.requires) c.self.invariant in
-    let last = just_answered c.self.inside.history c.answer-entry.new.self c.args.r.0 c.args.r.0 c.args.k c.command.result.device.0 c.answer-entry.result Skipped may.run may.number may.within (ap (λ x. x.device.0) (sym c.command.ensures)) refl c.answer-entry.ensures.entry c.answer-entry.ensures.new in
+    let last = just_answered c.self.inside.history c.answer-entry.new.self c.args.r.0 c.args.r.0 c.args.k c.command.result.device.0 c.answer-entry.result
+    Skipped may.run may.number may.within (ap (λ x. x.device.0) (sym c.command.ensures)) refl c.answer-entry.ensures.entry c.answer-entry.ensures.new in
     record {
       run = last.run;
       there = last.there;

@@ -17,17 +17,26 @@ come_home-came-requires g c = record { may = may_come c.self.inside c.args.self.
 pub note_fall-fell-requires : goal.note_fall-fell-requires
 note_fall-fell-requires g c =
     let value = undone_value (progress_at c.args.self.now.devices c.args.grip.slip.device.0).purpose c.requires.purpose in
-    record { may = drop_may c.self.inside value.0 _ c.args.grip c.slip-slip.result c.come_home-came.result.events (grip_back c.self.inside c.args.self.now (ForUndo value.0) _ c.args.grip c.self.view_is c.requires.kept value.1 c.come_home-came.ensures.called) (record { same = c.slip-slip.ensures; up = refl; died = c.requires.died; events_are = c.come_home-came.ensures.events }) c.self.invariant }
+    record {
+      may =
+          drop_may c.self.inside value.0 _ c.args.grip c.slip-slip.result c.come_home-came.result.events
+          (grip_back c.self.inside c.args.self.now (ForUndo value.0) _ c.args.grip c.self.view_is c.requires.kept value.1 c.come_home-came.ensures.called)
+          (record { same = c.slip-slip.ensures; up = refl; died = c.requires.died; events_are = c.come_home-came.ensures.events }) c.self.invariant;
+    }
 
 pub undo-entry-requires-clause-run : goal.undo-entry-requires-clause-run
 undo-entry-requires-clause-run g c =
     let value = undone_value (progress_at c.args.self.now.devices c.args.grip.slip.device.0).purpose c.requires.purpose in
-    ap (λ s. is_run s.setting.runs c.slip-slip.result.maker) c.note_fall-fell.ensures.history ∙ rw c.slip-slip.ensures (undo_run c.self.inside value.0 _ c.args.grip (grip_back c.self.inside c.args.self.now (ForUndo value.0) _ c.args.grip c.self.view_is c.requires.kept value.1 c.come_home-came.ensures.called) c.self.invariant)
+    ap (λ s. is_run s.setting.runs c.slip-slip.result.maker) c.note_fall-fell.ensures.history ∙ rw c.slip-slip.ensures (undo_run c.self.inside value.0 _
+    c.args.grip (grip_back c.self.inside c.args.self.now (ForUndo value.0) _ c.args.grip c.self.view_is c.requires.kept value.1 c.come_home-came.ensures.called)
+    c.self.invariant)
 
 pub undo-entry-requires-clause-room : goal.undo-entry-requires-clause-room
 undo-entry-requires-clause-room g c =
     let value = undone_value (progress_at c.args.self.now.devices c.args.grip.slip.device.0).purpose c.requires.purpose in
-    drop_place c.self.inside value.0 _ c.args.grip c.slip-slip.result c.note_fall-fell.new.history (grip_back c.self.inside c.args.self.now (ForUndo value.0) _ c.args.grip c.self.view_is c.requires.kept value.1 c.come_home-came.ensures.called) c.requires.died c.note_fall-fell.ensures.history c.self.invariant
+    drop_place c.self.inside value.0 _ c.args.grip c.slip-slip.result c.note_fall-fell.new.history
+    (grip_back c.self.inside c.args.self.now (ForUndo value.0) _ c.args.grip c.self.view_is c.requires.kept value.1 c.come_home-came.ensures.called)
+    c.requires.died c.note_fall-fell.ensures.history c.self.invariant
 
 pub invariant_of-self : goal.invariant_of-self
 invariant_of-self g c =
@@ -54,5 +63,7 @@ returns g c =
       undone = c.undo-entry.ensures.new ∙ ap (with_entry c.note_fall-fell.new.history c.slip-slip.result.maker) c.undo-entry.ensures.entry;
       order = c.note_fall-fell.ensures.order;
     }) in
-    let made = back_given c.self.inside t c.args.self.now c.args.moment (ForUndo value.0) _ c.args.grip _ (record { a = Some c.note_fall-fell.result.entry; b = Some c.undo-entry.result; c = None }) c.self.view_is c.requires.maker c.max-self-inside.ensures back (λ i. c.note_fall-fell.ensures.entry i ∷ c.undo-entry.ensures.entry i ∷ []) (two_packed _ _) c.self.invariant in
+    let made = back_given c.self.inside t c.args.self.now c.args.moment (ForUndo value.0) _ c.args.grip _
+    (record { a = Some c.note_fall-fell.result.entry; b = Some c.undo-entry.result; c = None }) c.self.view_is c.requires.maker c.max-self-inside.ensures back
+    (λ i. c.note_fall-fell.ensures.entry i ∷ c.undo-entry.ensures.entry i ∷ []) (two_packed _ _) c.self.invariant in
     record { given = made.given; window = made.window }

@@ -34,5 +34,6 @@ returns g c =
     let t : Inside g.row.D.Denot = record c.self.inside { history = c.undo.new.self; moment = c.max-self-inside.result; away = c.come_home.new.self } in
     let back = undone_back c.self.inside t value.0 _ c.args.grip c.slip-slip.result (grip_back c.self.inside c.args.self.now (ForUndo value.0) _ c.args.grip c.self.view_is c.requires.kept value.1 c.come_home.ensures.called)
     (record { later = omega (arith, c.max-self-inside.ensures); home = c.come_home.ensures.home; new = refl }) c.slip-slip.ensures c.requires.lives (c.undo.ensures.new ∙ ap (with_entry c.self.inside.history c.slip-slip.result.maker) c.undo.ensures.entry) in
-    let made = back_given c.self.inside t c.args.self.now c.args.moment (ForUndo value.0) _ c.args.grip _ c.one_made.result c.self.view_is c.requires.maker c.max-self-inside.ensures back (c.one_made.ensures.entries ∙ ap (λ e. e ∷ []) c.undo.ensures.entry) c.one_made.ensures.packed c.self.invariant in
+    let made = back_given c.self.inside t c.args.self.now c.args.moment (ForUndo value.0) _ c.args.grip _ c.one_made.result c.self.view_is c.requires.maker
+    c.max-self-inside.ensures back (c.one_made.ensures.entries ∙ ap (λ e. e ∷ []) c.undo.ensures.entry) c.one_made.ensures.packed c.self.invariant in
     record { given = made.given; window = made.window }

@@ -9,7 +9,10 @@ use Rattle.std.specs.Prelude.{length, ◌-◌, ◌<◌}
 
 pub invariant_of-self : goal.invariant_of-self
 invariant_of-self c =
-    rw (c.set.ensures.items, c.register_after.ensures, c.command-job.ensures, ap (λ s. command_at s.setting.runs c.args.r.0 c.args.k) (sym c.self.view_is)) (answers_beside _ _ _ _ _ _ c.args.k c.args.answer c.args.r _ _ c.self.invariant (ap (λ s. is_run s.setting.runs c.args.r.0) c.self.view_is ∙ c.requires.run) (sym c.get.ensures ∙ ap option_copied c.unwrap-progress.ensures) c.push.ensures.items c.push.ensures.spare)
+    rw (c.set.ensures.items, c.register_after.ensures, c.command-job.ensures, ap (λ s. command_at s.setting.runs c.args.r.0 c.args.k) (sym c.self.view_is))
+    (answers_beside _ _ _ _ _ _ c.args.k c.args.answer c.args.r _ _ c.self.invariant
+    (ap (λ s. is_run s.setting.runs c.args.r.0) c.self.view_is ∙ c.requires.run)
+    (sym c.get.ensures ∙ ap option_copied c.unwrap-progress.ensures) c.push.ensures.items c.push.ensures.spare)
 
 pub overflow_add-progress : goal.overflow_add-progress
 overflow_add-progress c =

@@ -13,4 +13,6 @@ pub bring_home-made-requires : goal.bring_home-made-requires
 bring_home-made-requires g c = last_kept c.hands.hub.places c.hands.grips.items c.pop.new.self.items c.in-Some-hand.grip (c.in-Some.ensures.items ∙ ap (λ h. c.pop.new.self.items ++ h ∷ []) c.in-Some-hand.is) c.hands.invariant
 
 pub hands-preserved : goal.hands-preserved
-hands-preserved g c = one_leaves c.hands.hub.places c.bring_home-made.new.hub.places c.hands.grips.items c.pop.new.self.items c.in-Some-hand.grip c.bring_home-made.ensures.home.0 (c.in-Some.ensures.items ∙ ap (λ h. c.pop.new.self.items ++ h ∷ []) c.in-Some-hand.is) c.hands.invariant c.bring_home-made.ensures.home.1
+hands-preserved g c =
+    one_leaves c.hands.hub.places c.bring_home-made.new.hub.places c.hands.grips.items c.pop.new.self.items c.in-Some-hand.grip c.bring_home-made.ensures.home.0
+    (c.in-Some.ensures.items ∙ ap (λ h. c.pop.new.self.items ++ h ∷ []) c.in-Some-hand.is) c.hands.invariant c.bring_home-made.ensures.home.1

@@ -8,4 +8,6 @@ invariant_of-self c =
     let known : c.args.routine < length c.self.inside.script.routines.items = search rules in
     let before : c.self.inside.script.windows.items ≡ c.pop.new.self.items ++ c.in-Some.window ∷ [] = search rules in
     let after : c.push-kept.new.self.items ≡ c.pop.new.self.items ++ c.append_run-added.new.window ∷ [] = search rules in
-    run_or_same c.self.inside.script c.push-kept.new.self c.pop.new.self c.in-Some.window c.append_run-added.new.window c.args.routine c.args.follows c.append_run-added.result c.self.invariant known before after c.append_run-added.ensures.appended c.append_run-added.ensures.few c.append_run-added.ensures.follows c.append_run-added.ensures.rest c.append_run-added.ensures.same
+    run_or_same c.self.inside.script c.push-kept.new.self c.pop.new.self c.in-Some.window c.append_run-added.new.window c.args.routine c.args.follows
+    c.append_run-added.result c.self.invariant known before after c.append_run-added.ensures.appended c.append_run-added.ensures.few
+    c.append_run-added.ensures.follows c.append_run-added.ensures.rest c.append_run-added.ensures.same

@@ -17,7 +17,9 @@ returns-then-len-clause-begun c =
     let room : length c.self.inside.script.windows.items < 288 = search rules in
     let later : is_later_after (slice_get c.self.inside.script.windows.items (length c.self.inside.script.windows.items - 1)) c.args.at ≡ true = search rules in
     let new : IsNewWindow c.args.at c.args.probes (record { at = c.args.at; seed = 1; probes = c.args.probes; turns = c.new.result; runs = c.new-2.result }) = search rules in
-    begun_if_shown c.self.inside.script c.args.self.now (record { devices = c.self.inside.script.devices; routines = c.self.inside.script.routines; windows = c.append.new.windows }) c.args.at c.args.probes _ c.append.result c.self.view_is new later room c.append.ensures.number c.append.ensures.appended refl refl
+    begun_if_shown c.self.inside.script c.args.self.now
+    (record { devices = c.self.inside.script.devices; routines = c.self.inside.script.routines; windows = c.append.new.windows }) c.args.at c.args.probes _
+    c.append.result c.self.view_is new later room c.append.ensures.number c.append.ensures.appended refl refl
 
 pub returns-in-Ok-clause-begun : goal.returns-in-Ok-clause-begun
 returns-in-Ok-clause-begun c =

@@ -5,22 +5,103 @@ use Rattle.std.proofs.Common.{ap, refl, sym, ◌∙◌}
 use Rattle.std.specs.Prelude.{slice_set}
 
 pub unreachable-requires : goal.unreachable-requires
-unreachable-requires g c = probe_not_refused _ c.give_probe-given.new.self c.in-Some.grip c.act.result _ (holds _ _ c.index_mut.result.now c.in-Some.grip c.self.view_is c.self.invariant c.kept.ensures.size c.requires.going c.requires.holds c.index_mut.ensures.value (sym c.replace.ensures.value ∙ c.in-Some.is)) c.act.ensures.slip c.act.ensures.task c.in-Err.ensures.given.0
+unreachable-requires g c =
+    probe_not_refused _ c.give_probe-given.new.self c.in-Some.grip c.act.result _
+    (holds _ _ c.index_mut.result.now c.in-Some.grip c.self.view_is c.self.invariant c.kept.ensures.size c.requires.going c.requires.holds
+    c.index_mut.ensures.value (sym c.replace.ensures.value ∙ c.in-Some.is)) c.act.ensures.slip c.act.ensures.task c.in-Err.ensures.given.0
 
 pub unreachable-requires-in-None : goal.unreachable-requires-in-None
-unreachable-requires-in-None g c = hand_never (record { hub = c.self.inside.hub; grips = c.self.inside.grips.items; rounds = c.self.inside.rounds; place = c.self.inside.place; moves = c.self.inside.moves }) 0 c.index_mut.result.now (full_now _ (record { hub = c.self.inside.hub; grips = c.self.inside.grips.items; rounds = c.self.inside.rounds; place = c.self.inside.place; moves = c.self.inside.moves }) 0 c.self.view_is c.requires.holds) c.index_mut.ensures.value (sym c.replace.ensures.value ∙ c.in-None.is)
+unreachable-requires-in-None g c =
+    hand_never (record {
+      hub = c.self.inside.hub;
+      grips = c.self.inside.grips.items;
+      rounds = c.self.inside.rounds;
+      place = c.self.inside.place;
+      moves = c.self.inside.moves;
+    }) 0 c.index_mut.result.now (full_now _ (record {
+      hub = c.self.inside.hub;
+      grips = c.self.inside.grips.items;
+      rounds = c.self.inside.rounds;
+      place = c.self.inside.place;
+      moves = c.self.inside.moves;
+    }) 0 c.self.view_is c.requires.holds) c.index_mut.ensures.value (sym c.replace.ensures.value ∙ c.in-None.is)
 
 pub invariant_of-self : goal.invariant_of-self
-invariant_of-self g c = back_keeps _ _ c.in-Some.grip c.act.result _ (record { held = holds _ _ c.index_mut.result.now c.in-Some.grip c.self.view_is c.self.invariant c.kept.ensures.size c.requires.going c.requires.holds c.index_mut.ensures.value (sym c.replace.ensures.value ∙ c.in-Some.is); slip = c.act.ensures.slip; step = c.in-Ok.ensures.given.0; places = c.in-Ok.ensures.given.1; window = c.in-Ok.ensures.window; grips = ap (λ x. slice_set c.self.inside.grips.items 0 x) c.replace.ensures.after; rounds = refl; place = refl; moves = refl })
+invariant_of-self g c =
+    back_keeps _ _ c.in-Some.grip c.act.result _ (record {
+      held =
+          holds _ _ c.index_mut.result.now c.in-Some.grip c.self.view_is c.self.invariant c.kept.ensures.size c.requires.going c.requires.holds
+          c.index_mut.ensures.value (sym c.replace.ensures.value ∙ c.in-Some.is);
+      slip = c.act.ensures.slip;
+      step = c.in-Ok.ensures.given.0;
+      places = c.in-Ok.ensures.given.1;
+      window = c.in-Ok.ensures.window;
+      grips = ap (λ x. slice_set c.self.inside.grips.items 0 x) c.replace.ensures.after;
+      rounds = refl;
+      place = refl;
+      moves = refl;
+    })
 
 pub returns-clause-stepped : goal.returns-clause-stepped
-returns-clause-stepped g c = back_stepped_now _ _ _ c.in-Some.grip c.act.result _ c.self.view_is (record { held = holds _ _ c.index_mut.result.now c.in-Some.grip c.self.view_is c.self.invariant c.kept.ensures.size c.requires.going c.requires.holds c.index_mut.ensures.value (sym c.replace.ensures.value ∙ c.in-Some.is); slip = c.act.ensures.slip; step = c.in-Ok.ensures.given.0; places = c.in-Ok.ensures.given.1; window = c.in-Ok.ensures.window; grips = ap (λ x. slice_set c.self.inside.grips.items 0 x) c.replace.ensures.after; rounds = refl; place = refl; moves = refl })
+returns-clause-stepped g c =
+    back_stepped_now _ _ _ c.in-Some.grip c.act.result _ c.self.view_is (record {
+      held =
+          holds _ _ c.index_mut.result.now c.in-Some.grip c.self.view_is c.self.invariant c.kept.ensures.size c.requires.going c.requires.holds
+          c.index_mut.ensures.value (sym c.replace.ensures.value ∙ c.in-Some.is);
+      slip = c.act.ensures.slip;
+      step = c.in-Ok.ensures.given.0;
+      places = c.in-Ok.ensures.given.1;
+      window = c.in-Ok.ensures.window;
+      grips = ap (λ x. slice_set c.self.inside.grips.items 0 x) c.replace.ensures.after;
+      rounds = refl;
+      place = refl;
+      moves = refl;
+    })
 
 pub returns-clause-plans : goal.returns-clause-plans
-returns-clause-plans g c = back_plans_now g.D.Device.plan _ _ _ c.in-Some.grip c.act.result _ c.self.view_is (record { held = holds _ _ c.index_mut.result.now c.in-Some.grip c.self.view_is c.self.invariant c.kept.ensures.size c.requires.going c.requires.holds c.index_mut.ensures.value (sym c.replace.ensures.value ∙ c.in-Some.is); slip = c.act.ensures.slip; step = c.in-Ok.ensures.given.0; places = c.in-Ok.ensures.given.1; window = c.in-Ok.ensures.window; grips = ap (λ x. slice_set c.self.inside.grips.items 0 x) c.replace.ensures.after; rounds = refl; place = refl; moves = refl }) c.act.ensures.plan
+returns-clause-plans g c =
+    back_plans_now g.D.Device.plan _ _ _ c.in-Some.grip c.act.result _ c.self.view_is (record {
+      held =
+          holds _ _ c.index_mut.result.now c.in-Some.grip c.self.view_is c.self.invariant c.kept.ensures.size c.requires.going c.requires.holds
+          c.index_mut.ensures.value (sym c.replace.ensures.value ∙ c.in-Some.is);
+      slip = c.act.ensures.slip;
+      step = c.in-Ok.ensures.given.0;
+      places = c.in-Ok.ensures.given.1;
+      window = c.in-Ok.ensures.window;
+      grips = ap (λ x. slice_set c.self.inside.grips.items 0 x) c.replace.ensures.after;
+      rounds = refl;
+      place = refl;
+      moves = refl;
+    }) c.act.ensures.plan
 
 pub returns-clause-fewer : goal.returns-clause-fewer
-returns-clause-fewer g c = back_fewer_now _ _ _ c.in-Some.grip c.act.result _ c.self.view_is (record { held = holds _ _ c.index_mut.result.now c.in-Some.grip c.self.view_is c.self.invariant c.kept.ensures.size c.requires.going c.requires.holds c.index_mut.ensures.value (sym c.replace.ensures.value ∙ c.in-Some.is); slip = c.act.ensures.slip; step = c.in-Ok.ensures.given.0; places = c.in-Ok.ensures.given.1; window = c.in-Ok.ensures.window; grips = ap (λ x. slice_set c.self.inside.grips.items 0 x) c.replace.ensures.after; rounds = refl; place = refl; moves = refl })
+returns-clause-fewer g c =
+    back_fewer_now _ _ _ c.in-Some.grip c.act.result _ c.self.view_is (record {
+      held =
+          holds _ _ c.index_mut.result.now c.in-Some.grip c.self.view_is c.self.invariant c.kept.ensures.size c.requires.going c.requires.holds
+          c.index_mut.ensures.value (sym c.replace.ensures.value ∙ c.in-Some.is);
+      slip = c.act.ensures.slip;
+      step = c.in-Ok.ensures.given.0;
+      places = c.in-Ok.ensures.given.1;
+      window = c.in-Ok.ensures.window;
+      grips = ap (λ x. slice_set c.self.inside.grips.items 0 x) c.replace.ensures.after;
+      rounds = refl;
+      place = refl;
+      moves = refl;
+    })
 
 pub returns-clause-others : goal.returns-clause-others
-returns-clause-others g c = back_others _ _ _ c.in-Some.grip c.act.result _ c.self.view_is (record { held = holds _ _ c.index_mut.result.now c.in-Some.grip c.self.view_is c.self.invariant c.kept.ensures.size c.requires.going c.requires.holds c.index_mut.ensures.value (sym c.replace.ensures.value ∙ c.in-Some.is); slip = c.act.ensures.slip; step = c.in-Ok.ensures.given.0; places = c.in-Ok.ensures.given.1; window = c.in-Ok.ensures.window; grips = ap (λ x. slice_set c.self.inside.grips.items 0 x) c.replace.ensures.after; rounds = refl; place = refl; moves = refl })
+returns-clause-others g c =
+    back_others _ _ _ c.in-Some.grip c.act.result _ c.self.view_is (record {
+      held =
+          holds _ _ c.index_mut.result.now c.in-Some.grip c.self.view_is c.self.invariant c.kept.ensures.size c.requires.going c.requires.holds
+          c.index_mut.ensures.value (sym c.replace.ensures.value ∙ c.in-Some.is);
+      slip = c.act.ensures.slip;
+      step = c.in-Ok.ensures.given.0;
+      places = c.in-Ok.ensures.given.1;
+      window = c.in-Ok.ensures.window;
+      grips = ap (λ x. slice_set c.self.inside.grips.items 0 x) c.replace.ensures.after;
+      rounds = refl;
+      place = refl;
+      moves = refl;
+    })

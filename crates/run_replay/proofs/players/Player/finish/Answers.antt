@@ -8,7 +8,9 @@ draws-init g c = (starts c.args.self.now c.args.seed c.new-draws.result c.live_c
 
 pub draws-preserved : goal.draws-preserved
 draws-preserved g c = (
-  draws_on c.args.self.now c.draws.self c.pick_from.new.self c.args.seed c.draws.draws c.below-place.new.self c.draws.live c.live_count-live-in-draws.result c.below-place.result c.draws.invariant.0 c.kept-in-draws.ensures.player c.pick_from.ensures.rounds (omega (arith, c.draws-test.true)) c.below-place.ensures.state c.below-place.ensures.number c.pick_from.ensures.picked c.live_count-live-in-draws.ensures,
+  draws_on c.args.self.now c.draws.self c.pick_from.new.self c.args.seed c.draws.draws c.below-place.new.self c.draws.live c.live_count-live-in-draws.result
+      c.below-place.result c.draws.invariant.0 c.kept-in-draws.ensures.player c.pick_from.ensures.rounds
+      (omega (arith, c.draws-test.true)) c.below-place.ensures.state c.below-place.ensures.number c.pick_from.ensures.picked c.live_count-live-in-draws.ensures,
   same_window c.args.self.now.hub c.draws.self.hub c.pick_from.new.self.hub c.draws.invariant.1 c.pick_from.ensures.window,
   λ plans have. c.pick_from.ensures.plans plans (c.draws.invariant.2 plans have),
 )

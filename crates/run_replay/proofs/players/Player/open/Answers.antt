@@ -26,7 +26,9 @@ actors-preserved g c = elim c.if-not-has_ended.branch [
         omega (arith, size, c.actors.invariant.1),
         omega (arith, room, c.actors.invariant.2),
         subst (λ word. AreLiveBelow c.in-Ok-open.hands word (c.actors.actor + 1)) (sym w.runs-is)
-            (one_lives c.in-Ok-open.hands c.actors.runs w.with_run-runs.result c.actors.actor (c.actors.actor + 1) c.actors.invariant.3 (sym c.has_ended.ensures ∙ w.if-not-has_ended.true) (omega (arith, c.actors-test.true, c.run_count-count.ensures, few, own)) w.with_run-runs.ensures.others w.with_run-runs.ensures.own refl),
+            (one_lives c.in-Ok-open.hands c.actors.runs w.with_run-runs.result c.actors.actor (c.actors.actor + 1) c.actors.invariant.3
+            (sym c.has_ended.ensures ∙ w.if-not-has_ended.true)
+            (omega (arith, c.actors-test.true, c.run_count-count.ensures, few, own)) w.with_run-runs.ensures.others w.with_run-runs.ensures.own refl),
       )
   | else-not-has_ended w ↦
       let size = ap (λ v. vec_len v) w.actors-is in
@@ -47,5 +49,10 @@ pub invariant_of-result : goal.invariant_of-result
 invariant_of-result g c =
     let hands = c.kept.ensures.player.kept.actors in
     let own = ap (λ (h : OpenHub _). length h.setting.runs) c.in-Ok-open.ensures.opened.own in
-    let all : c.actors.actor ≡ length c.in-Ok-open.hands.grips = omega (arith, c.actors-test.false, c.actors.auto.actor-end, c.run_count-count.ensures, hands, own) in
-    (c.actors.invariant.0 ∙ ap (λ n. filter (λ a. not (is_ended c.in-Ok-open.hands a)) (range_with_len 0 n)) all, few_at_first c.in-Ok-open.hands c.kept.ensures.player.kept (ap (λ (p : Play). p.moves) c.in-Ok-open.ensures.opened.start) c.in-Ok-open.ensures.opened.hands, all_live c.in-Ok-open.hands c.actors.runs c.actors.actor c.kept.ensures.player.kept all c.actors.invariant.3)
+    let all : c.actors.actor
+    ≡ length c.in-Ok-open.hands.grips = omega (arith, c.actors-test.false, c.actors.auto.actor-end, c.run_count-count.ensures, hands, own) in (
+      c.actors.invariant.0 ∙ ap (λ n. filter (λ a. not (is_ended c.in-Ok-open.hands a)) (range_with_len 0 n)) all,
+      few_at_first c.in-Ok-open.hands c.kept.ensures.player.kept
+          (ap (λ (p : Play). p.moves) c.in-Ok-open.ensures.opened.start) c.in-Ok-open.ensures.opened.hands,
+      all_live c.in-Ok-open.hands c.actors.runs c.actors.actor c.kept.ensures.player.kept all c.actors.invariant.3,
+    )

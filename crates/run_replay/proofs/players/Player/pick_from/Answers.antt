@@ -11,25 +11,38 @@ next_free-at-requires g c = record { low = first_low c.args.self.now c.args.plac
 
 pub ahead-init : goal.ahead-init
 ahead-init g c = (
-  numbers_passed c.args.self.now c.args.self.now (from_place c.args.place (are_live c.args.self.now)) (those c.args.self.now 0 c.live_at-first.result) (length c.args.self.now.grips) c.live_at-first.result c.next_free-at.result c.next_free-at.ensures.ahead (begins c.args.self.now c.args.place c.live_at-first.result c.kept.ensures.player c.live_at-first.ensures) c.next_free-at.ensures.passed,
+  numbers_passed c.args.self.now c.args.self.now (from_place c.args.place (are_live c.args.self.now)) (those c.args.self.now 0 c.live_at-first.result)
+      (length c.args.self.now.grips) c.live_at-first.result c.next_free-at.result c.next_free-at.ensures.ahead
+      (begins c.args.self.now c.args.place c.live_at-first.result c.kept.ensures.player c.live_at-first.ensures) c.next_free-at.ensures.passed,
   c.next_free-at.ensures.live,
   window_stays c.args.self.now.hub,
   λ plans have. have,
 )
 
 pub returns-then-not-waits_at-clause-picked : goal.returns-then-not-waits_at-clause-picked
-returns-then-not-waits_at-clause-picked g c = number_moves c.args.self.now c.ahead.self (from_place c.args.place (are_live c.args.self.now)) (those c.args.self.now 0 c.live_at-first.result) (length c.args.self.now.grips) c.waits_at.new.self c.ahead.at c.waits_at.ensures.picked.picked c.ahead.invariant.0 (low_at c.args.self.now c.ahead.self c.ahead.at _ _ c.kept.ensures.player c.ahead.invariant.0 (c.ahead.invariant.1 (omega (arith, c.ahead-test.true)))) (c.ahead.invariant.1 (omega (arith, c.ahead-test.true))) c.waits_at.ensures.picked.picks (c.waits_at.ensures.picked.waits_so ∙ c.if-not-waits_at.true)
+returns-then-not-waits_at-clause-picked g c =
+    number_moves c.args.self.now c.ahead.self (from_place c.args.place (are_live c.args.self.now)) (those c.args.self.now 0 c.live_at-first.result)
+    (length c.args.self.now.grips) c.waits_at.new.self c.ahead.at c.waits_at.ensures.picked.picked c.ahead.invariant.0
+    (low_at c.args.self.now c.ahead.self c.ahead.at _ _ c.kept.ensures.player c.ahead.invariant.0 (c.ahead.invariant.1 (omega (arith, c.ahead-test.true))))
+    (c.ahead.invariant.1 (omega (arith, c.ahead-test.true))) c.waits_at.ensures.picked.picks (c.waits_at.ensures.picked.waits_so ∙ c.if-not-waits_at.true)
 
 pub returns-then-not-waits_at-clause-plans : goal.returns-then-not-waits_at-clause-plans
 returns-then-not-waits_at-clause-plans g c plans have = c.waits_at.ensures.plans plans (c.ahead.invariant.3 plans have)
 
 pub returns-then-not-waits_at-clause-fewer : goal.returns-then-not-waits_at-clause-fewer
-returns-then-not-waits_at-clause-fewer g c = moves_fewer c.args.self.now c.ahead.self (from_place c.args.place (are_live c.args.self.now)) (those c.args.self.now 0 c.live_at-first.result) (length c.args.self.now.grips) c.waits_at.new.self _ c.ahead.invariant.0 (c.waits_at.ensures.fewer c.if-not-waits_at.true (c.ahead.invariant.1 (omega (arith, c.ahead-test.true))))
+returns-then-not-waits_at-clause-fewer g c =
+    moves_fewer c.args.self.now c.ahead.self (from_place c.args.place (are_live c.args.self.now)) (those c.args.self.now 0 c.live_at-first.result)
+    (length c.args.self.now.grips) c.waits_at.new.self _ c.ahead.invariant.0
+    (c.waits_at.ensures.fewer c.if-not-waits_at.true (c.ahead.invariant.1 (omega (arith, c.ahead-test.true))))
 
 pub ahead-preserved : goal.ahead-preserved
 ahead-preserved g c = (
   numbers_passed c.args.self.now c.waits_at.new.self (from_place c.args.place (are_live c.args.self.now)) (those c.args.self.now 0 c.live_at-first.result) (length c.args.self.now.grips) (c.ahead.at + 1) c.next_free-at-in-ahead.result c.next_free-at-in-ahead.ensures.ahead
-      (number_waits c.args.self.now c.ahead.self (from_place c.args.place (are_live c.args.self.now)) (those c.args.self.now 0 c.live_at-first.result) (length c.args.self.now.grips) c.waits_at.new.self c.ahead.at c.waits_at.ensures.picked.picked c.ahead.invariant.0 (low_at c.args.self.now c.ahead.self c.ahead.at _ _ c.kept.ensures.player c.ahead.invariant.0 (c.ahead.invariant.1 (omega (arith, c.ahead-test.true)))) (c.ahead.invariant.1 (omega (arith, c.ahead-test.true))) c.kept-in-ahead.ensures.player c.waits_at.ensures.rounds c.waits_at.ensures.window.rounds c.waits_at.ensures.picked.picks (c.waits_at.ensures.picked.waits_so ∙ c.if-not-waits_at.false))
+      (number_waits c.args.self.now c.ahead.self (from_place c.args.place (are_live c.args.self.now)) (those c.args.self.now 0 c.live_at-first.result)
+      (length c.args.self.now.grips) c.waits_at.new.self c.ahead.at c.waits_at.ensures.picked.picked c.ahead.invariant.0
+      (low_at c.args.self.now c.ahead.self c.ahead.at _ _ c.kept.ensures.player c.ahead.invariant.0 (c.ahead.invariant.1 (omega (arith, c.ahead-test.true))))
+      (c.ahead.invariant.1 (omega (arith, c.ahead-test.true))) c.kept-in-ahead.ensures.player c.waits_at.ensures.rounds c.waits_at.ensures.window.rounds
+      c.waits_at.ensures.picked.picks (c.waits_at.ensures.picked.waits_so ∙ c.if-not-waits_at.false))
       c.next_free-at-in-ahead.ensures.passed,
   c.next_free-at-in-ahead.ensures.live,
   same_window c.args.self.now.hub c.ahead.self.hub c.waits_at.new.self.hub c.ahead.invariant.2 c.waits_at.ensures.window,
@@ -47,13 +60,20 @@ behind-init g c =
     )
 
 pub returns-then-not-waits_at-2-clause-picked : goal.returns-then-not-waits_at-2-clause-picked
-returns-then-not-waits_at-2-clause-picked g c = number_moves c.args.self.now c.behind.self (from_place c.args.place (are_live c.args.self.now)) [] c.live_at-first.result c.waits_at-in-behind.new.self c.behind.at c.waits_at-in-behind.ensures.picked.picked c.behind.invariant.0 (omega (arith, c.behind-test.true)) (c.behind.invariant.1 (let few = first_low c.args.self.now c.args.place c.live_at-first.result c.kept.ensures.player c.live_at-first.ensures in omega (arith, few, c.behind-test.true))) c.waits_at-in-behind.ensures.picked.picks (c.waits_at-in-behind.ensures.picked.waits_so ∙ c.if-not-waits_at-2.true)
+returns-then-not-waits_at-2-clause-picked g c =
+    number_moves c.args.self.now c.behind.self (from_place c.args.place (are_live c.args.self.now)) [] c.live_at-first.result c.waits_at-in-behind.new.self
+    c.behind.at c.waits_at-in-behind.ensures.picked.picked c.behind.invariant.0 (omega (arith, c.behind-test.true))
+    (c.behind.invariant.1 (let few = first_low c.args.self.now c.args.place c.live_at-first.result c.kept.ensures.player c.live_at-first.ensures in
+    omega (arith, few, c.behind-test.true))) c.waits_at-in-behind.ensures.picked.picks (c.waits_at-in-behind.ensures.picked.waits_so ∙ c.if-not-waits_at-2.true)
 
 pub returns-then-not-waits_at-2-clause-plans : goal.returns-then-not-waits_at-2-clause-plans
 returns-then-not-waits_at-2-clause-plans g c plans have = c.waits_at-in-behind.ensures.plans plans (c.behind.invariant.3 plans have)
 
 pub returns-then-not-waits_at-2-clause-fewer : goal.returns-then-not-waits_at-2-clause-fewer
-returns-then-not-waits_at-2-clause-fewer g c = moves_fewer c.args.self.now c.behind.self (from_place c.args.place (are_live c.args.self.now)) [] c.live_at-first.result c.waits_at-in-behind.new.self _ c.behind.invariant.0 (c.waits_at-in-behind.ensures.fewer c.if-not-waits_at-2.true (c.behind.invariant.1 (let few = first_low c.args.self.now c.args.place c.live_at-first.result c.kept.ensures.player c.live_at-first.ensures in omega (arith, few, c.behind-test.true))))
+returns-then-not-waits_at-2-clause-fewer g c =
+    moves_fewer c.args.self.now c.behind.self (from_place c.args.place (are_live c.args.self.now)) [] c.live_at-first.result c.waits_at-in-behind.new.self _
+    c.behind.invariant.0 (c.waits_at-in-behind.ensures.fewer c.if-not-waits_at-2.true (c.behind.invariant.1 (let few =
+    first_low c.args.self.now c.args.place c.live_at-first.result c.kept.ensures.player c.live_at-first.ensures in omega (arith, few, c.behind-test.true))))
 
 pub next_free-at-requires-in-behind : goal.next_free-at-requires-in-behind
 next_free-at-requires-in-behind g c = let few = first_low c.args.self.now c.args.place c.live_at-first.result c.kept.ensures.player c.live_at-first.ensures in record { low = omega (arith, few, c.behind-test.true) }
@@ -61,7 +81,11 @@ next_free-at-requires-in-behind g c = let few = first_low c.args.self.now c.args
 pub behind-preserved : goal.behind-preserved
 behind-preserved g c = (
   numbers_passed c.args.self.now c.waits_at-in-behind.new.self (from_place c.args.place (are_live c.args.self.now)) [] c.live_at-first.result (c.behind.at + 1) c.next_free-at-in-behind.result c.next_free-at-in-behind.ensures.ahead
-      (number_waits c.args.self.now c.behind.self (from_place c.args.place (are_live c.args.self.now)) [] c.live_at-first.result c.waits_at-in-behind.new.self c.behind.at c.waits_at-in-behind.ensures.picked.picked c.behind.invariant.0 (omega (arith, c.behind-test.true)) (c.behind.invariant.1 (let few = first_low c.args.self.now c.args.place c.live_at-first.result c.kept.ensures.player c.live_at-first.ensures in omega (arith, few, c.behind-test.true))) c.kept-in-behind.ensures.player c.waits_at-in-behind.ensures.rounds c.waits_at-in-behind.ensures.window.rounds c.waits_at-in-behind.ensures.picked.picks (c.waits_at-in-behind.ensures.picked.waits_so ∙ c.if-not-waits_at-2.false))
+      (number_waits c.args.self.now c.behind.self (from_place c.args.place (are_live c.args.self.now)) [] c.live_at-first.result c.waits_at-in-behind.new.self
+      c.behind.at c.waits_at-in-behind.ensures.picked.picked c.behind.invariant.0 (omega (arith, c.behind-test.true))
+      (c.behind.invariant.1 (let few = first_low c.args.self.now c.args.place c.live_at-first.result c.kept.ensures.player c.live_at-first.ensures in
+      omega (arith, few, c.behind-test.true))) c.kept-in-behind.ensures.player c.waits_at-in-behind.ensures.rounds c.waits_at-in-behind.ensures.window.rounds
+      c.waits_at-in-behind.ensures.picked.picks (c.waits_at-in-behind.ensures.picked.waits_so ∙ c.if-not-waits_at-2.false))
       c.next_free-at-in-behind.ensures.passed,
   c.next_free-at-in-behind.ensures.live,
   same_window c.args.self.now.hub c.behind.self.hub c.waits_at-in-behind.new.self.hub c.behind.invariant.2 c.waits_at-in-behind.ensures.window,

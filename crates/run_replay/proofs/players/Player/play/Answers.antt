@@ -9,7 +9,14 @@ pub picks-init : goal.picks-init
 picks-init g c = ((λ acts. (acts, stays _ _ _ (λ course. refl))), window_stays _, refl, (λ plans have. have))
 
 pub picks-preserved : goal.picks-preserved
-picks-preserved g c = (played_next c.args.self.now c.picks.self c.waits_at.new.self c.args.self.now.rounds c.picks.actor-index _ c.args.picks.now c.waits_at.ensures.picked.picked c.picks-test.true c.picks.invariant.2 c.picks.invariant.0 c.waits_at.ensures.picked.picks, same_window c.args.self.now.hub c.picks.self.hub c.waits_at.new.self.hub c.picks.invariant.1 c.waits_at.ensures.window, c.waits_at.ensures.rounds ∙ c.picks.invariant.2, (λ plans have. c.waits_at.ensures.plans plans (c.picks.invariant.3 plans have)))
+picks-preserved g c = (
+  played_next c.args.self.now c.picks.self c.waits_at.new.self c.args.self.now.rounds c.picks.actor-index _ c.args.picks.now c.waits_at.ensures.picked.picked
+      c.picks-test.true c.picks.invariant.2 c.picks.invariant.0 c.waits_at.ensures.picked.picks,
+  same_window c.args.self.now.hub c.picks.self.hub c.waits_at.new.self.hub c.picks.invariant.1 c.waits_at.ensures.window,
+  c.waits_at.ensures.rounds
+      ∙ c.picks.invariant.2,
+  (λ plans have. c.waits_at.ensures.plans plans (c.picks.invariant.3 plans have)),
+)
 
 pub picks-preserved-then-is_blocked : goal.picks-preserved-then-is_blocked
 picks-preserved-then-is_blocked g c = (

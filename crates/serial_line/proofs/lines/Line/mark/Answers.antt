@@ -23,8 +23,14 @@ invariant_of-self c =
       labels = c.self.invariant.labels;
       label_room = c.self.invariant.label_room;
       sealed = search rules;
-      front = c.self.invariant.front ∙ sym (front_stays c.self.inside.entries.items c.in-Some.at c.touch.new.self c.index_mut.result.now (place_told (Ran c.args.run) c.self.inside.entries.items c.in-Some.at c.index_mut.result.now told).0 (stays_open c.touch.new.self c.index_mut.result.now c.touch.ensures.item c.touch.ensures.ended ∙ ap is_open_run c.index_mut.ensures.value));
-      places = places_stay c.self.inside.entries.items _ c.self.inside.places (same_items c.self.inside.entries.items c.in-Some.at c.touch.new.self c.index_mut.result.now (place_told (Ran c.args.run) c.self.inside.entries.items c.in-Some.at c.index_mut.result.now told).0 (c.touch.ensures.item ∙ ap (λ m. m.item) c.index_mut.ensures.value)) c.self.invariant.places;
+      front =
+          c.self.invariant.front ∙ sym (front_stays c.self.inside.entries.items c.in-Some.at c.touch.new.self c.index_mut.result.now
+          (place_told (Ran c.args.run) c.self.inside.entries.items c.in-Some.at c.index_mut.result.now told).0
+          (stays_open c.touch.new.self c.index_mut.result.now c.touch.ensures.item c.touch.ensures.ended ∙ ap is_open_run c.index_mut.ensures.value));
+      places =
+          places_stay c.self.inside.entries.items _ c.self.inside.places (same_items c.self.inside.entries.items c.in-Some.at c.touch.new.self
+          c.index_mut.result.now (place_told (Ran c.args.run) c.self.inside.entries.items c.in-Some.at c.index_mut.result.now told).0
+          (c.touch.ensures.item ∙ ap (λ m. m.item) c.index_mut.ensures.value)) c.self.invariant.places;
     }
 
 pub returns-in-Some-clause-marks : goal.returns-in-Some-clause-marks

@@ -51,7 +51,10 @@ items-preserved c =
     elim c.if-before-at.branch [
       | then-before-at w ↦
           let flag = flag_is c.args.before.now c.items.at true within w.if-before-at.true in (
-            ap (λ s. s.marks) w.self-is ∙ passed_more c.args.before.now c.args.self.now.marks w.bring.new.self.marks c.items.at item.0 c.requires.size flag item.1 inside (w.bring.ensures.marks ∙ (λ k. take (c.items.invariant.1 k) (c.items.invariant.0 k) ++ brought (c.items.at - c.items.invariant.1 k) (drop (c.items.invariant.1 k) (c.items.invariant.0 k)))) ∙ ap (λ j. partly j c.args.before.now c.args.self.now.marks) (further c.items.at),
+            ap (λ s. s.marks) w.self-is ∙ passed_more c.args.before.now c.args.self.now.marks w.bring.new.self.marks c.items.at item.0 c.requires.size flag
+                item.1 inside
+                (w.bring.ensures.marks ∙ (λ k. take (c.items.invariant.1 k) (c.items.invariant.0 k) ++ brought (c.items.at - c.items.invariant.1 k)
+                (drop (c.items.invariant.1 k) (c.items.invariant.0 k)))) ∙ ap (λ j. partly j c.args.before.now c.args.self.now.marks) (further c.items.at),
             w.done-is ∙ ap (λ j. j + 1) c.items.invariant.1 ∙ sym (size_more c.args.before.now c.args.self.now.marks c.items.at item.0 flag item.1) ∙ ap (λ j. length (front_chosen j c.args.before.now c.args.self.now.marks)) (further c.items.at),
             ap (λ s. s.spare) w.self-is ∙ w.bring.ensures.spare ∙ c.items.invariant.2,
             ap (λ s. length s.marks) w.self-is ∙ ap length w.bring.ensures.marks ∙ length_moved c.items.done (c.items.at - c.items.done) c.items.self.marks ∙ c.items.invariant.3,

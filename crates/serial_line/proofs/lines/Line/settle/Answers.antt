@@ -24,7 +24,10 @@ invariant_of-self c =
       label_room = c.self.invariant.label_room;
       sealed = search rules;
       front = c.front_from-self-inside.ensures ∙ ap front_of c.as_slice.ensures.value;
-      places = places_stay c.self.inside.entries.items _ c.self.inside.places (same_items c.self.inside.entries.items c.in-Some.at c.settle.new.self c.index_mut.result.now (place_told (Ran c.args.run) c.self.inside.entries.items c.in-Some.at c.index_mut.result.now told).0 (ap (λ m. m.item) c.settle.ensures ∙ ap (λ m. m.item) c.index_mut.ensures.value)) c.self.invariant.places;
+      places =
+          places_stay c.self.inside.entries.items _ c.self.inside.places (same_items c.self.inside.entries.items c.in-Some.at c.settle.new.self
+          c.index_mut.result.now (place_told (Ran c.args.run) c.self.inside.entries.items c.in-Some.at c.index_mut.result.now told).0
+          (ap (λ m. m.item) c.settle.ensures ∙ ap (λ m. m.item) c.index_mut.ensures.value)) c.self.invariant.places;
     }
 
 pub returns-in-Some-clause-marks : goal.returns-in-Some-clause-marks

@@ -24,7 +24,10 @@ devices-preserved c =
     let size = c.devices.invariant.size in
     let within : c.in-Some.d.0 < length c.devices.self-inside.slots.items = omega (arith, there, size) in
     let next : IsFirstFrom (is_passed c.args.s.now.table.now (runs_of c.args.s.now.roster.now) c.args.r.0 c.args.x.0) c.devices.from.0 (Some c.in-Some.d.0) =
-    next_alike (is_with_access c.args.s.now.table.now c.args.x.0 c.devices_to_pass-devices.result) (is_passed c.args.s.now.table.now (runs_of c.args.s.now.roster.now) c.args.r.0 c.args.x.0) (λ e. c.devices_to_pass-devices.ensures.devices e ∙ ap (λ b. has_access c.args.x.0 (accesses_at c.args.s.now.table.now e) && b) (c.requires.followed e)) c.devices.from.0 c.in-Some.d.0 c.in-Some.ensures.next in
+    next_alike (is_with_access c.args.s.now.table.now c.args.x.0 c.devices_to_pass-devices.result)
+    (is_passed c.args.s.now.table.now (runs_of c.args.s.now.roster.now) c.args.r.0 c.args.x.0)
+    (λ e. c.devices_to_pass-devices.ensures.devices e ∙ ap (λ b. has_access c.args.x.0 (accesses_at c.args.s.now.table.now e) && b) (c.requires.followed e))
+    c.devices.from.0 c.in-Some.d.0 c.in-Some.ensures.next in
     let own : Some c.find-access.result ≡ access_of c.args.x.0 (accesses_at c.args.s.now.table.now c.in-Some.d.0) = sym c.find-access.ensures in
     let grown : c.max-whole.result ≡ max c.devices.whole c.find-access.result.to = search rules in
     record {
@@ -34,10 +37,14 @@ devices-preserved c =
           fold_next (changed_on (slot_passed c.args.s.now.table.now c.is_doomed-doomed.result c.args.x.0)) (is_passed c.args.s.now.table.now (runs_of c.args.s.now.roster.now) c.args.r.0 c.args.x.0)
           (changed (slot_passed c.args.s.now.table.now c.is_doomed-doomed.result c.args.x.0) (devices_passed c.args.s.now.table.now (runs_of c.args.s.now.roster.now) c.args.r.0 c.args.x.0) c.self.inside.slots.items)
           (length c.args.s.now.table.now) c.devices.from.0 c.in-Some.d.0 c.devices.self-inside.slots.items _ next.0 there next.1 next.2
-          (changed_is (slot_passed c.args.s.now.table.now c.is_doomed-doomed.result c.args.x.0) c.devices.self-inside.slots.items c.in-Some.d.0 c.index_mut-in-Some.result.now c.pass.new.self within c.index_mut-in-Some.ensures.value (c.pass.ensures ∙ ap (λ o. slot_behind c.is_doomed-doomed.result o c.index_mut-in-Some.result.now) own))
+          (changed_is (slot_passed c.args.s.now.table.now c.is_doomed-doomed.result c.args.x.0) c.devices.self-inside.slots.items c.in-Some.d.0
+          c.index_mut-in-Some.result.now c.pass.new.self within c.index_mut-in-Some.ensures.value
+          (c.pass.ensures ∙ ap (λ o. slot_behind c.is_doomed-doomed.result o c.index_mut-in-Some.result.now) own))
           c.devices.invariant.slots;
       whole =
-          fold_next (λ (t e : ℕ). max t (end_of_access (access_of c.args.x.0 (accesses_at c.args.s.now.table.now e)))) (is_passed c.args.s.now.table.now (runs_of c.args.s.now.roster.now) c.args.r.0 c.args.x.0) (whole_passed c.args.s.now.table.now (runs_of c.args.s.now.roster.now) c.args.r.0 c.args.x.0)
+          fold_next (λ (t e : ℕ). max t (end_of_access (access_of c.args.x.0 (accesses_at c.args.s.now.table.now e))))
+          (is_passed c.args.s.now.table.now (runs_of c.args.s.now.roster.now) c.args.r.0 c.args.x.0)
+          (whole_passed c.args.s.now.table.now (runs_of c.args.s.now.roster.now) c.args.r.0 c.args.x.0)
           (length c.args.s.now.table.now) c.devices.from.0 c.in-Some.d.0 c.devices.whole _ next.0 there next.1 next.2 (grown ∙ ap (λ o. max c.devices.whole (end_of_access o)) own) c.devices.invariant.whole;
     }
 
@@ -46,7 +53,10 @@ returns-clause-slots c =
     fold_done (changed_on (slot_passed c.args.s.now.table.now c.is_doomed-doomed.result c.args.x.0)) (is_passed c.args.s.now.table.now (runs_of c.args.s.now.roster.now) c.args.r.0 c.args.x.0)
     (changed (slot_passed c.args.s.now.table.now c.is_doomed-doomed.result c.args.x.0) (devices_passed c.args.s.now.table.now (runs_of c.args.s.now.roster.now) c.args.r.0 c.args.x.0) c.self.inside.slots.items)
     (length c.args.s.now.table.now) c.devices.from.0 c.devices.self-inside.slots.items
-    (none_alike (is_with_access c.args.s.now.table.now c.args.x.0 c.devices_to_pass-devices.result) (is_passed c.args.s.now.table.now (runs_of c.args.s.now.roster.now) c.args.r.0 c.args.x.0) (λ e. c.devices_to_pass-devices.ensures.devices e ∙ ap (λ b. has_access c.args.x.0 (accesses_at c.args.s.now.table.now e) && b) (c.requires.followed e)) c.devices.from.0 c.in_default.ensures.next)
+    (none_alike (is_with_access c.args.s.now.table.now c.args.x.0 c.devices_to_pass-devices.result)
+    (is_passed c.args.s.now.table.now (runs_of c.args.s.now.roster.now) c.args.r.0 c.args.x.0)
+    (λ e. c.devices_to_pass-devices.ensures.devices e ∙ ap (λ b. has_access c.args.x.0 (accesses_at c.args.s.now.table.now e) && b) (c.requires.followed e))
+    c.devices.from.0 c.in_default.ensures.next)
     c.devices.invariant.slots
     ∙ ap (changed (slot_passed c.args.s.now.table.now c.is_doomed-doomed.result c.args.x.0) (devices_passed c.args.s.now.table.now (runs_of c.args.s.now.roster.now) c.args.r.0 c.args.x.0)) c.self.view_is
     ∙ ap (λ b. changed (slot_passed c.args.s.now.table.now b c.args.x.0) (devices_passed c.args.s.now.table.now (runs_of c.args.s.now.roster.now) c.args.r.0 c.args.x.0) c.args.self.now) c.is_doomed-doomed.ensures
@@ -55,5 +65,8 @@ pub returns-clause-whole : goal.returns-clause-whole
 returns-clause-whole c =
     fold_done (λ (t e : ℕ). max t (end_of_access (access_of c.args.x.0 (accesses_at c.args.s.now.table.now e)))) (is_passed c.args.s.now.table.now (runs_of c.args.s.now.roster.now) c.args.r.0 c.args.x.0) (whole_passed c.args.s.now.table.now (runs_of c.args.s.now.roster.now) c.args.r.0 c.args.x.0)
     (length c.args.s.now.table.now) c.devices.from.0 c.devices.whole
-    (none_alike (is_with_access c.args.s.now.table.now c.args.x.0 c.devices_to_pass-devices.result) (is_passed c.args.s.now.table.now (runs_of c.args.s.now.roster.now) c.args.r.0 c.args.x.0) (λ e. c.devices_to_pass-devices.ensures.devices e ∙ ap (λ b. has_access c.args.x.0 (accesses_at c.args.s.now.table.now e) && b) (c.requires.followed e)) c.devices.from.0 c.in_default.ensures.next)
+    (none_alike (is_with_access c.args.s.now.table.now c.args.x.0 c.devices_to_pass-devices.result)
+    (is_passed c.args.s.now.table.now (runs_of c.args.s.now.roster.now) c.args.r.0 c.args.x.0)
+    (λ e. c.devices_to_pass-devices.ensures.devices e ∙ ap (λ b. has_access c.args.x.0 (accesses_at c.args.s.now.table.now e) && b) (c.requires.followed e))
+    c.devices.from.0 c.in_default.ensures.next)
     c.devices.invariant.whole
