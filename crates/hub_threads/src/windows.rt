@@ -261,8 +261,7 @@ fn in_threads<
                 match scope.spawn(job) {
                     Ok(handle) => handles.push_reserved(handle),
                     Err(refused) => {
-                        // The job, called here, makes no step, since its run has no thread: it
-                        // hands its share back.
+                        // Its run has no thread, so the job makes no step: it hands its share back.
                         door.unstarted.add(r);
                         let Spent { share } = (refused.value)();
                         all.merge(share);
