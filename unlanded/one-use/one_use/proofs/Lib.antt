@@ -1,0 +1,17 @@
+pub mod Lists
+pub mod Quiet
+pub mod Suffix
+pub mod Below
+pub mod Effects
+pub mod Parts
+pub mod Tables
+pub mod Passed
+pub mod Answers
+pub mod Commits
+pub mod Failures
+pub mod Undos
+pub mod Placings
+pub mod Dooms
+pub mod Steps
+pub mod Lineages
+pub mod Starts

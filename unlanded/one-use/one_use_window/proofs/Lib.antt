@@ -1,0 +1,12 @@
+pub mod Orders
+pub mod Told
+pub mod Commits
+pub mod Writes
+pub mod Failures
+pub mod Stands
+pub mod Undos
+pub mod Placings
+pub mod Whole
+pub mod PassedRuns
+pub mod Dooms
+pub mod Serial

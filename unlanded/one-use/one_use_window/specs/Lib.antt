@@ -1,0 +1,3 @@
+pub mod ReadDevices
+pub mod WholeWindows
+pub mod PassedRuns
