@@ -1,4 +1,0 @@
-pub mod Uses
-pub mod Walks
-pub mod Devices
-pub mod Changes

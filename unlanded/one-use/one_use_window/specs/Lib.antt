@@ -1,3 +1,0 @@
-pub mod ReadDevices
-pub mod WholeWindows
-pub mod PassedRuns
