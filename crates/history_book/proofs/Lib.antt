@@ -9,11 +9,12 @@ pub mod Counts
 pub mod Once
 pub mod OwnItems
 pub mod Searches
+pub mod Searching
 pub mod Logs
 pub mod FirstTold
-pub mod FirstPlaces
-pub mod AnswerCounts
+pub mod KnownRuns
 pub mod Told
+pub mod HistoryReads
 pub mod Followers
 pub mod GapFronts
 pub mod Sealed

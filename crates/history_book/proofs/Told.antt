@@ -1,8 +1,9 @@
 -- What the book tells of the end, the doom, the placing and the answers of a run is what the history says.
-use Rattle.history_book.proofs.FirstPlaces.{position_cons}
+use Rattle.history_book.proofs.KnownRuns.{position_cons}
 use Rattle.history_book.proofs.Snoc.{put_keeps}
 use Rattle.history_book.specs.Books.{answer_count, doom_in, doom_of, end_in, end_of, is_answer_of, placing_in, placing_of}
 use Rattle.history_book.specs.Histories.{entries_of, entry, reading}
+use Rattle.history_book.specs.Progress.{arrival_in, arrival_of, progress_in, progress_of}
 use Rattle.history_book.specs.Readings.{OfRun, PlacedAt, Reading, next_of, nothing_read, put}
 use Rattle.history_book.specs.Settings.{Setting}
 use Rattle.history_book.specs.WellFormed.{IsWellFormed, along, may_follow}
@@ -77,6 +78,16 @@ doom_told w n (Doomed q cause) r ok = told_part (λ o. o.doomed) n.run q.0 r _ c
     unsome (Some x) e = absurd (cc)
 doom_told w n (Ended q e) r ok = kept_part (λ o. o.doomed) n.run q.0 r _ refl
 
+arrival_told : (w : Setting) (n : Reading) (e : Entry) (r : ℕ) → IsTrue (may_follow w n e) → ((entry w n e).run r).arrived ≡ option_or (n.run r).arrived (arrival_in r e)
+arrival_told w n (Arrived q m) r ok = told_part (λ o. o.arrived) n.run q.0 r _ m refl (none_is (n.run q.0).arrived (grind (arith, common_steps)))
+arrival_told w n (Placed q at m) r ok = kept_part (λ o. o.arrived) n.run q.0 r _ refl
+arrival_told w n (Did q c a) r ok = kept_part (λ o. o.arrived) n.run q.0 r _ refl
+arrival_told w n (Undid q d drove) r ok = kept_part (λ o. o.arrived) n.run q.0 r _ refl
+arrival_told w n (Fell d) r ok = or_none (n.run r).arrived
+arrival_told w n (Rose d) r ok = or_none (n.run r).arrived
+arrival_told w n (Doomed q cause) r ok = kept_part (λ o. o.arrived) n.run q.0 r _ refl
+arrival_told w n (Ended q e) r ok = kept_part (λ o. o.arrived) n.run q.0 r _ refl
+
 -- the number of entries before the run's placing
 abbrev pub stamp_in : OfRun → Option ℕ
 stamp_in o = option_map (λ p. p.stamp) o.placed
@@ -122,6 +133,13 @@ doom_from w n (k ∷ h) r ok =
     doom_from w (entry w n k.entry) h r (grind (arith, common_steps))
     ∙ ap (λ o. option_or o (doom_of h r)) (doom_told w n k.entry r (grind (arith, common_steps)))
     ∙ or_or (n.run r).doomed (doom_in r k.entry) (doom_of h r)
+
+arrival_from : (w : Setting) (n : Reading) (h : List Kept) (r : ℕ) → IsTrue (along w (may_follow w) n (entries_of h)) → ((fold (entry w) n (entries_of h)).run r).arrived ≡ option_or (n.run r).arrived (arrival_of h r)
+arrival_from w n [] r ok = or_none (n.run r).arrived
+arrival_from w n (k ∷ h) r ok =
+    arrival_from w (entry w n k.entry) h r (grind (arith, common_steps))
+    ∙ ap (λ o. option_or o (arrival_of h r)) (arrival_told w n k.entry r (grind (arith, common_steps)))
+    ∙ or_or (n.run r).arrived (arrival_in r k.entry) (arrival_of h r)
 
 -- the end of a run, as its history says it
 pub end_is : (w : Setting) (h : List Kept) (r : ℕ) → IsWellFormed w (entries_of h) → end_of h r ≡ ((reading w (entries_of h)).run r).ended
@@ -183,3 +201,13 @@ answers_from w n (k ∷ h) r =
 -- .. and the number of its next command
 pub answers_are : (w : Setting) (h : List Kept) (r : ℕ) → answer_count h r ≡ next_of (reading w (entries_of h)) r
 answers_are w h r = let counted = answers_from w (nothing_read w) h r in omega (arith, counted)
+
+-- .. so what its entries say of a run is what it says
+pub progress_is : (w : Setting) (h : List Kept) (r : ℕ) → IsWellFormed w (entries_of h) → progress_in h r ≡ progress_of ((reading w (entries_of h)).run r)
+progress_is w h r ok = λ i. record {
+  arrived = sym (arrival_from w (nothing_read w) h r ok) i;
+  placed = placing_is w h r ok i;
+  answered = answers_are w h r i;
+  doomed = doom_is w h r ok i;
+  ended = end_is w h r ok i;
+}

@@ -6,5 +6,7 @@ pub mod Gaps
 pub mod Histories
 pub mod WellFormed
 pub mod Books
+pub mod Progress
 pub mod BookParts
+pub mod ReadHistories
 pub mod Sealed

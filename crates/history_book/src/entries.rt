@@ -1,4 +1,7 @@
 //! The entries of a history, with the causes and ends that they tell, and those of one step.
+ghost use Rattle.std.specs.Prelude.{◌≡◌};
+ghost use Rattle.history_book.specs.Progress.{run_in};
+
 use home_types::{Answer, DeviceNo, RunNo, Value};
 
 /// Why a run is aborted. Commands count from 0.
@@ -49,6 +52,24 @@ pub enum Entry {
     Doomed(RunNo, Cause),
     /// The run ended.
     Ended(RunNo, End),
+}
+
+impl Entry {
+    /// The run of which the entry tells.
+    #[inline(always)]
+    pub fn run(self) -> Option<RunNo>
+        ensures { result ≡ run_in self }
+    {
+        match self {
+            Entry::Arrived(r, _) => Some(r),
+            Entry::Placed(r, _, _) => Some(r),
+            Entry::Did(r, _, _) => Some(r),
+            Entry::Undid(r, _, _) => Some(r),
+            Entry::Doomed(r, _) => Some(r),
+            Entry::Ended(r, _) => Some(r),
+            Entry::Fell(_) | Entry::Rose(_) => None,
+        }
+    }
 }
 
 /// An entry of a history with its maker: the run that made the step, or 0 for the detector.

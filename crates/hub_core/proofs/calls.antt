@@ -2,7 +2,6 @@
 pub mod NewDevices
 pub mod NewHomes
 pub mod HubOpens
-pub mod Searching
 pub mod HubStates
 pub mod NextUndos
 pub mod HubChoices

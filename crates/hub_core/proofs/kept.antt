@@ -9,7 +9,7 @@ pub mod ReturnsKept
 pub mod ProbesKept
 pub mod EventsTold
 pub mod TableStands
-pub mod HubReads
+pub mod SetPlaces
 pub mod Sizes
 pub mod EndedOnce
 pub mod TableFits

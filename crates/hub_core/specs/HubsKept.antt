@@ -19,7 +19,7 @@ use Rattle.hub_core.specs.OpenHubs.{OpenHub, configuration_of, events_in, held_i
 use Rattle.window_order.specs.KeptOrders.{purpose_of}
 use Rattle.hub_core.specs.KeptByModel.{IsKeptByModel}
 use Rattle.hub_core.specs.KeptOrders.{OrderIsBeside}
-use Rattle.hub_core.specs.ReadHistories.{HistoryState}
+use Rattle.history_book.specs.ReadHistories.{HistoryState}
 use Rattle.hub_core.specs.declared.open_windows.ClosingLists.{ClosingLists}
 use Rattle.hub_core.specs.declared.open_windows.OpenWindow.TheInside.{Inside}
 use Rattle.lock_leasing.specs.Configurations.{Configuration, Grips, read_of}

@@ -1,6 +1,7 @@
 -- What the line and the table of a window ask for, and what is kept of them.
 use Rattle.command_rules.specs.Rosters.{command_at, commands_of, is_run}
 use Rattle.failure_serialization.specs.Events.{event_place}
+use Rattle.history_book.specs.ReadHistories.{HistoryState, read_in}
 use Rattle.history_book.specs.Readings.{Reading, next_of}
 use Rattle.history_book.specs.Settings.{Setting, is_weak}
 use Rattle.home_types.specs.Numbers.{CommandIndex, DeviceId, RunId}
@@ -9,7 +10,6 @@ use Rattle.home_types.specs.declared.items.Item.{Item}
 use Rattle.home_types.specs.declared.numbers.DeviceNo.{DeviceNo}
 use Rattle.home_types.specs.declared.numbers.RunNo.{RunNo}
 use Rattle.hub_core.specs.Bounds.{most_items}
-use Rattle.hub_core.specs.ReadHistories.{HistoryState, read_in}
 use Rattle.lineage_table.specs.Accesses.{has_access}
 use Rattle.lineage_table.specs.Lineages.{LineageState, accesses_at, counted_up, lineage_at, with_lineage}
 use Rattle.lock_leasing.specs.Configurations.{Grips}

@@ -18,7 +18,6 @@ pub mod OpeningRooms
 pub mod Openings
 pub mod PlannedPlaces
 pub mod PlansInTurn
-pub mod ReadHistories
 pub mod Restandings
 pub mod Steps
 pub mod WeakKept

@@ -1,7 +1,7 @@
 -- What an open hub shows, and the configuration that it stands for.
 use Rattle.device_gate.specs.declared.gates.Place.TheVariants.{Home, Out}
 use Rattle.device_gate.specs.declared.gates.Place.{Place}
-use Rattle.history_book.specs.Readings.{OfRun, Reading}
+use Rattle.history_book.specs.Readings.{Reading}
 use Rattle.history_book.specs.Settings.{Setting}
 use Rattle.history_book.specs.declared.entries.Kept.{Kept}
 use Rattle.home_types.specs.Numbers.{DeviceId, Moment}
@@ -9,11 +9,10 @@ use Rattle.hub_core.specs.HubSteps.{Carried, HubState}
 use Rattle.hub_core.specs.declared.known.DeviceCallCounts.{DeviceCallCounts}
 use Rattle.hub_core.specs.declared.known.DeviceProgress.{DeviceProgress}
 use Rattle.hub_core.specs.declared.known.Events.{Events}
-use Rattle.hub_core.specs.declared.known.RunProgress.{RunProgress}
 use Rattle.window_order.specs.declared.purposes.Purpose.TheVariants.{Command}
 use Rattle.window_order.specs.declared.purposes.Purpose.{Purpose as KeptPurpose}
 use Rattle.lock_leasing.specs.Configurations.{Configuration, Grip}
-use Rattle.std.specs.Prelude.{List, None, Option, Some, length, option_map, slice_get, slice_index_or, ℕ}
+use Rattle.std.specs.Prelude.{List, None, Option, Some, slice_get, slice_index_or, ℕ}
 use Rattle.window_order.specs.KeptOrders.{purpose_of}
 
 -- what a hub shows: what is fixed, the rounds of probes and how many windows were opened before,
@@ -80,14 +79,3 @@ hub_state_of s =
 -- where the device stands, or stood as it went out
 abbrev pub held_in : {D : Type 0} → OpenHub D → DeviceId → ℕ
 held_in s d = (progress_at s.devices d).held
-
--- what a reading says of a run, in short
-abbrev pub progress_of : OfRun → RunProgress
-progress_of o = record {
-  arrived = o.arrived;
-  placed = option_map (λ p. p.stamp) o.placed;
-  answered = length o.answers;
-  register = o.register;
-  doomed = o.doomed;
-  ended = o.ended;
-}

@@ -4,40 +4,20 @@ use Rattle.home_types.specs.HomeStates.{stand_at}
 use Rattle.home_types.specs.Listed.{Listed}
 use Rattle.home_types.specs.Numbers.{DeviceId}
 use Rattle.home_types.specs.declared.worlds.Stand.{Stand}
-use Rattle.history_book.specs.declared.entries.Kept.{Kept}
 use Rattle.hub_core.specs.Homes.{HomeState}
 use Rattle.hub_core.specs.OpenHubs.{no_events}
 use Rattle.hub_core.specs.declared.open_windows.ClosingLists.{ClosingLists}
 use Rattle.hub_core.specs.declared.known.DeviceProgress.{DeviceProgress}
-use Rattle.hub_core.specs.declared.known.RunProgress.{RunProgress}
 use Rattle.window_order.specs.declared.purposes.Purpose.TheVariants.{Command}
 use Rattle.lineage_table.specs.Lineages.{LineageState, TableIsOpened}
 use Rattle.serial_line.specs.KeptRuns.{AreKeptOf}
 use Rattle.serial_line.specs.Marks.{Marked}
-use Rattle.std.specs.Prelude.{List, None, Some, [], length, replicate, slice_get, ℕ, ◌<◌, ◌≡◌}
+use Rattle.std.specs.Prelude.{List, Some, [], length, slice_get, ℕ, ◌<◌, ◌≡◌}
 use Rattle.timeline_scheduler.specs.Scratches.{ScratchRoom}
-
--- nothing has happened to a run
-abbrev pub no_progress : RunProgress
-no_progress = record {
-  arrived = None;
-  placed = None;
-  answered = 0;
-  register = 0;
-  doomed = None;
-  ended = None;
-}
 
 -- an empty list with room for so many items and no more
 abbrev pub IsRoomFor : {T : Type 0} → Listed T → ℕ → Type 0
 IsRoomFor list n = (list.items ≡ []) × (list.spare ≡ n)
-
--- no entry and no progress of so many runs, with room for so many entries
-pub record IsHistoryRoom (entries runs : ℕ) (book : Listed Kept)
-    (progress : List RunProgress) : Type 0 where
-  pub no_entry : book.items ≡ []
-  pub room : book.spare ≡ entries
-  pub nothing_done : progress ≡ replicate runs no_progress
 
 -- an empty line with room for so many items, and the table of a window that opens
 pub record IsOrderRoom (items : ℕ) (runs : List Run) (first : List Stand) (line : Marked)

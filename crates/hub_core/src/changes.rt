@@ -1,6 +1,5 @@
 //! What each choice of a step makes of the window, and the entries that it writes.
-ghost use Rattle.std.specs.Prelude.{IsSome, IsTrue, None, Some, [], false, if◌then◌else◌, max, not, option_map, true, ◌<◌, ◌||◌, ◌∷◌, ◌≡◌};
-ghost use Rattle.command_rules.specs.Rosters.{is_run};
+ghost use Rattle.std.specs.Prelude.{IfSome, IsSome, IsTrue, None, Some, [], false, if◌then◌else◌, max, not, option_map, true, ◌<◌, ◌||◌, ◌∷◌, ◌≡◌};
 ghost use Rattle.lock_leasing.specs.Configurations.{read_of};
 ghost use Rattle.hub_core.specs.Decisions.{told_choice};
 ghost use Rattle.hub_core.specs.HubCalls.{Answers, DeviceGoesOut, IsPacked, SameWindow};
@@ -8,23 +7,25 @@ ghost use Rattle.hub_core.specs.OpenHubs.{configuration_of};
 ghost use Rattle.window_order.specs.KeptOrders.{is_first, left_by, noted_first, purpose_of};
 ghost use Rattle.hub_core.specs.KeptOrders.{MayLeave, MayNoteAnswer};
 ghost use Rattle.hub_core.specs.PlannedPlaces.{HoldsPlan};
-ghost use Rattle.hub_core.specs.ReadHistories.{read_in, with_doom};
 ghost use Rattle.hub_core.specs.Steps.{Absent, HandsOut, Moves, Over, Waits, choice_of};
 ghost use Rattle.history_book.specs.Histories.{entries_made};
+ghost use Rattle.history_book.specs.ReadHistories.{read_in, with_doom};
 ghost use Rattle.history_book.specs.Readings.{is_access, is_doomed, is_fine, is_told, pends};
 ghost use Rattle.history_book.specs.Settings.{is_weak};
+ghost use Rattle.history_book.specs.WellFormed.{may_follow};
 ghost use Rattle.lineage_table.specs.Lineages.{lineage_at, with_lineage};
 ghost use Rattle.lock_leasing.specs.Tables.{view_when};
 ghost use Rattle.history_book.specs.declared.entries.End.TheVariants.{Aborted, Committed};
 ghost use Rattle.window_order.specs.TableChanges.{ChangesEach, doomed_lineage};
 
+use crate::causes::must_down;
 use crate::decisions::Chosen;
 use crate::known::DeviceProgress;
 use crate::open_windows::OpenWindow;
-use crate::read_histories::{ReadHistory, must_down};
+use crate::plans::planned_uses;
 use device_gate::{Grip, Ready};
 use device_states::Device;
-use history_book::{Cause, Entry, Made};
+use history_book::{Cause, End, Entry, Made, ReadHistory};
 use home_types::{Answer, DeviceNo, RunNo, Value};
 use timeline_scheduler::Scratch;
 use window_order::{KeptOrder, Purpose, note_of};
@@ -65,7 +66,9 @@ impl<D: Device> OpenWindow<D> {
         ensures window { SameWindow self.old self.new }
     {
         self.moment = self.moment.max(moment);
-        one_made(self.history.arrive(r, self.moment))
+        let entry = Entry::Arrived(r, self.moment);
+        self.history.push(r.0, entry);
+        one_made(entry)
     }
 
     /// The run is placed behind so many items of the line. Where that is by the timeline, the
@@ -99,11 +102,13 @@ impl<D: Device> OpenWindow<D> {
         ensures window { SameWindow self.old self.new }
     {
         self.moment = self.moment.max(moment);
-        let uses = self.history.planned_uses(r, self.moment, scratch);
+        let uses = planned_uses(&self.history, r, self.moment, scratch);
         self.order
             .arrange(self.history.scheduler(), scratch.flags());
         self.order.join(self.history.roster(), r, at, uses);
-        one_made(self.history.place(r, at, self.moment))
+        let entry = Entry::Placed(r, at, self.moment);
+        self.history.push(r.0, entry);
+        one_made(entry)
     }
 
     /// The run's write on the device, which is counted down, is dropped: it is undone with no call.
@@ -116,7 +121,9 @@ impl<D: Device> OpenWindow<D> {
     {
         self.moment = self.moment.max(moment);
         self.order.undone(d, r);
-        one_made(self.history.undo(r, d, false))
+        let entry = Entry::Undid(r, d, false);
+        self.history.push(r.0, entry);
+        one_made(entry)
     }
 
     /// The run's command with the number `k` is answered `Down` with no call of its device, and
@@ -130,7 +137,8 @@ impl<D: Device> OpenWindow<D> {
     {
         let d = self.history.command(r, k).device;
         self.moment = self.moment.max(moment);
-        let entry = self.history.answer(r, k, Answer::Down);
+        let entry = Entry::Did(r, k, Answer::Down);
+        self.history.push(r.0, entry);
         self.order.line.mark(r, d);
         note_answer(&self.history, &mut self.order, r, k, d, Answer::Down, 0);
         let doomed = doom_for(&mut self.history, &mut self.order, r, must_down(k, must));
@@ -152,7 +160,8 @@ impl<D: Device> OpenWindow<D> {
     {
         let d = self.history.command(r, k).device;
         self.moment = self.moment.max(moment);
-        let entry = self.history.answer(r, k, Answer::Skipped);
+        let entry = Entry::Did(r, k, Answer::Skipped);
+        self.history.push(r.0, entry);
         leave_skipped(&self.history, &mut self.order, r, k, d);
         one_made(entry)
     }
@@ -168,7 +177,9 @@ impl<D: Device> OpenWindow<D> {
     {
         self.moment = self.moment.max(moment);
         self.order.doom(r, None);
-        one_made(self.history.doom(r.0, r, Cause::DownAtEnd(d)))
+        let entry = Entry::Doomed(r, Cause::DownAtEnd(d));
+        self.history.push(r.0, entry);
+        one_made(entry)
     }
 
     /// The lease of the borrower on the device is overdue for the run `r`, which asks for it, with
@@ -197,7 +208,9 @@ impl<D: Device> OpenWindow<D> {
             deadline,
             moment: self.moment,
         };
-        one_made(self.history.doom(r.0, borrower, cause))
+        let entry = Entry::Doomed(borrower, cause);
+        self.history.push(r.0, entry);
+        one_made(entry)
     }
 
     /// The run commits.
@@ -211,7 +224,9 @@ impl<D: Device> OpenWindow<D> {
     {
         self.moment = self.moment.max(moment);
         self.order.settle(r);
-        one_made(self.history.commit(r))
+        let entry = Entry::Ended(r, End::Committed);
+        self.history.push(r.0, entry);
+        one_made(entry)
     }
 
     /// The run ends aborted, for this cause.
@@ -226,7 +241,9 @@ impl<D: Device> OpenWindow<D> {
         self.order.table.kept();
         self.moment = self.moment.max(moment);
         self.order.withdraw(r);
-        one_made(self.history.abort(r, cause))
+        let entry = Entry::Ended(r, End::Aborted(cause));
+        self.history.push(r.0, entry);
+        one_made(entry)
     }
 
     /// The device goes out for the run.
@@ -310,8 +327,9 @@ pub(crate) fn doom_for(
     r: RunNo,
     cause: Option<Cause>,
 ) -> Option<Entry>
-    requires run { IsTrue (is_run history.old.setting.runs r.0) }
     requires room { IsSome cause → 0 < history.old.spare }
+    requires follows { IfSome cause
+        (λ c. IsTrue (may_follow history.old.setting (read_in history.old) (Entry.Doomed r c))) }
     ensures entry { result ≡ option_map (λ c. Entry.Doomed r c) cause }
     ensures history { history.new ≡ with_doom history.old r.0 cause }
     ensures line { order.new.line ≡ order.old.line }
@@ -323,5 +341,7 @@ pub(crate) fn doom_for(
         return None;
     };
     order.doom(r, None);
-    Some(history.doom(r.0, r, cause))
+    let entry = Entry::Doomed(r, cause);
+    history.push(r.0, entry);
+    Some(entry)
 }

@@ -11,7 +11,6 @@ use crate::away::Away;
 use crate::homes::Home;
 use crate::known::DeviceProgress;
 use crate::open_windows::OpenWindow;
-use crate::read_histories::ReadHistory;
 use crate::refusals::NotQuiet;
 use device_states::Device;
 use history_book::WindowRecord;
@@ -63,13 +62,7 @@ impl<D: Device> OpenWindow<D> {
             hands: _,
         } = away;
         let weak = history.is_weak();
-        let ReadHistory {
-            mode,
-            kinds,
-            first,
-            book,
-            ..
-        } = history;
+        let (mode, kinds, first, entries) = history.into_parts();
         let devices = gate.close();
         let last = stands_left(weak, closing.last, &order.table, &known);
         let world = copied(closing.world, &last);
@@ -77,7 +70,7 @@ impl<D: Device> OpenWindow<D> {
         let record = WindowRecord {
             mode,
             first,
-            history: book.into_list(),
+            history: entries,
             order: order_of(weak, closing.order, &order.line),
             last: World { devices: last },
             turns,

@@ -99,10 +99,11 @@ impl<D: Device> OpenWindow<D> {
         }
         match self.history.next_command(r) {
             Some(command) => {
-                if command.when.holds(progress.register) {
-                    self.decide_command(r, progress.answered, command, moment)
+                let k = self.history.next(r);
+                if command.when.holds(self.history.register(r)) {
+                    self.decide_command(r, k, command, moment)
                 } else {
-                    self.decide_skip(r, progress.answered)
+                    self.decide_skip(r, k)
                 }
             }
             None => self.decide_answered(r),
@@ -277,7 +278,7 @@ impl<D: Device> OpenWindow<D> {
             return Task::Sense;
         }
         let kind = self.history.kind(command.device);
-        let register = self.history.progress(r).register;
+        let register = self.history.register(r);
         Task::Drive(driven(kind, command.job, register))
     }
 }

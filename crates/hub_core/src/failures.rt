@@ -2,14 +2,14 @@
 ghost use Rattle.std.specs.Prelude.{◌≡◌, ◌+◌, ◌<◌, ◌≤◌, ◌^◌, IfSome, IsSome, IsTrue, None, Some, false, if◌then◌else◌, length, option_map, true};
 ghost use Rattle.command_rules.specs.Rosters.{is_run};
 ghost use Rattle.failure_serialization.specs.Events.{lost_run};
+ghost use Rattle.history_book.specs.ReadHistories.{read_in, with_entry, with_lost};
+ghost use Rattle.history_book.specs.WellFormed.{may_follow};
 ghost use Rattle.home_types.specs.declared.items.Item.TheVariants.{Back, Failed};
 ghost use Rattle.hub_core.specs.KeptOrders.{HasFallen, HasRisen, IsLostTo, MayTurn};
-ghost use Rattle.hub_core.specs.ReadHistories.{with_entry, with_lost};
 ghost use Rattle.lineage_table.specs.Lineages.{accesses_at};
 
-use crate::read_histories::ReadHistory;
 use failure_serialization::{fell, rose};
-use history_book::{Cause, Entry};
+use history_book::{Cause, Entry, ReadHistory};
 use home_types::{DeviceNo, List, RunNo};
 use window_order::{KeptOrder, seal};
 
@@ -41,6 +41,8 @@ pub(crate) fn note_fall(
 ) -> Failure
     requires may { MayTurn true
         (Failed d number) history.old.spare d order.old.line order.old.table }
+    requires follows { IsTrue
+        (may_follow history.old.setting (read_in history.old) (Entry.Fell d)) }
     ensures entry { result.entry ≡ Entry.Fell d }
     ensures history { history.new ≡ with_entry history.old maker (Entry.Fell d) }
     ensures order { HasFallen history.old d first number order.old.line order.new.line
@@ -56,10 +58,9 @@ pub(crate) fn note_fall(
         first,
     );
     seal(&mut order.line);
-    Failure {
-        entry: history.fall(maker, d),
-        lost,
-    }
+    let entry = Entry::Fell(d);
+    history.push(maker, entry);
+    Failure { entry, lost }
 }
 
 /// The device, which was counted down, is back for the time of this number, counted from 1: the
@@ -74,6 +75,8 @@ pub(crate) fn note_rise(
 ) -> Entry
     requires may { MayTurn false
         (Back d number) history.old.spare d order.old.line order.old.table }
+    requires follows { IsTrue
+        (may_follow history.old.setting (read_in history.old) (Entry.Rose d)) }
     ensures entry { result ≡ Entry.Rose d }
     ensures history { history.new ≡ with_entry history.old maker (Entry.Rose d) }
     ensures order { HasRisen history.old d number order.old.line order.new.line order.old.table
@@ -81,7 +84,9 @@ pub(crate) fn note_rise(
 {
     rose(&mut order.line, &mut order.table, history.book(), d, number);
     seal(&mut order.line);
-    history.rise(maker, d)
+    let entry = Entry::Rose(d);
+    history.push(maker, entry);
+    entry
 }
 
 /// The run is doomed that the failure of the device loses, where there is one. It stays the holder
@@ -96,6 +101,8 @@ pub(crate) fn doom_lost(
     requires run { IfSome lost
         (λ r. IsTrue (is_run history.old.setting.runs r.0) × (r.0 ≤ length hands.now.items)) }
     requires room { IsSome lost → 0 < history.old.spare }
+    requires follows { IfSome lost (λ r. IsTrue
+        (may_follow history.old.setting (read_in history.old) (Entry.Doomed r (Cause.Lost d)))) }
     ensures entry { result ≡ option_map (λ r. Entry.Doomed r (Cause.Lost d)) lost }
     ensures history { history.new ≡ with_lost history.old d lost }
     ensures line { order.new.line ≡ order.old.line }
@@ -106,5 +113,7 @@ pub(crate) fn doom_lost(
     };
     let out = *hands.get(r.0 as u64 - 1).unwrap();
     order.doom(r, out);
-    Some(history.doom(0, r, Cause::Lost(d)))
+    let entry = Entry::Doomed(r, Cause::Lost(d));
+    history.push(0, entry);
+    Some(entry)
 }

@@ -1,27 +1,10 @@
-//! What is known of each run and each device beside the history.
+//! What is known of each device beside the history.
 ghost use Rattle.std.specs.Prelude.{◌≡◌, ◌+◌, ◌<◌, ◌^◌};
 ghost use Rattle.hub_core.specs.Away.{events_after};
 
 use device_gate::{Task, Told};
-use history_book::{Cause, End};
 use home_types::Value;
 use window_order::Purpose;
-
-/// What the history says of a run.
-#[derive(Clone, Copy, Debug, PartialEq, Eq)]
-pub struct RunProgress {
-    /// The moment when it arrived, in ms.
-    pub arrived: Option<u64>,
-    /// The stamp of its placement: how many entries the history had. A run that was placed later
-    /// has a greater one.
-    pub placed: Option<u64>,
-    /// How many of its commands are answered.
-    pub answered: u32,
-    /// What its last load found.
-    pub register: Value,
-    pub doomed: Option<Cause>,
-    pub ended: Option<End>,
-}
 
 /// The three counts of a device.
 #[derive(Clone, Copy, Debug, PartialEq, Eq)]

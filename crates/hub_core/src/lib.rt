@@ -4,6 +4,7 @@
 
 mod away;
 mod blocked_runs;
+mod causes;
 mod changes;
 mod close_calls;
 mod decisions;
@@ -20,7 +21,6 @@ mod open_windows;
 mod placings;
 mod plans;
 mod probe_calls;
-mod read_histories;
 pub mod refusals;
 mod restandings;
 mod resumed_homes;

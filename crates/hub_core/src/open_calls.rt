@@ -9,36 +9,28 @@ ghost use Rattle.hub_core.specs.BlockedMarks.{NoneMarked};
 ghost use Rattle.hub_core.specs.Bounds.{most_entries, most_items};
 ghost use Rattle.hub_core.specs.HubCalls.{IsOpened};
 ghost use Rattle.hub_core.specs.Homes.{HomeIsKept, setting_for};
-ghost use Rattle.hub_core.specs.OpeningRooms.{AreKnown, IsClosingRoom, IsHistoryRoom, IsOrderRoom, IsRoomFor, IsScratchFor, known_first, no_progress};
+ghost use Rattle.hub_core.specs.OpeningRooms.{AreKnown, IsClosingRoom, IsOrderRoom, IsRoomFor, IsScratchFor, known_first};
 ghost use Rattle.hub_core.specs.Openings.{MayOpen};
 
 use crate::away::Away;
 use crate::blocked_runs::BlockedRuns;
 use crate::homes::Home;
 use crate::hubs::Hub;
-use crate::known::{DeviceCallCounts, DeviceProgress, NO_EVENTS, RunProgress};
+use crate::known::{DeviceCallCounts, DeviceProgress, NO_EVENTS};
 use crate::open_windows::{ClosingLists, OpenWindow};
-use crate::read_histories::ReadHistory;
 use command_rules::{IndexedRoster, Roster};
 use device_gate::Gate;
 use device_states::Device;
-use history_book::Book;
+use history_book::{Book, ReadHistory};
 use home_types::{DeviceNo, Kind, List, Mode, NoMemory, World};
 use std::alloc::Global;
 use timeline_scheduler::Scratch;
 use window_order::{KeptOrder, Purpose};
 
-/// The memory of a window's history.
-#[derive(Drop)]
-struct HistoryRoom {
-    book: Book,
-    progress: List<RunProgress>,
-}
-
 /// The memory of what a window keeps of its runs and its devices.
 #[derive(Drop)]
 struct StateRoom {
-    history: HistoryRoom,
+    book: Book,
     order: KeptOrder,
     devices: List<DeviceProgress>,
     hands: List<Option<DeviceNo>>,
@@ -102,12 +94,12 @@ impl<D: Device> Home<D> {
                 blocked: room.blocked,
                 scratch: room.scratch,
                 window: OpenWindow {
-                    history: empty_history(
+                    history: ReadHistory::empty(
                         indexed,
                         mode,
                         home.kinds,
                         home.world,
-                        room.state.history,
+                        room.state.book,
                     ),
                     order: room.state.order,
                     rounds,
@@ -168,10 +160,8 @@ impl<D: Device> Home<D> {
         requires runs { FitsIndex (runs_of roster.now) }
         requires devices { length self.now.world ≤ most_devices }
         requires rounds { rounds ≤ most_probes }
-        ensures history { IfOk result (λ room. IsHistoryRoom
-            (most_entries (length roster.now.runs.items) (length self.now.world) rounds)
-            (length roster.now.runs.items) room.state.history.book
-            room.state.history.progress.items) }
+        ensures book { IfOk result (λ room. IsRoomFor room.state.book
+            (most_entries (length roster.now.runs.items) (length self.now.world) rounds)) }
         ensures order { IfOk result (λ room.
             IsOrderRoom (most_items (length roster.now.runs.items) (length self.now.world) rounds)
             (runs_of roster.now) self.now.world room.state.order.line room.state.order.table) }
@@ -235,8 +225,7 @@ impl<D: Device> Home<D> {
         requires runs { FitsIndex (runs_of roster.now) }
         requires devices { length self.now.world ≤ most_devices }
         requires items { bounds.items < 2 ^ 32 }
-        ensures history { IfOk result (λ state. IsHistoryRoom bounds.entries
-            (length roster.now.runs.items) state.history.book state.history.progress.items) }
+        ensures book { IfOk result (λ state. IsRoomFor state.book bounds.entries) }
         ensures order { IfOk result (λ state. IsOrderRoom bounds.items
             (runs_of roster.now) self.now.world state.order.line state.order.table) }
         ensures devices { IfOk result (λ state. AreKnown D.turns D.probes D.faults self.now rounds
@@ -245,18 +234,18 @@ impl<D: Device> Home<D> {
             (λ state. state.hands.items ≡ replicate (length roster.now.runs.items) None) }
     {
         let runs = roster.runs.len();
-        let history = history_room(alloc, bounds.entries, runs)?;
+        let book = book_for(alloc, bounds.entries)?;
         let order = match KeptOrder::open(alloc, &self.world, roster, bounds.items) {
             Ok(order) => order,
             Err(NoMemory) => {
-                drop(history);
+                drop(book);
                 return Err(NoMemory);
             }
         };
         let devices = match self.known_devices(alloc, rounds) {
             Ok(devices) => devices,
             Err(NoMemory) => {
-                drop(history);
+                drop(book);
                 drop(order);
                 return Err(NoMemory);
             }
@@ -264,14 +253,14 @@ impl<D: Device> Home<D> {
         let hands = match no_hands(alloc, runs) {
             Ok(hands) => hands,
             Err(NoMemory) => {
-                drop(history);
+                drop(book);
                 drop(order);
                 drop(devices);
                 return Err(NoMemory);
             }
         };
         Ok(StateRoom {
-            history,
+            book,
             order,
             devices,
             hands,
@@ -313,36 +302,6 @@ impl<D: Device> Home<D> {
     }
 }
 
-/// The empty history of a window, in this memory.
-fn empty_history(
-    roster: IndexedRoster,
-    mode: Mode,
-    kinds: List<Kind>,
-    first: World,
-    room: HistoryRoom,
-) -> ReadHistory
-    requires no_entry { room.book.items ≡ [] }
-    requires nothing_done { room.progress.items ≡ replicate (length roster.runs.items) no_progress }
-    ensures setting { result.setting ≡ record {
-      runs = runs_of roster;
-      mode = mode;
-      kinds = kinds.items;
-      first = first.devices.items;
-    } }
-    ensures history { result.history ≡ [] }
-    ensures spare { result.spare ≡ room.book.spare }
-{
-    let HistoryRoom { book, progress } = room;
-    ReadHistory {
-        roster,
-        mode,
-        kinds,
-        first,
-        book,
-        progress,
-    }
-}
-
 /// The bounds of a window of so many runs, on a home of so many devices, with so many rounds of
 /// probes.
 fn bounds_of(runs: u64, devices: u64, rounds: u32) -> Bounds
@@ -360,32 +319,13 @@ fn bounds_of(runs: u64, devices: u64, rounds: u32) -> Bounds
     }
 }
 
-/// Takes the memory of a history of so many entries and runs.
-fn history_room(alloc: Global, entries: u64, runs: u64) -> Result<HistoryRoom, NoMemory>
-    ensures { IfOk result (λ room. IsHistoryRoom entries runs room.book room.progress.items) }
+/// Takes the memory of a history of so many entries.
+fn book_for(alloc: Global, entries: u64) -> Result<Book, NoMemory>
+    ensures { IfOk result (λ book. IsRoomFor book entries) }
 {
     let mut book = Book::new(alloc);
     book.reserve(entries)?;
-    let progress = no_progress(alloc, runs)?;
-    Ok(HistoryRoom { book, progress })
-}
-
-/// Nothing has happened to so many runs.
-fn no_progress(alloc: Global, runs: u64) -> Result<List<RunProgress>, NoMemory>
-    ensures { IfOk result (λ progress. progress.items ≡ replicate runs no_progress) }
-{
-    let mut progress = roomy_list(alloc, runs)?;
-    'runs: for _ in 0..runs {
-        progress.push(RunProgress {
-            arrived: None,
-            placed: None,
-            answered: 0,
-            register: 0,
-            doomed: None,
-            ended: None,
-        })?;
-    }
-    Ok(progress)
+    Ok(book)
 }
 
 /// None of so many runs holds a grip.

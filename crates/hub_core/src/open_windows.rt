@@ -12,10 +12,10 @@ ghost use Rattle.lock_leasing.specs.Configurations.{read_of};
 ghost use Rattle.lock_leasing.specs.Standings.{IsStandingOf};
 
 use crate::away::Away;
-use crate::read_histories::ReadHistory;
 use crate::refusals::NotQuiet;
 use command_rules::IndexedRoster;
 use device_states::Device;
+use history_book::ReadHistory;
 use home_types::{DeviceNo, Item, List, RunNo, Stand};
 use lock_leasing::Standing;
 use std::marker::Model;
@@ -206,7 +206,7 @@ impl<D: Device> OpenWindow<D> {
         if !self.history.is_going(r) {
             return false;
         }
-        if self.history.progress(r).answered as u64 != k as u64 + 1 {
+        if self.history.progress(r).answered != k as u64 + 1 {
             return false;
         }
         !self.history.is_done(r, k, d)

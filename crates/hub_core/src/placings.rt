@@ -1,6 +1,7 @@
 //! Where a run that has arrived is placed, or for what it waits.
-ghost use Rattle.std.specs.Prelude.{◌≡◌, IsTrue, false, length};
-ghost use Rattle.command_rules.specs.Rosters.{is_run};
+ghost use Rattle.std.specs.Prelude.{◌≡◌, IfSome, IsTrue, false, length};
+ghost use Rattle.command_rules.specs.Rosters.{followed_by, is_run};
+ghost use Rattle.history_book.specs.ReadHistories.{read_in};
 ghost use Rattle.history_book.specs.Settings.{is_weak};
 ghost use Rattle.hub_core.specs.Decisions.{told_choice};
 ghost use Rattle.hub_core.specs.OpenHubs.{configuration_of};
@@ -9,12 +10,14 @@ ghost use Rattle.hub_core.specs.Steps.{decide_arrived, place_choice};
 ghost use Rattle.jit_scheduler.specs.Admissions.{IsToBePlaced};
 ghost use Rattle.lock_leasing.specs.Configurations.{read_of};
 ghost use Rattle.lock_leasing.specs.Places.{just_in_time, scheduled_place};
+ghost use Rattle.lock_leasing.specs.Waits.{follow_wait};
 
 use crate::decisions::Chosen;
 use crate::open_windows::OpenWindow;
 use crate::waits::Why;
 use device_states::Device;
 use fcfs_scheduler::place as last_place;
+use history_book::ReadHistory;
 use home_types::{RunNo, Scheduler};
 use jit_scheduler::{Admit, admit};
 use lock_leasing::Standing;
@@ -40,7 +43,7 @@ impl<D: Device> OpenWindow<D> {
         ensures planned { HoldsChosen scratch.new (configuration_of self.now) r.0 moment result }
         ensures size { HasSameRoom scratch.old scratch.new }
     {
-        match self.history.awaited_leader(r) {
+        match awaited_leader(&self.history, r) {
             Some(leader) => Chosen::Waits(Why::Follow(leader)),
             None => self.decide_place(r, arrived, moment, scratch),
         }
@@ -94,5 +97,20 @@ impl<D: Device> OpenWindow<D> {
             roster: self.history.indexed_roster(),
         };
         last_place(&standing, r)
+    }
+}
+
+/// The run that `r` follows, where that has not ended.
+fn awaited_leader(history: &ReadHistory, r: RunNo) -> Option<RunNo>
+    requires run { IsTrue (is_run history.now.setting.runs r.0) }
+    requires leader { IfSome (followed_by history.now.setting.runs r.0)
+        (λ f. IsTrue (is_run history.now.setting.runs f.0)) }
+    ensures { result ≡ follow_wait history.now.setting (read_in history.now) r.0 }
+{
+    let leader = history.roster().followed_by(r)?;
+    if history.progress(leader).ended.is_none() {
+        Some(leader)
+    } else {
+        None
     }
 }

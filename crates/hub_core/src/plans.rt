@@ -3,43 +3,41 @@ ghost use Rattle.std.specs.Prelude.{◌≡◌, ◌<◌, IsTrue, List, Some, opti
 ghost use Rattle.std.specs.List.{All};
 ghost use Rattle.command_rules.specs.Rosters.{commands_of, is_run};
 ghost use Rattle.history_book.specs.Plans.{planned_times};
+ghost use Rattle.history_book.specs.ReadHistories.{read_in};
 ghost use Rattle.history_book.specs.Settings.{scheduler_of};
 ghost use Rattle.home_types.specs.Limits.{most_devices};
 ghost use Rattle.home_types.specs.declared.items.Item.{Item};
 ghost use Rattle.home_types.specs.declared.modes.Scheduler.TheVariants.{Timeline};
 ghost use Rattle.hub_core.specs.PlannedPlaces.{AreUsesOf, held_use, use_between};
 ghost use Rattle.hub_core.specs.PlansInTurn.{planned_again, planned_in_turn, planned_use};
-ghost use Rattle.hub_core.specs.ReadHistories.{read_in};
 ghost use Rattle.timeline_scheduler.specs.Scratches.{HoldsTimes};
 
-use crate::read_histories::ReadHistory;
+use history_book::ReadHistory;
 use home_types::{Command, RunNo, Scheduler};
 use timeline_scheduler::Scratch;
 use window_order::PlannedUse;
 
-impl ReadHistory {
-    /// For how long the run, which is placed at this moment, in ms, is planned to use each of the
-    /// 256 devices that a home may have: where it is placed by the timeline, as the scratch holds
-    /// it. `None` where it has no command.
-    pub(crate) fn planned_uses(
-        &self,
-        r: RunNo,
-        moment: u64,
-        scratch: &Scratch,
-    ) -> [Option<PlannedUse>; 256]
-        requires run { IsTrue (is_run self.now.setting.runs r.0) }
-        requires homed { All (λ c. c.device.0 < most_devices)
-            (commands_of self.now.setting.runs r.0) }
-        ensures { (front : List Item)
-            → (scheduler_of self.now.setting.mode ≡ Timeline → HoldsTimes scratch.now.slots
-            (planned_times self.now.setting (read_in self.now) r.0 front moment)) → AreUsesOf result
-            (planned_times self.now.setting (read_in self.now) r.0 front moment) }
-    {
-        let commands = self.roster().commands(r);
-        match self.scheduler() {
-            Scheduler::Fcfs | Scheduler::JustInTime => uses_in_turn(commands, moment),
-            Scheduler::Timeline => uses_held(commands, scratch),
-        }
+/// For how long the run, which is placed at this moment, in ms, is planned to use each of the 256
+/// devices that a home may have: where it is placed by the timeline, as the scratch holds it.
+/// `None` where it has no command.
+pub(crate) fn planned_uses(
+    history: &ReadHistory,
+    r: RunNo,
+    moment: u64,
+    scratch: &Scratch,
+) -> [Option<PlannedUse>; 256]
+    requires run { IsTrue (is_run history.now.setting.runs r.0) }
+    requires homed { All (λ c. c.device.0 < most_devices)
+        (commands_of history.now.setting.runs r.0) }
+    ensures { (front : List Item)
+        → (scheduler_of history.now.setting.mode ≡ Timeline → HoldsTimes scratch.now.slots
+        (planned_times history.now.setting (read_in history.now) r.0 front moment)) → AreUsesOf
+        result (planned_times history.now.setting (read_in history.now) r.0 front moment) }
+{
+    let commands = history.roster().commands(r);
+    match history.scheduler() {
+        Scheduler::Fcfs | Scheduler::JustInTime => uses_in_turn(commands, moment),
+        Scheduler::Timeline => uses_held(commands, scratch),
     }
 }
 

@@ -9,12 +9,13 @@ ghost use Rattle.hub_core.specs.HubCalls.{IsGiven, SameWindow};
 ghost use Rattle.hub_core.specs.OpenHubs.{progress_at};
 ghost use Rattle.window_order.specs.KeptOrders.{purpose_of};
 
+use crate::causes::{died_by, refuted};
 use crate::changes::{doom_for, note_answer, one_made};
 use crate::failures::{first_death, note_fall};
 use crate::open_windows::OpenWindow;
 use device_gate::{Done, Grip};
 use device_states::Device;
-use history_book::Made;
+use history_book::{Entry, Made};
 use home_types::{Answer, RunNo, View};
 use window_order::Purpose;
 
@@ -75,8 +76,9 @@ impl<D: Device> OpenWindow<D> {
         let came = self.away.come_home(grip);
         self.moment = self.moment.max(moment);
         let answer = came.told.answer();
-        let cause = self.history.refuted(r, k, answer);
-        let entry = self.history.answer(r, k, answer);
+        let cause = refuted(&self.history, r, k, answer);
+        let entry = Entry::Did(r, k, answer);
+        self.history.push(r.0, entry);
         note_answer(&self.history, &mut self.order, r, k, d, answer, came.held);
         let doomed = doom_for(&mut self.history, &mut self.order, r, cause);
         Made {
@@ -103,7 +105,7 @@ impl<D: Device> OpenWindow<D> {
         let came = self.away.come_home(grip);
         self.moment = self.moment.max(moment);
         let first = self.order.is_first(d, r);
-        let cause = self.history.died_by(r, k, first);
+        let cause = died_by(&self.history, r, k, first);
         let fell = note_fall(
             &mut self.history,
             &mut self.order,
@@ -112,7 +114,8 @@ impl<D: Device> OpenWindow<D> {
             came.events.fell,
             first_death(r, first),
         );
-        let entry = self.history.answer(r, k, Answer::Down);
+        let entry = Entry::Did(r, k, Answer::Down);
+        self.history.push(r.0, entry);
         note_answer(
             &self.history,
             &mut self.order,
@@ -159,7 +162,9 @@ impl<D: Device> OpenWindow<D> {
         let slip = grip.slip();
         self.away.come_home(grip);
         self.moment = self.moment.max(moment);
-        one_made(self.history.undo(RunNo(slip.maker), slip.device, true))
+        let entry = Entry::Undid(RunNo(slip.maker), slip.device, true);
+        self.history.push(slip.maker, entry);
+        one_made(entry)
     }
 
     /// The drive that undoes a run's write died: its device fails, and the write is dropped.
@@ -184,7 +189,8 @@ impl<D: Device> OpenWindow<D> {
             came.events.fell,
             None,
         );
-        let entry = self.history.undo(RunNo(slip.maker), d, false);
+        let entry = Entry::Undid(RunNo(slip.maker), d, false);
+        self.history.push(slip.maker, entry);
         Made {
             a: Some(fell.entry),
             b: Some(entry),

@@ -2,21 +2,21 @@
 ghost use Rattle.std.specs.Prelude.{◌≡◌, false, is_some, max, true, ℕ};
 ghost use Rattle.command_rules.specs.Rosters.{is_run};
 ghost use Rattle.history_book.specs.Histories.{entries_made};
+ghost use Rattle.history_book.specs.Progress.{progress_of};
 ghost use Rattle.history_book.specs.Settings.{is_weak};
 ghost use Rattle.hub_core.specs.Decisions.{told_choice};
 ghost use Rattle.hub_core.specs.HubCalls.{Answers, IsPacked, SameWindow};
-ghost use Rattle.hub_core.specs.OpenHubs.{configuration_of, progress_of};
+ghost use Rattle.hub_core.specs.OpenHubs.{configuration_of};
 ghost use Rattle.hub_core.specs.Steps.{Moves, choice_of};
 ghost use Rattle.hub_core.specs.WeakSteps.{weak_rest};
 ghost use Rattle.lock_leasing.specs.Configurations.{read_of};
 
 use crate::changes::one_made;
 use crate::decisions::Chosen;
-use crate::known::RunProgress;
 use crate::open_windows::OpenWindow;
 use crate::waits::Why;
 use device_states::Device;
-use history_book::Made;
+use history_book::{Entry, Made, RunProgress};
 use home_types::{Item, RunNo};
 use window_order::Purpose;
 
@@ -36,17 +36,18 @@ impl<D: Device> OpenWindow<D> {
         let Some(command) = self.history.next_command(r) else {
             return Chosen::Commits;
         };
-        if !command.when.holds(progress.register) {
-            return Chosen::Skips(progress.answered);
+        let k = self.history.next(r);
+        if !command.when.holds(self.history.register(r)) {
+            return Chosen::Skips(k);
         }
         let d = command.device;
         if self.is_out(d) {
             return Chosen::Waits(Why::Busy(d));
         }
         if self.order.table.is_up(d) {
-            Chosen::HandsOut(d, Purpose::Command(progress.answered))
+            Chosen::HandsOut(d, Purpose::Command(k))
         } else {
-            Chosen::AnswersDown(progress.answered, command.must)
+            Chosen::AnswersDown(k, command.must)
         }
     }
 
@@ -61,6 +62,8 @@ impl<D: Device> OpenWindow<D> {
     {
         self.moment = self.moment.max(moment);
         self.order.line.insert(at, Item::Ran(r));
-        one_made(self.history.place(r, at, self.moment))
+        let entry = Entry::Placed(r, at, self.moment);
+        self.history.push(r.0, entry);
+        one_made(entry)
     }
 }

@@ -1,6 +1,4 @@
 -- The call of a run died: what the code writes of it, and that what is kept stays so.
-use Rattle.hub_core.proofs.kept.KeptByModel.{undo_ordered}
-use Rattle.hub_core.proofs.kept.TableFits.{either_model}
 use Rattle.command_rules.specs.Rosters.{command_at, commands_of, is_run, run_no}
 use Rattle.device_gate.specs.Calls.{has_died}
 use Rattle.device_gate.specs.Grips.{Gripped}
@@ -8,11 +6,13 @@ use Rattle.device_gate.specs.declared.grips.Done.{Done}
 use Rattle.device_gate.specs.declared.slips.Slip.{Slip}
 use Rattle.device_gate.specs.declared.slips.Told.TheVariants.{Died, Sensed, Worked}
 use Rattle.device_gate.specs.declared.slips.Told.{Told}
+use Rattle.history_book.proofs.HistoryReads.{MayTake, takes_first, takes_rest}
 use Rattle.history_book.proofs.Snoc.{put_other}
 use Rattle.history_book.specs.Histories.{entries_made, entries_of, entry, kept_by}
+use Rattle.history_book.specs.ReadHistories.{HistoryState, read_in, with_doom, with_entry, with_more}
 use Rattle.history_book.specs.Readings.{Reading, did, is_doomed, next_of, pends, put}
 use Rattle.history_book.specs.Settings.{Setting, is_weak}
-use Rattle.history_book.specs.WellFormed.{IsWellFormed}
+use Rattle.history_book.specs.WellFormed.{IsWellFormed, may_follow}
 use Rattle.history_book.specs.declared.entries.Cause.TheVariants.{Lost, MustDown}
 use Rattle.history_book.specs.declared.entries.Cause.{Cause}
 use Rattle.history_book.specs.declared.entries.Entry.TheVariants.{Did, Doomed, Fell, Undid}
@@ -24,23 +24,24 @@ use Rattle.home_types.specs.declared.commands.View.{View}
 use Rattle.home_types.specs.declared.items.Item.TheVariants.{Failed}
 use Rattle.home_types.specs.declared.numbers.DeviceNo.{DeviceNo}
 use Rattle.home_types.specs.declared.numbers.RunNo.{RunNo}
-use Rattle.hub_core.proofs.calls.Homecomings.{CameHome, IsHome, IsReturned, came_whole, returned_entries, returned_for, returned_places}
+use Rattle.hub_core.proofs.calls.Homecomings.{CameHome, IsHome, IsReturned, came_whole, returned_entries, returned_for, returned_places, takes_back}
 use Rattle.hub_core.proofs.calls.HubChanges.{answer_entries, answered_more}
 use Rattle.hub_core.proofs.calls.HubOrders.{read_whole}
-use Rattle.hub_core.proofs.calls.OutFor.{IsForCommand, for_command}
 use Rattle.window_order.proofs.NotedAnswers.{length_set, lineage_set}
+use Rattle.hub_core.proofs.calls.OutFor.{IsForCommand, for_command}
 use Rattle.hub_core.proofs.calls.Turning.{Falls, TellsTurn, fallen_number, may_fall}
 use Rattle.hub_core.proofs.kept.FallenOrders.{order_died, order_died_weakly, order_undo_died}
+use Rattle.hub_core.proofs.kept.KeptByModel.{undo_ordered}
 use Rattle.hub_core.proofs.kept.OrderSteps.{done_after, may_note, none_out, order_doomed_if, read_more}
+use Rattle.hub_core.proofs.kept.TableFits.{either_model}
 use Rattle.hub_core.specs.Decisions.{died_by}
 use Rattle.hub_core.specs.HubsKept.{IsWhole, open_of}
 use Rattle.hub_core.specs.KeptOrders.{HasFallen, MayTurn, OrderIsBeside}
 use Rattle.window_order.specs.KeptOrders.{MayNote, is_first, noted_first}
 use Rattle.hub_core.specs.OpenHubs.{configuration_of, held_in}
-use Rattle.hub_core.specs.ReadHistories.{HistoryState, read_in, with_doom, with_entry, with_more}
-use Rattle.hub_core.specs.declared.open_windows.OpenWindow.TheInside.{Inside}
 use Rattle.window_order.specs.declared.kept_orders.KeptOrder.{KeptOrder}
 use Rattle.hub_core.specs.declared.known.Events.{Events}
+use Rattle.hub_core.specs.declared.open_windows.OpenWindow.TheInside.{Inside}
 use Rattle.window_order.specs.declared.purposes.Purpose.TheVariants.{Command as ForCommand, Undo as ForUndo}
 use Rattle.lineage_table.specs.Lineages.{LineageState, counted_up, lineage_at, with_lineage}
 use Rattle.lock_leasing.specs.Configurations.{Commands, Grips, grips_command}
@@ -48,7 +49,7 @@ use Rattle.lock_leasing.specs.Places.{GripsFit}
 use Rattle.serial_line.specs.Marks.{Marked}
 use Rattle.std.proofs.Common.{ap, append_assoc, ap₂, arith, refl, subst, sym, ◌∙◌}
 use Rattle.std.proofs.Math.Bool.{or-true}
-use Rattle.std.specs.Prelude.{Bool, IsSome, List, None, Option, Some, [], false, fold, if◌then◌else◌, is_some, length, not, option_map, option_to_list, suc, true, ℕ, ◌&&◌, ◌+◌, ◌-◌, ◌<◌, ◌||◌, ◌∷◌, ◌≡◌, ◌≤◌}
+use Rattle.std.specs.Prelude.{Bool, IsSome, IsTrue, List, None, Option, Some, [], false, fold, if◌then◌else◌, is_some, length, not, option_map, option_to_list, suc, true, ℕ, ◌&&◌, ◌+◌, ◌-◌, ◌<◌, ◌||◌, ◌∷◌, ◌≡◌, ◌≤◌}
 use Rattle.window_order.proofs.Steps.{home_fits}
 use Rattle.window_order.specs.TableChanges.{ChangesEach, IsWaiting, doomed_lineage}
 
@@ -154,6 +155,17 @@ death_tells h k tag grip returned died whole = record { returned = returned; giv
     by_cause None = refl
     by_cause (Some c) = refl
 
+-- they may be appended
+death_takes : {D : Type 0} {stands turns probes faults : D → ℕ} (h : Inside D) (k tag : ℕ) (grip : Gripped D Done) → IsReturned stands turns probes faults h (ForCommand k) tag grip → has_died grip.stage.told ≡ true → IsWhole stands turns probes faults h
+    → MayTake h.history grip.slip.maker (death_entries grip.slip k (death_of h grip.slip k))
+death_takes h k tag grip returned died whole = subst (MayTake h.history grip.slip.maker) (death_gives h k tag grip returned died whole) (takes_back h (ForCommand k) tag grip returned whole)
+
+-- .. the failure first
+pub death_follows : {D : Type 0} {stands turns probes faults : D → ℕ} (h : Inside D) (k tag : ℕ) (grip : Gripped D Done) (slip : Slip) → IsReturned stands turns probes faults h (ForCommand k) tag grip → slip ≡ grip.slip → has_died grip.stage.told ≡ true → IsWhole stands turns probes faults h
+    → IsTrue (may_follow h.history.setting (read_in h.history) (Fell slip.device))
+death_follows h k tag grip slip returned same died whole =
+    subst (λ (z : Slip). IsTrue (may_follow h.history.setting (read_in h.history) (Fell z.device))) (sym same) (takes_first h.history grip.slip.maker (Fell grip.slip.device) (answer_entries grip.slip.maker k Down (death_of h grip.slip k)) (death_takes h k tag grip returned died whole))
+
 -- the device may fail
 pub death_may : {D : Type 0} {stands turns probes faults : D → ℕ} (h : Inside D) (k tag : ℕ) (grip : Gripped D Done) (slip : Slip) (events : Events) → IsReturned stands turns probes faults h (ForCommand k) tag grip → Falls h (ForCommand k) grip slip events → IsWhole stands turns probes faults h
     → MayTurn true (Failed slip.device events.fell) h.history.spare slip.device h.order.line h.order.table
@@ -164,11 +176,11 @@ pub record AfterDeath (k : ℕ) (slip : Slip) (cause : Option Cause) (fell : His
   pub run : is_run fell.setting.runs slip.maker ≡ true
   pub there : k < length (commands_of fell.setting.runs slip.maker)
   pub room : 0 < fell.spare
-  pub few : next_of (read_in fell) slip.maker < 2147483648
   pub next : k ≡ next_of (read_in fell) slip.maker
   pub on : (command_at fell.setting.runs slip.maker k).device.0 ≡ slip.device.0
   pub device : slip.device.0 < length table
   pub turn : is_weak fell.setting.mode ≡ false → MayNote slip.maker (lineage_at table slip.device.0)
+  pub takes : MayTake fell slip.maker (answer_entries slip.maker k Down cause)
   pub doom_room : IsSome cause → 1 < fell.spare
 
 pub after_death : {D : Type 0} {stands turns probes faults : D → ℕ} (h : Inside D) (k tag : ℕ) (grip : Gripped D Done) (slip : Slip) (first : Bool)
@@ -185,7 +197,6 @@ after_death h k tag grip slip first cause fell table returned same died first_is
       run = for.run;
       there = for.within;
       room = let some : 2 ≤ h.history.spare = omega (arith, places, long (death_of h grip.slip k)) in omega (arith, some);
-      few = let next = next_is in omega (arith, next, for.few);
       next = next_is;
       on = for.on;
       device = let size = length_set h.order.table grip.slip.device.0 (counted_up false) in let devices : length h.order.table ≡ length h.history.setting.first = whole.order.table_is.devices in omega (arith, below, size, devices);
@@ -193,6 +204,7 @@ after_death h k tag grip slip first cause fell table returned same died first_is
           λ strong. subst (λ (s : LineageState). MayNote r s) (sym (lineage_set h.order.table grip.slip.device.0 (counted_up false)
           (let devices : length h.order.table ≡ length h.history.setting.first = whole.order.table_is.devices in omega (arith, below, devices))))
           (counted_turn (dead_turn h k tag grip returned strong whole).1);
+      takes = takes_rest h.history r (Fell grip.slip.device) (answer_entries r k Down (death_of h grip.slip k)) (death_takes h k tag grip returned died whole);
       doom_room = λ some. doomed_room (death_of h grip.slip k) some places;
     }))))
   where
@@ -396,6 +408,26 @@ pub drop_may : {D : Type 0} {stands turns probes faults : D → ℕ} (h : Inside
     → MayTurn true (Failed slip.device events.fell) h.history.spare slip.device h.order.line h.order.table
 drop_may h v tag grip slip events returned falls whole =
     may_fall h (ForUndo v) tag grip (Undid (run_no grip.slip.maker) grip.slip.device false ∷ []) slip events (record { returned = returned; gives = drop_gives h v grip falls.died; leave = refl }) falls whole
+
+-- its entries may be appended, ..
+drop_takes : {D : Type 0} {stands turns probes faults : D → ℕ} (h : Inside D) (v tag : ℕ) (grip : Gripped D Done) (slip : Slip) → IsReturned stands turns probes faults h (ForUndo v) tag grip → slip ≡ grip.slip → has_died grip.stage.told ≡ true → IsWhole stands turns probes faults h
+    → MayTake h.history slip.maker (dropped_entries slip)
+drop_takes h v tag grip slip returned same died whole = subst (λ (z : Slip). MayTake h.history z.maker (dropped_entries z)) (sym same) (subst (MayTake h.history grip.slip.maker) (drop_gives h v grip died) (takes_back h (ForUndo v) tag grip returned whole))
+
+-- .. the failure first
+pub drop_follows : {D : Type 0} {stands turns probes faults : D → ℕ} (h : Inside D) (v tag : ℕ) (grip : Gripped D Done) (slip : Slip) → IsReturned stands turns probes faults h (ForUndo v) tag grip → slip ≡ grip.slip → has_died grip.stage.told ≡ true → IsWhole stands turns probes faults h
+    → IsTrue (may_follow h.history.setting (read_in h.history) (Fell slip.device))
+drop_follows h v tag grip slip returned same died whole = takes_first h.history slip.maker (Fell slip.device) (Undid (run_no slip.maker) slip.device false ∷ []) (drop_takes h v tag grip slip returned same died whole)
+
+-- .. and then the undo
+pub undo_follows : {D : Type 0} {stands turns probes faults : D → ℕ} (h : Inside D) (v tag : ℕ) (grip : Gripped D Done) (slip : Slip) (fell : HistoryState)
+    → IsReturned stands turns probes faults h (ForUndo v) tag grip → slip ≡ grip.slip → has_died grip.stage.told ≡ true
+    → fell ≡ with_entry h.history slip.maker (Fell slip.device) → IsWhole stands turns probes faults h
+    → IsTrue (may_follow fell.setting (read_in fell) (Undid (run_no slip.maker) slip.device false))
+undo_follows h v tag grip slip fell returned same died told whole =
+    subst (λ (x : HistoryState). IsTrue (may_follow x.setting (read_in x) (Undid (run_no slip.maker) slip.device false))) (sym told)
+    (takes_first (with_entry h.history slip.maker (Fell slip.device)) slip.maker (Undid (run_no slip.maker) slip.device false) [] (takes_rest h.history
+    slip.maker (Fell slip.device) (Undid (run_no slip.maker) slip.device false ∷ []) (drop_takes h v tag grip slip returned same died whole)))
 
 -- behind the failure there is a place for the undo
 pub drop_place : {D : Type 0} {stands turns probes faults : D → ℕ} (h : Inside D) (v tag : ℕ) (grip : Gripped D Done) (slip : Slip) (fell : HistoryState)

@@ -16,21 +16,26 @@ use Rattle.history_book.specs.Readings.{put}
 use Rattle.history_book.specs.Settings.{Setting}
 use Rattle.history_book.specs.declared.entries.Kept.{Kept}
 use Rattle.hub_core.proofs.calls.HubChanges.{few_entries, task_same}
-use Rattle.hub_core.proofs.kept.HubReads.{get_set}
+use Rattle.hub_core.proofs.kept.SetPlaces.{get_set}
 use Rattle.hub_core.proofs.calls.HubStates.{carried_set, device_here, device_there, grips_set, known_same, known_set}
 use Rattle.legal_days.specs.AccountedCalls.{tells_call, told_calls, told_falls}
 use Rattle.hub_core.specs.Homes.{CountsAreLow}
 use Rattle.home_types.specs.Kinds.{has_value, kind_at}
 use Rattle.hub_core.specs.HubKept.{probes_of}
 use Rattle.hub_core.specs.KeptByModel.{IsKeptByModel}
-use Rattle.hub_core.specs.HubCalls.{IsNextGrip}
+use Rattle.hub_core.specs.HubCalls.{IsNextGrip, SameWindow}
 use Rattle.hub_core.specs.HubSteps.{carrying, task_of}
-use Rattle.hub_core.specs.HubsKept.{FitsAtHome, FitsOut, HubIsKept, all_probes_taken, is_away}
+use Rattle.hub_core.specs.Away.{IsSent}
+use Rattle.hub_core.specs.HubsKept.{FitsAtHome, FitsOut, HandsAre, HubIsKept, IsWhole, all_probes_taken, is_away, open_of}
+use Rattle.hub_core.specs.KeptOrders.{OrderIsBeside}
+use Rattle.hub_core.specs.declared.open_windows.OpenWindow.TheInside.{Inside}
+use Rattle.home_types.specs.declared.numbers.DeviceNo.{DeviceNo}
+use Rattle.command_rules.specs.Rosters.{device_no}
 use Rattle.hub_core.specs.OpenHubs.{OpenHub, configuration_of, grip_in, held_in, hub_state_of, no_device, progress_at}
 use Rattle.window_order.specs.KeptOrders.{purpose_of}
 use Rattle.hub_core.specs.declared.known.DeviceProgress.{DeviceProgress}
 use Rattle.window_order.specs.declared.purposes.Purpose.{Purpose as KeptPurpose}
-use Rattle.lock_leasing.specs.Configurations.{Grip, is_out, read_of}
+use Rattle.lock_leasing.specs.Configurations.{Configuration, Grip, Grips, is_out, read_of}
 use Rattle.std.proofs.Common.{ap, ap₂, arith, cond, inl, inr, refl, subst, sym, ◌∙◌}
 use Rattle.std.proofs.lemmas.List.{length-set}
 use Rattle.std.proofs.lemmas.List.Sums.{count_by-le-length, sum_by-le, sum_by-set}
@@ -254,11 +259,6 @@ gone_kept {D = D} stands turns probes faults s r d left t purpose device slip ta
               ∙ ap₂ (λ q (p : DeviceProgress). task_of (configuration_of after) q (purpose_of p.purpose)) (sym leaves.maker) (sym here);
         }
 
-pub at_index : (xs : List DeviceProgress) (i : ℕ) (x : DeviceProgress) → slice_get xs i ≡ Some x → progress_at xs i ≡ x
-at_index [] i x at = absurd (cc)
-at_index (y ∷ xs) zero x at = cc
-at_index (y ∷ xs) (suc i) x at = at_index xs i x at
-
 -- what a list has at a place is some
 pub is_there : {A : Type 0} (xs : List A) (i : ℕ) (o : Option (Bor A)) → i < length xs → option_copied o ≡ slice_get xs i → is_some o ≡ true
 is_there xs i None less is = absurd (omega (arith, less, gone_past xs i (sym is)))
@@ -269,6 +269,85 @@ pub gone_carries : {D : Type 0} (s : OpenHub D) (r d left t : ℕ) (purpose : Ke
     → (hub_state_of (gone s d purpose left slip task t)).carried ≡ carrying (hub_state_of s) r d (purpose_of purpose) slip
 gone_carries s r d left t purpose slip task does within = carried_set s.places d (Out slip task) within ∙ ap (λ x. put (hub_state_of s).carried d (Some (record { slip = slip; task = x }))) does
 
+-- The parts of the hub from which it goes out
+
+-- the device is sent to the maker, for this purpose and task, and so many of its probes are left: so the parts change, but for the history
+pub record IsGone {D : Type 0} (turns probes faults : D → ℕ) (h t : Inside D) (r d : ℕ) (purpose : KeptPurpose) (left : ℕ) (task : Task) (grip : Gripped D Ready) : Type 0 where
+  pub sent : IsSent turns probes faults h.away (device_no d) r (record (progress_at h.away.known.items d) { purpose = purpose; probes_left = left }) task grip t.away
+  pub does : task ≡ task_of (configuration_of (open_of h)) r (purpose_of purpose)
+  pub probed_so : left + probed task ≡ (progress_at h.away.known.items d).probes_left
+  pub ticket : 1 ≤ one_for (nat_lt 0 r) + probed task
+  pub new : t ≡ record h { moment = t.moment; away = t.away; order = t.order }
+
+-- the device is one of the home
+pub gone_within : {D : Type 0} {stands turns probes faults : D → ℕ} (h t : Inside D) (r d : ℕ) (purpose : KeptPurpose) (left : ℕ) (task : Task)
+    (grip : Gripped D Ready) → IsGone turns probes faults h t r d purpose left task grip → IsWhole stands turns probes faults h
+    → (d < length h.away.gate.places) × (d < length h.away.known.items)
+gone_within h t r d purpose left task grip is k =
+    let within = slice_get_within h.away.gate.places d (Home grip.device) is.sent.at in
+    (within, omega (arith, within, k.shown.devices_size, k.shown.places_size))
+
+gone_leaves : {D : Type 0} {turns probes faults : D → ℕ} (h t : Inside D) (r d : ℕ) (purpose : KeptPurpose) (left : ℕ) (task : Task) (grip : Gripped D Ready)
+    → IsGone turns probes faults h t r d purpose left task grip → IsLeaving turns probes faults (open_of h) r d purpose left grip.device grip.slip task
+gone_leaves h t r d purpose left task grip is = record {
+  number = ap (λ (x : DeviceNo). x.0) is.sent.device;
+  maker = is.sent.maker_is;
+  stood = is.sent.stood;
+  had_turns = is.sent.had_turns;
+  had_probes = is.sent.had_probes;
+  had_faults = is.sent.had_faults;
+  does = is.does;
+  probed_so = is.probed_so;
+  ticket = is.ticket;
+}
+
+-- the hub shows it
+pub gone_shows : {D : Type 0} {turns probes faults : D → ℕ} (h t : Inside D) (r d : ℕ) (purpose : KeptPurpose) (left : ℕ) (task : Task) (grip : Gripped D Ready) → IsGone turns probes faults h t r d purpose left task grip → open_of t ≡ gone (open_of h) d purpose left grip.slip task t.moment
+gone_shows {D = D} h t r d purpose left task grip is =
+    ap (λ (x : Inside D). open_of x) is.new ∙ λ i. record (open_of h) { moment = t.moment; devices = is.sent.known_is i; places = is.sent.places i; tickets = is.sent.tickets i }
+
+-- .. and its grips
+pub gone_grips : {D : Type 0} {stands turns probes faults : D → ℕ} (h t : Inside D) (r d : ℕ) (purpose : KeptPurpose) (left : ℕ) (task : Task) (grip : Gripped D Ready) → IsGone turns probes faults h t r d purpose left task grip → IsWhole stands turns probes faults h
+    → ◌≡◌ {A = Grips} (configuration_of (open_of t)).grips (put (configuration_of (open_of h)).grips d (Some (record { maker = r; purpose = purpose_of purpose })))
+gone_grips {D = D} h t r d purpose left task grip is k =
+    let within = gone_within h t r d purpose left task grip is k in
+    ap (λ (x : OpenHub D). (configuration_of x).grips) (gone_shows h t r d purpose left task grip is)
+    ∙ ap (λ (c : Configuration). c.grips) (gone_configuration (open_of h) r d left t.moment purpose grip.slip task is.sent.maker_is within.0 within.1)
+
+-- what is kept is kept then, where configuration, line, table and hands are
+pub gone_whole : {D : Type 0} {stands turns probes faults : D → ℕ} (h t : Inside D) (r d : ℕ) (purpose : KeptPurpose) (left : ℕ) (task : Task)
+    (grip : Gripped D Ready) → IsGone turns probes faults h t r d purpose left task grip
+    → IsKeptByModel (configuration_of (open_of t)) h.rounds h.opened (held_in (open_of h))
+    → OrderIsBeside h.rounds h.history (configuration_of (open_of t)).grips t.order.line t.order.table → HandsAre h.history.setting (configuration_of (open_of t)).grips t.away.hands.items → IsWhole stands turns probes faults h → IsWhole stands turns probes faults t
+gone_whole {D = D} {stands = stands} {turns = turns} {probes = probes} {faults = faults} h t r d purpose left task grip is configuration order hands k =
+    subst (λ (x : Inside D). IsWhole stands turns probes faults x) (sym is.new) (record {
+      shown = subst (λ (x : Inside D). HubIsKept stands turns probes faults (open_of x)) is.new (subst (λ (x : OpenHub D). HubIsKept stands turns probes faults x) (sym shows)
+          (gone_kept stands turns probes faults (open_of h) r d left t.moment purpose grip.device grip.slip task is.sent.at (gone_leaves h t r d purpose left task grip is)
+          (subst (λ (x : OpenHub D). IsKeptByModel (configuration_of x) h.rounds h.opened (held_in (open_of h))) shows configuration) k.shown));
+      room = k.room;
+      order = subst (λ (x : Inside D). OrderIsBeside h.rounds h.history (configuration_of (open_of x)).grips t.order.line t.order.table) is.new order;
+      hands = subst (λ (x : Inside D). HandsAre h.history.setting (configuration_of (open_of x)).grips t.away.hands.items) is.new hands;
+    })
+  where
+    shows : open_of t ≡ gone (open_of h) d purpose left grip.slip task t.moment
+    shows = gone_shows h t r d purpose left task grip is
+
+-- in the same window
+pub gone_window : {D : Type 0} {stands turns probes faults : D → ℕ} (h t : Inside D) (r d : ℕ) (purpose : KeptPurpose) (left : ℕ) (task : Task)
+    (grip : Gripped D Ready) → IsGone turns probes faults h t r d purpose left task grip → IsWhole stands turns probes faults h
+    → SameWindow (open_of h) (open_of t)
+gone_window {D = D} h t r d purpose left task grip is k =
+    subst (λ (x : OpenHub D). SameWindow (open_of h) x) (sym (gone_shows h t r d purpose left task grip is)) (record {
+      setting = refl;
+      rounds = refl;
+      opened = refl;
+      at_opening = known_same (λ (p : DeviceProgress). p.at_opening) h.away.known.items d (record (progress_at h.away.known.items d) { purpose = purpose; probes_left = left }) (gone_within h t r d purpose left task grip is k).1 refl;
+    })
+
 -- its grip is the next one
-pub next_grip : {D : Type 0} (s t : OpenHub D) (grip : Gripped D Ready) (d : ℕ) → grip.slip.device.0 ≡ d → grip.slip.ticket ≡ s.tickets + 1 → t.tickets ≡ s.tickets + 1 → grip.slip.stood ≡ held_in s d → IsNextGrip s grip t
-next_grip s t grip d device ticket tickets stood = record { ticket = ticket; tickets = tickets; stood = stood ∙ ap (held_in s) (sym device) }
+pub gone_next : {D : Type 0} {turns probes faults : D → ℕ} (h t : Inside D) (r d : ℕ) (purpose : KeptPurpose) (left : ℕ) (task : Task) (grip : Gripped D Ready) → IsGone turns probes faults h t r d purpose left task grip → IsNextGrip (open_of h) grip (open_of t)
+gone_next h t r d purpose left task grip is = record {
+  ticket = is.sent.ticket;
+  tickets = is.sent.tickets;
+  stood = is.sent.stood ∙ ap (λ (x : DeviceNo). held_in (open_of h) x.0) (sym is.sent.device);
+}

@@ -9,7 +9,9 @@ use Rattle.device_gate.specs.declared.slips.Slip.{Slip}
 use Rattle.device_gate.specs.declared.slips.Task.{Task}
 use Rattle.device_gate.specs.declared.slips.Told.{Told}
 use Rattle.history_book.proofs.Counts.{fell_is}
+use Rattle.history_book.proofs.HistoryReads.{MayTake, run_place}
 use Rattle.history_book.specs.Histories.{entries_made, entries_of, kept_by}
+use Rattle.history_book.specs.ReadHistories.{HistoryState, read_in, with_more}
 use Rattle.history_book.specs.Readings.{Reading, put}
 use Rattle.history_book.specs.Settings.{Setting}
 use Rattle.history_book.specs.WellFormed.{IsWellFormed}
@@ -21,12 +23,10 @@ use Rattle.hub_core.proofs.calls.HubChanges.{events_same, length_with}
 use Rattle.hub_core.proofs.calls.HubStates.{carried_set, device_here, device_there, grips_set, kept_is, known_same, known_set}
 use Rattle.hub_core.proofs.calls.OutFor.{IsFor, brings_back, entries_for, out_for, some_entry, value_same}
 use Rattle.hub_core.proofs.kept.Hands.{hands_come}
-use Rattle.hub_core.proofs.kept.HubReads.{get_set, run_place}
 use Rattle.hub_core.proofs.kept.KeptByModel.{given_kept}
+use Rattle.hub_core.proofs.kept.SetPlaces.{get_set}
 use Rattle.hub_core.proofs.kept.Sizes.{few_events, history_fits}
-use Rattle.legal_days.proofs.Lists.{count_cons}
 use Rattle.hub_core.proofs.steps.Calls.{calls_told, falls_of, give_calls, give_counted, give_down, give_falls, give_registers, give_rises, is_up_for, rises_of}
-use Rattle.legal_days.specs.AccountedCalls.{told_calls, told_falls}
 use Rattle.hub_core.specs.Away.{IsHomeAgain, MayComeHome, events_after, known_after, turned, with_hand}
 use Rattle.hub_core.specs.Bounds.{most_entries}
 use Rattle.hub_core.specs.Homes.{CountsAreLow}
@@ -38,12 +38,13 @@ use Rattle.hub_core.specs.KeptByModel.{IsKeptByModel}
 use Rattle.hub_core.specs.KeptOrders.{OrderIsBeside}
 use Rattle.hub_core.specs.OpenHubs.{OpenHub, configuration_of, events_in, grip_in, held_in, hub_state_of, progress_at}
 use Rattle.window_order.specs.KeptOrders.{purpose_of}
-use Rattle.hub_core.specs.ReadHistories.{HistoryState, read_in, with_more}
 use Rattle.hub_core.specs.Steps.{after_give, at_moment, give_entries, with_entries, with_grip}
 use Rattle.hub_core.specs.declared.known.DeviceProgress.{DeviceProgress}
 use Rattle.hub_core.specs.declared.known.Events.{Events}
 use Rattle.hub_core.specs.declared.open_windows.OpenWindow.TheInside.{Inside}
 use Rattle.window_order.specs.declared.purposes.Purpose.{Purpose as KeptPurpose}
+use Rattle.legal_days.proofs.Lists.{count_cons}
+use Rattle.legal_days.specs.AccountedCalls.{told_calls, told_falls}
 use Rattle.lock_leasing.specs.Configurations.{Commands, Configuration, Grip, Grips, Probes, Purpose, Undoes, read_of}
 use Rattle.std.proofs.Common.{ap, arith, inl, inr, refl, subst, sym, ◌∙◌}
 use Rattle.std.proofs.lemmas.Bool.{eq-eqb, lt-ltb, ne_eqb}
@@ -342,6 +343,11 @@ returned_entries s grip why = entries_for s grip (purpose_of why)
 pub returned_comes : {D : Type 0} {stands turns probes faults : D → ℕ} (h : Inside D) (t : ℕ) (why : KeptPurpose) (tag : ℕ) (grip : Gripped D Done) → IsReturned stands turns probes faults h why tag grip → h.moment ≤ t → IsWhole stands turns probes faults h
     → ComesBack stands turns probes faults (open_of h) grip (returned_entries (open_of h) grip why) t
 returned_comes h t why tag grip returned later k = comes_back _ _ _ _ (open_of h) grip (purpose_of why) t tag (returned_for h why tag grip returned k) returned.called later k.shown
+
+-- its entries may be appended
+pub takes_back : {D : Type 0} {stands turns probes faults : D → ℕ} (h : Inside D) (why : KeptPurpose) (tag : ℕ) (grip : Gripped D Done) → IsReturned stands
+    turns probes faults h why tag grip → IsWhole stands turns probes faults h → MayTake h.history grip.slip.maker (returned_entries (open_of h) grip why)
+takes_back h why tag grip returned k = (returned_comes h h.moment why tag grip returned (omega arith) k).configuration.history.well_formed
 
 -- it may
 pub may_come : {D : Type 0} {stands turns probes faults : D → ℕ} (h : Inside D) (s : OpenHub D) (grip : Gripped D Done) → open_of h ≡ s → IsKept s.places grip.slip grip.task → IsWhole stands turns probes faults h → MayComeHome h.away grip

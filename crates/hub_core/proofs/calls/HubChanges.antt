@@ -1,9 +1,10 @@
 -- A step of a run in which no device goes out keeps what the type of a hub keeps, and is the step that it says.
 use Rattle.hub_core.proofs.kept.KeptByModel.{later_kept, taken_kept}
 use Rattle.history_book.proofs.Counts.{fell_is}
+use Rattle.history_book.proofs.HistoryReads.{MayTake, takes_first, takes_rest}
 use Rattle.history_book.specs.Histories.{entries_made, entries_of, kept_by, reading}
 use Rattle.history_book.specs.Settings.{Setting, is_weak}
-use Rattle.history_book.specs.WellFormed.{IsWellFormed}
+use Rattle.history_book.specs.WellFormed.{IsWellFormed, may_follow}
 use Rattle.history_book.specs.declared.entries.Cause.{Cause}
 use Rattle.history_book.specs.declared.entries.End.{End}
 use Rattle.history_book.specs.declared.entries.Entry.TheVariants.{Did, Doomed}
@@ -29,7 +30,7 @@ use Rattle.hub_core.specs.HubsKept.{HasRoomLeft, HubIsKept, IsWhole, all_probes_
 use Rattle.hub_core.specs.KeptOrders.{OrderIsBeside}
 use Rattle.hub_core.specs.OpenHubs.{OpenHub, configuration_of, events_in, held_in, hub_state_of, progress_at}
 use Rattle.window_order.specs.KeptOrders.{purpose_of}
-use Rattle.hub_core.specs.ReadHistories.{HistoryState, with_doom, with_entry, with_more}
+use Rattle.history_book.specs.ReadHistories.{HistoryState, read_in, with_doom, with_entry, with_more}
 use Rattle.hub_core.specs.Steps.{Choice, Moves, Over, after_choice, after_take, at_moment, choice_of}
 use Rattle.hub_core.specs.declared.decisions.Chosen.{Chosen}
 use Rattle.hub_core.specs.declared.open_windows.ClosingLists.{ClosingLists}
@@ -39,7 +40,7 @@ use Rattle.lock_leasing.specs.Configurations.{Commands, Configuration, Probes, P
 use Rattle.std.proofs.Common.{ap, append_assoc, ap₂, arith, length-append, refl, subst, sym, ◌∙◌}
 use Rattle.std.proofs.lemmas.List.{length-map}
 use Rattle.std.proofs.lemmas.Nat.{mul-le}
-use Rattle.std.specs.Prelude.{Bool, List, None, Option, Some, [], count_by, if◌then◌else◌, length, max, option_map, option_to_list, ℕ, ◌*◌, ◌++◌, ◌+◌, ◌-◌, ◌<◌, ◌∷◌, ◌≡◌, ◌≤◌}
+use Rattle.std.specs.Prelude.{Bool, IfSome, IsTrue, List, None, Option, Some, [], count_by, if◌then◌else◌, length, max, option_map, option_to_list, ℕ, ◌*◌, ◌++◌, ◌+◌, ◌-◌, ◌<◌, ◌∷◌, ◌≡◌, ◌≤◌}
 
 -- where a register is the same, what a device is out for does the same
 pub task_same : (s c : Configuration) (r : ℕ) (purpose : Purpose) → s.setting ≡ c.setting → ((read_of s).run r).register ≡ ((read_of c).run r).register → task_of s r purpose ≡ task_of c r purpose
@@ -174,6 +175,14 @@ has_places h r m es c is k =
 pub has_place : {D : Type 0} {stands turns probes faults : D → ℕ} (h : Inside D) (r m : ℕ) (e : Entry) (c : Making) → choice_of (configuration_of (open_of h)) r m ≡ making c (e ∷ []) → IsWhole stands turns probes faults h → 0 < h.history.spare
 has_place h r m e c is k = let places : 1 ≤ h.history.spare = has_places h r m (e ∷ []) c is k in omega (arith, places)
 
+-- these entries may be appended, ..
+pub takes_here : {D : Type 0} {stands turns probes faults : D → ℕ} (h : Inside D) (r m : ℕ) (es : List Entry) (c : Making) → choice_of (configuration_of (open_of h)) r m ≡ making c es → IsWhole stands turns probes faults h → MayTake h.history r es
+takes_here h r m es c is k = (entries_kept _ _ _ _ (open_of h) r m es c is k.shown).configuration.history.well_formed
+
+-- .. also where it is one
+pub follows_here : {D : Type 0} {stands turns probes faults : D → ℕ} (h : Inside D) (r m : ℕ) (e : Entry) (c : Making) → choice_of (configuration_of (open_of h)) r m ≡ making c (e ∷ []) → IsWhole stands turns probes faults h → IsTrue (may_follow h.history.setting (read_in h.history) e)
+follows_here h r m e c is k = takes_first h.history r e [] (takes_here h r m (e ∷ []) c is k)
+
 room_with : (rounds : ℕ) (h : HistoryState) (r : ℕ) (es : List Entry) (closing : ClosingLists) → length es ≤ h.spare → HasRoomLeft rounds h closing → HasRoomLeft rounds (with_more h r es) closing
 room_with rounds h r es closing some room =
     record {
@@ -211,6 +220,12 @@ answered_more h r k a (Some c) =
     let history = append_assoc h.history (kept_by r (Did (run_no r) k a ∷ [])) (kept_by r (Doomed (run_no r) c ∷ [])) in
     let left : h.spare - 1 - 1 ≡ h.spare - 2 = omega arith in
     λ i. record h { history = history i; spare = left i }
+
+-- the answer may be appended, and then the doom
+pub doom_follows : (h mid : HistoryState) (r k : ℕ) (a : Answer) (cause : Option Cause) → mid ≡ with_entry h r (Did (run_no r) k a) → MayTake h r (answer_entries r k a cause) → IfSome cause (λ c. IsTrue (may_follow mid.setting (read_in mid) (Doomed (run_no r) c)))
+doom_follows h mid r k a None is takes = tt
+doom_follows h mid r k a (Some c) is takes =
+    subst (λ (x : HistoryState). IsTrue (may_follow x.setting (read_in x) (Doomed (run_no r) c))) (sym is) (takes_first (with_entry h r (Did (run_no r) k a)) r (Doomed (run_no r) c) [] (takes_rest h r (Did (run_no r) k a) (Doomed (run_no r) c ∷ []) takes))
 
 -- The answers
 

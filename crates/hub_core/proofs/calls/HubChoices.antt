@@ -31,9 +31,10 @@ use Rattle.hub_core.proofs.windows.StrongChoices.{command_current, command_is, d
 use Rattle.hub_core.specs.Decisions.{current_command, skipped_command, strong_command, strong_doomed, unbarred_command}
 use Rattle.hub_core.specs.KeptByModel.{IsKeptByModel}
 use Rattle.hub_core.specs.HubsKept.{HubIsKept}
-use Rattle.hub_core.specs.OpenHubs.{OpenHub, configuration_of, grip_in, progress_of}
+use Rattle.history_book.specs.Progress.{progress_of}
+use Rattle.hub_core.specs.OpenHubs.{OpenHub, configuration_of, grip_in}
 use Rattle.hub_core.specs.Steps.{Absent, Choice, HandsOut, Moves, Over, Waits, aborts, choice_of, decide, decide_answered, decide_command, decide_doomed, down_entries, first_case, skip_entries}
-use Rattle.hub_core.specs.declared.known.RunProgress.{RunProgress}
+use Rattle.history_book.specs.declared.progress.RunProgress.{RunProgress}
 use Rattle.window_order.specs.declared.purposes.Purpose.{Purpose as KeptPurpose}
 use Rattle.hub_core.specs.declared.waits.Why.TheVariants.{Behind, Busy, Dirty, Strict}
 use Rattle.lineage_table.specs.Lineages.{LineageState}
@@ -331,27 +332,26 @@ hub_goes_on {D = D} s t r m p c x same run known going free there placed sound n
     next is
     ∙ ap (λ (y : OpenHub D). choice_of (configuration_of y) r m) same
 
-pub hub_commands : {D : Type 0} (s t : OpenHub D) (r m : ℕ) (p : RunProgress) (c : Command) (x : Choice) → s ≡ t → is_weak s.setting.mode ≡ false
+pub hub_commands : {D : Type 0} (s t : OpenHub D) (r m k v : ℕ) (p : RunProgress) (c : Command) (x : Choice) → s ≡ t → is_weak s.setting.mode ≡ false
     → true ≡ is_run s.setting.runs r → p ≡ progress_of ((read_of (configuration_of s)).run r) → p.ended ≡ None → None ≡ grip_wait t.setting (configuration_of t).grips r
-    → is_some p.arrived ≡ true → is_some p.placed ≡ true → p.doomed ≡ None → Some c ≡ next_command s.setting (read_of (configuration_of s)) r → holds c.when p.register ≡ true
-    → x ≡ strong_command t.setting (read_of (configuration_of t)) (configuration_of t).grips r (max t.moment m) p.answered c
+    → is_some p.arrived ≡ true → is_some p.placed ≡ true → p.doomed ≡ None → Some c ≡ next_command s.setting (read_of (configuration_of s)) r → k ≡ next_of (read_of (configuration_of s)) r → v ≡ ((read_of (configuration_of s)).run r).register → holds c.when v ≡ true
+    → x ≡ strong_command t.setting (read_of (configuration_of t)) (configuration_of t).grips r (max t.moment m) k c
     → x ≡ choice_of (configuration_of t) r m
-hub_commands {D = D} s t r m p c x same strong run known going free there placed sound next guard is =
+hub_commands {D = D} s t r m k v p c x same strong run known going free there placed sound next number value guard is =
     hub_goes_on s t r m p c x same run known going free there placed sound next
-    (is ∙ ap (λ (y : OpenHub D). strong_command y.setting (read_of (configuration_of y)) (configuration_of y).grips r (max y.moment m) p.answered c) (sym same)
-    ∙ ap (λ (y : RunProgress). strong_command s.setting (read_of (configuration_of s)) (configuration_of s).grips r (max s.moment m) y.answered c) known
-    ∙ sym (command_is s.setting (read_of (configuration_of s)) (configuration_of s).grips r (max s.moment m) (next_of (read_of (configuration_of s)) r) c strong (ap (λ (y : RunProgress). holds c.when y.register) (sym known) ∙ guard)))
+    (is ∙ ap (λ (y : OpenHub D). strong_command y.setting (read_of (configuration_of y)) (configuration_of y).grips r (max y.moment m) k c) (sym same) ∙ ap (λ j. strong_command s.setting (read_of (configuration_of s)) (configuration_of s).grips r (max s.moment m) j c) number
+    ∙ sym (command_is s.setting (read_of (configuration_of s)) (configuration_of s).grips r (max s.moment m) (next_of (read_of (configuration_of s)) r) c strong (ap (holds c.when) (sym value) ∙ guard)))
 
 -- .. or skips it
-pub hub_skips : {D : Type 0} (s t : OpenHub D) (r m : ℕ) (p : RunProgress) (c : Command) (x : Choice) → s ≡ t
+pub hub_skips : {D : Type 0} (s t : OpenHub D) (r m k v : ℕ) (p : RunProgress) (c : Command) (x : Choice) → s ≡ t
     → true ≡ is_run s.setting.runs r → p ≡ progress_of ((read_of (configuration_of s)).run r) → p.ended ≡ None → None ≡ grip_wait t.setting (configuration_of t).grips r
-    → is_some p.arrived ≡ true → is_some p.placed ≡ true → p.doomed ≡ None → Some c ≡ next_command s.setting (read_of (configuration_of s)) r → holds c.when p.register ≡ false
-    → x ≡ skipped_command t.setting (read_of (configuration_of t)) r p.answered
+    → is_some p.arrived ≡ true → is_some p.placed ≡ true → p.doomed ≡ None → Some c ≡ next_command s.setting (read_of (configuration_of s)) r → k ≡ next_of (read_of (configuration_of s)) r → v ≡ ((read_of (configuration_of s)).run r).register → holds c.when v ≡ false
+    → x ≡ skipped_command t.setting (read_of (configuration_of t)) r k
     → x ≡ choice_of (configuration_of t) r m
-hub_skips {D = D} s t r m p c x same run known going free there placed sound next guard is =
+hub_skips {D = D} s t r m k v p c x same run known going free there placed sound next number value guard is =
     hub_goes_on s t r m p c x same run known going free there placed sound next
-    (is ∙ ap (λ (y : OpenHub D). skipped_command y.setting (read_of (configuration_of y)) r p.answered) (sym same) ∙ ap (λ (y : RunProgress). skipped_command s.setting (read_of (configuration_of s)) r y.answered) known
-    ∙ sym (skip_is s.setting (read_of (configuration_of s)) (configuration_of s).grips r (max s.moment m) (next_of (read_of (configuration_of s)) r) c (ap (λ (y : RunProgress). holds c.when y.register) (sym known) ∙ guard)))
+    (is ∙ ap (λ (y : OpenHub D). skipped_command y.setting (read_of (configuration_of y)) r k) (sym same) ∙ ap (λ j. skipped_command s.setting (read_of (configuration_of s)) r j) number
+    ∙ sym (skip_is s.setting (read_of (configuration_of s)) (configuration_of s).grips r (max s.moment m) (next_of (read_of (configuration_of s)) r) c (ap (holds c.when) (sym value) ∙ guard)))
 
 pub hub_dooms : {D : Type 0} (s t : OpenHub D) (r m : ℕ) (p : RunProgress) (cause : Cause) (x : Choice) → s ≡ t → is_weak s.setting.mode ≡ false
     → true ≡ is_run s.setting.runs r → p ≡ progress_of ((read_of (configuration_of s)).run r) → p.ended ≡ None → None ≡ grip_wait t.setting (configuration_of t).grips r
@@ -443,20 +443,21 @@ pub finished_is : (s : Configuration) (r : ℕ) (cause : Cause) → is_weak s.se
 finished_is s r cause strong ends = ap (undo_by (read_of s) (value_without s.setting (read_of s) s.grips r)) (ends.over strong)
 
 -- the run is at its next command, whose guard holds
-pub hub_at_command : {D : Type 0} (stands turns probes faults : D → ℕ) (s t : OpenHub D) (r : ℕ) (p : RunProgress) (c : Command) → s ≡ t
+pub hub_at_command : {D : Type 0} (stands turns probes faults : D → ℕ) (s t : OpenHub D) (r k v : ℕ) (p : RunProgress) (c : Command) → s ≡ t
     → HubIsKept stands turns probes faults s → p ≡ progress_of ((read_of (configuration_of s)).run r) → p.ended ≡ None → is_some p.placed ≡ true
-    → p.doomed ≡ None → Some c ≡ next_command s.setting (read_of (configuration_of s)) r → holds c.when p.register ≡ true
-    → IsAtCommand (configuration_of t) r p.answered × (command_at t.setting.runs r p.answered ≡ c)
-hub_at_command {D = D} stands turns probes faults s t r p c same k known going placed sound next guard =
-    subst (λ (x : OpenHub D). IsAtCommand (configuration_of x) r p.answered × (command_at x.setting.runs r p.answered ≡ c)) same (
+    → p.doomed ≡ None → Some c ≡ next_command s.setting (read_of (configuration_of s)) r → k ≡ next_of (read_of (configuration_of s)) r
+    → v ≡ ((read_of (configuration_of s)).run r).register → holds c.when v ≡ true
+    → IsAtCommand (configuration_of t) r k × (command_at t.setting.runs r k ≡ c)
+hub_at_command {D = D} stands turns probes faults s t r k v p c same kept known going placed sound next number value guard =
+    subst (λ (x : OpenHub D). IsAtCommand (configuration_of x) r k × (command_at x.setting.runs r k ≡ c)) same (
       record {
         live = λ i. (was_placed ((read_of (configuration_of s)).run r).placed (ap (λ (x : RunProgress). is_some x.placed) (sym known) ∙ placed)) i && is_none ((ap (λ (x : RunProgress). x.ended) (sym known) ∙ going) i);
         sound = ap is_some (ap (λ (x : RunProgress). x.doomed) (sym known) ∙ sound);
-        next = sym (ap (λ (x : RunProgress). x.answered) known);
-        command = subst (λ y. y < length (commands_of s.setting.runs r)) (sym (ap (λ (x : RunProgress). x.answered) known)) there.0;
-        guard = (λ i. holds ((ap (λ (x : RunProgress). command_at s.setting.runs r x.answered) known ∙ there.1) i).when (sym known i).register) ∙ guard;
+        next = sym number;
+        command = subst (λ y. y < length (commands_of s.setting.runs r)) (sym number) there.0;
+        guard = (λ i. holds ((ap (command_at s.setting.runs r) number ∙ there.1) i).when (sym value i)) ∙ guard;
       },
-      ap (λ (x : RunProgress). command_at s.setting.runs r x.answered) known ∙ there.1,
+      ap (command_at s.setting.runs r) number ∙ there.1,
     )
   where
     there : (next_of (read_of (configuration_of s)) r < length (commands_of s.setting.runs r)) × (command_at s.setting.runs r (next_of (read_of (configuration_of s)) r) ≡ c)

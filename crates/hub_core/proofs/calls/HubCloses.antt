@@ -1,7 +1,7 @@
 -- A window that closes: its devices are home, its record is legal, and the home that is left is as every home is kept.
 use Rattle.legal_days.proofs.Lists.{at_place}
 use Rattle.lock_leasing.specs.Words.{standing_value}
-use Rattle.hub_core.specs.ReadHistories.{read_in}
+use Rattle.history_book.specs.ReadHistories.{read_in}
 use Rattle.history_book.specs.declared.entries.End.TheVariants.{Committed}
 use Rattle.hub_core.specs.KeptByModel.{IsKeptByModel}
 use Rattle.hub_core.proofs.weak.WeakClosings.{weak_ends, weak_legal_window, weak_none_out}

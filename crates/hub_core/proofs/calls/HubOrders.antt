@@ -1,22 +1,19 @@
 -- The line and the table of a hub, in its steps.
-use Rattle.hub_core.specs.WeakSteps.{weak_rest}
-use Rattle.hub_core.specs.declared.known.RunProgress.{RunProgress}
-use Rattle.abort_rollback.specs.declared.undos.Undo.TheVariants.{Finished}
 use Rattle.abort_rollback.specs.Undos.{has_effective_write, next_undo, undo_on}
-use Rattle.hub_core.proofs.calls.NextUndos.{next_undo_is}
-use Rattle.hub_core.specs.KeptByModel.{IsKeptByModel}
-use Rattle.hub_core.proofs.kept.TableFits.{counted_told, either_model}
-use Rattle.hub_core.proofs.kept.KeptByModel.{read_kept}
+use Rattle.abort_rollback.specs.declared.undos.Undo.TheVariants.{Finished}
 use Rattle.command_rules.specs.Footprints.{FitsIndex}
 use Rattle.command_rules.specs.Rosters.{Run, command_at, commands_of, device_no, is_on, is_run, run_no, touches}
 use Rattle.device_gate.specs.Grips.{Gripped}
-use Rattle.device_gate.specs.declared.gates.Place.TheVariants.{Home, Out}
 use Rattle.device_gate.specs.declared.grips.Ready.{Ready}
 use Rattle.device_gate.specs.declared.slips.Task.{Task}
+use Rattle.history_book.proofs.HistoryReads.{MayTake}
+use Rattle.history_book.proofs.Snoc.{put_other}
 use Rattle.history_book.proofs.Splits.{line_length}
-use Rattle.history_book.specs.Histories.{entries_made, entries_of, entry}
 use Rattle.history_book.specs.Gaps.{front_for, gap_set, line_for, split_of}
+use Rattle.history_book.specs.Histories.{entries_made, entries_of, entry}
 use Rattle.history_book.specs.Plans.{planned_times}
+use Rattle.history_book.specs.Progress.{progress_of}
+use Rattle.history_book.specs.ReadHistories.{HistoryState, read_in, with_doom, with_entry, with_more}
 use Rattle.history_book.specs.Readings.{Planned, Reading, is_doomed, next_command, next_of, pends, put}
 use Rattle.history_book.specs.Settings.{Setting, is_device, is_weak, scheduler_of}
 use Rattle.history_book.specs.WellFormed.{may_follow}
@@ -26,6 +23,9 @@ use Rattle.history_book.specs.declared.entries.End.TheVariants.{Aborted, Committ
 use Rattle.history_book.specs.declared.entries.Entry.TheVariants.{Arrived, Did, Doomed, Ended, Placed, Undid}
 use Rattle.history_book.specs.declared.entries.Entry.{Entry}
 use Rattle.history_book.specs.declared.entries.Kept.{Kept}
+use Rattle.history_book.specs.declared.progress.RunProgress.{RunProgress}
+use Rattle.home_types.specs.Commands.{holds}
+use Rattle.home_types.specs.Kinds.{kind_at}
 use Rattle.home_types.specs.declared.commands.Answer.TheVariants.{Down}
 use Rattle.home_types.specs.declared.commands.Command.{Command}
 use Rattle.home_types.specs.declared.commands.View.TheVariants.{Down as ViewedDown}
@@ -34,51 +34,58 @@ use Rattle.home_types.specs.declared.items.Item.{Item}
 use Rattle.home_types.specs.declared.modes.Scheduler.TheVariants.{Timeline}
 use Rattle.home_types.specs.declared.modes.Scheduler.{Scheduler}
 use Rattle.home_types.specs.declared.numbers.DeviceNo.{DeviceNo}
-use Rattle.hub_core.proofs.kept.Hands.{hand_goes, run_hand}
-use Rattle.hub_core.proofs.calls.HubChanges.{Ending, Going, IsEntered, answer_entries, answered_more, entered_whole, entries_kept, has_places}
+use Rattle.hub_core.proofs.calls.Departures.{gone_grips, gone_whole}
+use Rattle.hub_core.proofs.calls.HubChanges.{Ending, Going, IsEntered, answer_entries, answered_more, entered_whole, entries_kept, has_places, takes_here}
 use Rattle.hub_core.proofs.calls.HubChoices.{IsAborting, IsAnsweringDown, IsFailing, answering, dropping, failing, finished_is, rest_downs}
+use Rattle.hub_core.proofs.calls.HubOuts.{GoesFor, IsHanded, IsHandedOut, handed_gone, handed_kept, handed_out}
+use Rattle.hub_core.proofs.calls.NextUndos.{next_undo_is}
 use Rattle.hub_core.proofs.calls.PlannedUses.{planned_devices}
 use Rattle.hub_core.proofs.calls.Scheduling.{scheduled_as_planned}
-use Rattle.hub_core.proofs.calls.HubOuts.{GoesFor, IsHanded, IsHandedOut, handed_out, went_out}
-use Rattle.hub_core.proofs.calls.HubStates.{grips_set}
-use Rattle.hub_core.proofs.kept.Kept.{enters_place}
-use Rattle.hub_core.proofs.windows.StrongChoices.{IsPlacing}
-use Rattle.hub_core.proofs.steps.Choices.{decide_is}
-use Rattle.hub_core.proofs.kept.Sizes.{line_fits}
 use Rattle.hub_core.proofs.kept.Arranged.{arranged_same, marks_arranged, marks_for, may_arrange}
-use Rattle.hub_core.proofs.kept.SealedOrders.{sealed_is}
+use Rattle.hub_core.proofs.kept.Finds.{none_found, none_there}
+use Rattle.hub_core.proofs.kept.Hands.{hand_goes, run_hand}
+use Rattle.hub_core.proofs.kept.Kept.{enters_place}
+use Rattle.hub_core.proofs.kept.KeptByModel.{read_kept}
 use Rattle.hub_core.proofs.kept.OrderSteps.{done_after, last_follows, may_note_down, none_commands, order_aborted, order_arrived, order_committed, order_doomed, order_doomed_if, order_dropped, order_joined, order_out, order_placed, order_told_down, order_told_weakly, order_undo_out, read_more}
+use Rattle.hub_core.proofs.kept.SealedOrders.{sealed_is}
+use Rattle.hub_core.proofs.kept.Sizes.{line_fits}
+use Rattle.hub_core.proofs.kept.TableFits.{counted_told, either_model}
+use Rattle.hub_core.proofs.steps.Choices.{decide_is}
 use Rattle.hub_core.proofs.steps.Takes.{live_run}
+use Rattle.hub_core.proofs.windows.StrongChoices.{IsPlacing}
 use Rattle.hub_core.specs.Bounds.{most_items}
 use Rattle.hub_core.specs.HubKept.{ConfigurationIsKept}
-use Rattle.hub_core.specs.HubsKept.{HandsAre, HubIsKept, IsWhole, open_of}
+use Rattle.hub_core.specs.HubsKept.{HandsAre, IsWhole, open_of}
+use Rattle.hub_core.specs.KeptByModel.{IsKeptByModel}
 use Rattle.hub_core.specs.KeptOrders.{OrderIsBeside}
 use Rattle.window_order.specs.KeptOrders.{IsSealed, MayArrange, MayNote, arranged, is_first, noted_first, purpose_of, scheduled_with}
-use Rattle.hub_core.specs.OpenHubs.{OpenHub, configuration_of, grip_in, held_in, progress_at, progress_of}
+use Rattle.hub_core.specs.OpenHubs.{OpenHub, configuration_of, held_in, progress_at}
 use Rattle.hub_core.specs.Openings.{MayOpen, names_values_of}
 use Rattle.hub_core.specs.PlannedPlaces.{AreUsesOf, HoldsPlan, IsForHome}
 use Rattle.hub_core.specs.Steps.{HandsOut, Moves, choice_of}
-use Rattle.window_order.specs.declared.planned_uses.PlannedUse.{PlannedUse}
-use Rattle.hub_core.specs.declared.open_windows.OpenWindow.TheInside.{Inside}
+use Rattle.hub_core.specs.WeakSteps.{weak_rest}
 use Rattle.window_order.specs.declared.kept_orders.KeptOrder.{KeptOrder}
 use Rattle.hub_core.specs.declared.known.DeviceProgress.{DeviceProgress}
+use Rattle.hub_core.specs.declared.open_windows.OpenWindow.TheInside.{Inside}
+use Rattle.window_order.specs.declared.planned_uses.PlannedUse.{PlannedUse}
 use Rattle.window_order.specs.declared.purposes.Purpose.{Purpose as KeptPurpose}
-use Rattle.hub_core.specs.ReadHistories.{HistoryState, read_in, with_doom, with_entry, with_more}
-use Rattle.home_types.specs.Commands.{holds}
-use Rattle.home_types.specs.Kinds.{kind_at}
 use Rattle.lineage_table.specs.Accesses.{IsDisciplined, effective_writer}
 use Rattle.lineage_table.specs.Lineages.{LineageState, accesses_at, committed_lineage, lineage_at, removed, undone, with_lineage}
+use Rattle.lock_leasing.proofs.Facts.{next_is_left}
 use Rattle.lock_leasing.specs.Configurations.{Commands, Configuration, Grips, Probes, Purpose, Undoes, is_command, is_out, is_undo, read_of}
+use Rattle.lock_leasing.specs.Places.{GripsFit, IsClear, MayBeOut, in_order}
 use Rattle.lock_leasing.specs.Standings.{IsRosterFor, IsStandingOf}
 use Rattle.serial_line.specs.Marks.{Mark, Marked, items_of, marks_without, settling, stands, touching, with_item}
 use Rattle.std.proofs.Common.{ap, ap₂, arith, length-append, refl, subst, sym, ◌∙◌}
+use Rattle.std.proofs.lemmas.Bool.{and_parts, eq-eqb}
 use Rattle.std.proofs.lemmas.Grind.{common_steps}
 use Rattle.std.proofs.lemmas.List.{length-map, take-append-drop}
-use Rattle.std.proofs.lemmas.Option.{slice_get-get_or, slice_get_within}
+use Rattle.std.proofs.lemmas.Option.{slice_get-get_or}
 use Rattle.std.specs.List.{All, range_with_len}
-use Rattle.std.specs.Prelude.{Bool, IsSome, IsTrue, List, None, Option, Some, [], drop, false, get_or, if◌then◌else◌, is_none, length, max, nat_lt, not, option_map, slice_get, suc, take, true, unwrap_or, zero, ℕ, ◌&&◌, ◌++◌, ◌+◌, ◌-◌, ◌<◌, ◌==◌, ◌||◌, ◌∷◌, ◌≡◌, ◌≤◌}
+use Rattle.std.specs.Prelude.{Bool, IsSome, IsTrue, List, None, Option, Some, [], drop, false, get_or, if◌then◌else◌, is_none, length, max, nat_lt, not, option_map, suc, take, true, unwrap_or, zero, ℕ, ◌&&◌, ◌++◌, ◌+◌, ◌-◌, ◌<◌, ◌==◌, ◌||◌, ◌∷◌, ◌≡◌, ◌≤◌}
 use Rattle.timeline_scheduler.specs.Scratches.{HoldsTimes, ScratchRoom}
 use Rattle.window_order.proofs.FewAccesses.{few_accesses}
+use Rattle.window_order.proofs.Firsts.{below_home}
 use Rattle.window_order.proofs.Grips.{HoldsNone, fits_other, holds_none}
 use Rattle.window_order.proofs.Joined.{same_parts}
 use Rattle.window_order.proofs.PlacedTables.{new_on}
@@ -86,16 +93,10 @@ use Rattle.window_order.proofs.Promises.{order_stands}
 use Rattle.window_order.proofs.ReadFacts.{IsRead, read_facts}
 use Rattle.window_order.proofs.Rearranged.{read_kept as read_rearranged, table_kept}
 use Rattle.window_order.proofs.Representing.{represents}
-use Rattle.window_order.specs.MarksKept.{MarksAreKept}
 use Rattle.window_order.proofs.TouchedLines.{live_stands, unplaced_absent}
+use Rattle.window_order.specs.MarksKept.{MarksAreKept}
 use Rattle.window_order.specs.TableChanges.{ChangesEach, IsNewOn, doomed_lineage, is_done_there, scheduled_on}
 use Rattle.window_order.specs.TableKept.{TableIsKept}
-use Rattle.history_book.proofs.Snoc.{put_other}
-use Rattle.hub_core.proofs.kept.Finds.{none_found, none_there}
-use Rattle.lock_leasing.proofs.Facts.{next_is_left}
-use Rattle.lock_leasing.specs.Places.{GripsFit, IsClear, MayBeOut, in_order}
-use Rattle.std.proofs.lemmas.Bool.{and_parts, eq-eqb}
-use Rattle.window_order.proofs.Firsts.{below_home}
 
 -- What is kept of the hub's history
 
@@ -388,17 +389,17 @@ next_home h r c next k =
     omega (arith, within, k.order.table_is.devices)
 
 -- the run is told Down where its device, which is home, is counted down
-pub hub_downs : {D : Type 0} {stands turns probes faults : D → ℕ} (h : Inside D) (s : OpenHub D) (r : ℕ) (p : RunProgress) (c : Command) → open_of h ≡ s → p ≡ progress_of ((read_of (configuration_of s)).run r) → p.doomed ≡ None → Some c ≡ next_command h.history.setting (read_in h.history) r
-    → holds c.when p.register ≡ true → is_out (configuration_of s).grips c.device.0 ≡ false → false ≡ (lineage_at h.order.table c.device.0).up → IsWhole stands turns probes faults h
-    → Moves (Did (run_no r) p.answered Down ∷ (if c.must then Doomed (run_no r) (MustDown p.answered) ∷ [] else [])) ≡ weak_rest s.setting (read_of (configuration_of s)) (configuration_of s).grips r
-hub_downs {D = D} h s r p c seen known sound next guard home down k =
-    ap (λ x. Moves (Did (run_no r) x Down ∷ (if c.must then Doomed (run_no r) (MustDown x) ∷ [] else []))) (ap (λ (x : RunProgress). x.answered) known)
+pub hub_downs : {D : Type 0} {stands turns probes faults : D → ℕ} (h : Inside D) (s : OpenHub D) (r k v : ℕ) (p : RunProgress) (c : Command) → open_of h ≡ s → p ≡ progress_of ((read_of (configuration_of s)).run r) → p.doomed ≡ None → Some c ≡ next_command h.history.setting (read_in h.history) r
+    → k ≡ next_of (read_in h.history) r → v ≡ ((read_in h.history).run r).register → holds c.when v ≡ true → is_out (configuration_of s).grips c.device.0 ≡ false → false ≡ (lineage_at h.order.table c.device.0).up → IsWhole stands turns probes faults h
+    → Moves (Did (run_no r) k Down ∷ (if c.must then Doomed (run_no r) (MustDown k) ∷ [] else [])) ≡ weak_rest s.setting (read_of (configuration_of s)) (configuration_of s).grips r
+hub_downs {D = D} h s r k v p c seen known sound next number value guard home down whole =
+    ap (λ x. Moves (Did (run_no r) x Down ∷ (if c.must then Doomed (run_no r) (MustDown x) ∷ [] else []))) (number ∙ ap (λ (x : OpenHub D). next_of (read_of (configuration_of x)) r) seen)
     ∙ rest_downs s.setting (read_of (configuration_of s)) (configuration_of s).grips r c (ap (λ (x : RunProgress). x.doomed) (sym known) ∙ sound)
-    (ap (λ (x : OpenHub D). next_command x.setting (read_of (configuration_of x)) r) (sym seen) ∙ sym next) (ap (λ (x : RunProgress). holds c.when x.register) (sym known) ∙ guard) home
-    (ap (λ (x : OpenHub D). (read_of (configuration_of x)).up c.device.0) (sym seen) ∙ sym (counted_told h.history.setting (read_in h.history) (configuration_of (open_of h)).grips h.order.table c.device.0 below k.order.table_is) ∙ sym down)
+    (ap (λ (x : OpenHub D). next_command x.setting (read_of (configuration_of x)) r) (sym seen) ∙ sym next) (ap (holds c.when) (sym (value ∙ ap (λ (x : OpenHub D). ((read_of (configuration_of x)).run r).register) seen)) ∙ guard) home
+    (ap (λ (x : OpenHub D). (read_of (configuration_of x)).up c.device.0) (sym seen) ∙ sym (counted_told h.history.setting (read_in h.history) (configuration_of (open_of h)).grips h.order.table c.device.0 below whole.order.table_is) ∙ sym down)
   where
     below : c.device.0 < length h.history.setting.first
-    below = let within = next_home h r c next k in omega (arith, within, k.order.table_is.devices)
+    below = let within = next_home h r c next whole in omega (arith, within, whole.order.table_is.devices)
 
 -- A run ends
 
@@ -536,7 +537,14 @@ down_place h r m k must is whole = at must (has_places h r m _ Going is whole)
     at true places = let two : 2 ≤ h.history.spare = places in omega (arith, two)
     at false places = let one : 1 ≤ h.history.spare = places in omega (arith, one)
 
--- .. and behind it for the doom
+-- the answer and the doom may be appended
+pub told_takes : {D : Type 0} {stands turns probes faults : D → ℕ} (h : Inside D) (r m k : ℕ) (must : Bool) (cause : Option Cause)
+    → choice_of (configuration_of (open_of h)) r m ≡ Moves (Did (run_no r) k Down ∷ (if must then Doomed (run_no r) (MustDown k) ∷ [] else []))
+    → cause ≡ (if must then Some (MustDown k) else None)
+    → IsWhole stands turns probes faults h → MayTake h.history r (answer_entries r k Down cause)
+told_takes h r m k must cause is because whole = takes_here h r m (answer_entries r k Down cause) Going (is ∙ ap (λ es. Moves es) (told_entries r k must cause because)) whole
+
+-- behind the answer there is a place for the doom
 pub told_place : {D : Type 0} {stands turns probes faults : D → ℕ} (h : Inside D) (r m k : ℕ) (must : Bool) (cause : Option Cause) (mid : HistoryState) → choice_of (configuration_of (open_of h)) r m ≡ Moves (Did (run_no r) k Down ∷ (if must then Doomed (run_no r) (MustDown k) ∷ [] else []))
     → cause ≡ (if must then Some (MustDown k) else None) → mid ≡ with_entry h.history r (Did (run_no r) k Down) → IsWhole stands turns probes faults h → IsSome cause → 0 < mid.spare
 told_place h r m k must cause mid is because answered whole some = at cause some (has_places h r m (answer_entries r k Down cause) Going (is ∙ ap (λ es. Moves es) (told_entries r k must cause because)) whole)
@@ -673,14 +681,6 @@ pub record IsTouched {D : Type 0} (h t : Inside D) (r d : ℕ) (purpose : Purpos
   pub sealed : t.order.line.sealed ≡ h.order.line.sealed
   pub table : t.order.table ≡ (if is_undo purpose then with_lineage h.order.table d (undone r) else h.order.table)
 
-gone_grips : {D : Type 0} {stands turns probes faults : D → ℕ} (h t : Inside D) (r m d : ℕ) (purpose : KeptPurpose) (known : DeviceProgress) (task : Task) (grip : Gripped D Ready) → IsHanded turns probes faults h t r m d purpose known task grip → IsWhole stands turns probes faults h
-    → ◌≡◌ {A = Grips} (configuration_of (open_of t)).grips (put (configuration_of (open_of h)).grips d (Some (record { maker = r; purpose = purpose_of purpose })))
-gone_grips h t r m d purpose known task grip handed k =
-    let within = slice_get_within h.away.gate.places d (Home grip.device) handed.sent.at in
-    (λ i e. grip_in (slice_get (handed.sent.places i) e) (progress_at (handed.sent.known_is i) e).purpose)
-    ∙ grips_set h.away.gate.places h.away.known.items d (Out grip.slip task) (record known { purpose = purpose }) within (omega (arith, within, k.shown.devices_size, k.shown.places_size))
-    ∙ (λ i. put (configuration_of (open_of h)).grips d (Some (record { maker = handed.sent.maker_is i; purpose = purpose_of purpose })))
-
 order_went : {D : Type 0} {stands turns probes faults : D → ℕ} (h t : Inside D) (r m d : ℕ) (purpose : KeptPurpose) (known : DeviceProgress) (task : Task) (grip : Gripped D Ready) → IsHanded turns probes faults h t r m d purpose known task grip → IsTouched h t r d (purpose_of purpose)
     → IsWhole stands turns probes faults h → OrderIsBeside h.rounds h.history (configuration_of (open_of t)).grips t.order.line t.order.table
 order_went {D = D} h t r m d purpose known task grip handed touched k =
@@ -699,7 +699,7 @@ order_went {D = D} h t r m d purpose known task grip handed touched k =
     out = handed_out s h.rounds h.opened (held_in (open_of h)) r m d (purpose_of purpose) k.shown.configuration handed.chosen
 
     gone : ◌≡◌ {A = Grips} (configuration_of (open_of t)).grips (put g d (Some (record { maker = r; purpose = purpose_of purpose })))
-    gone = gone_grips h t r m d purpose known task grip handed k
+    gone = gone_grips h t r d purpose (progress_at h.away.known.items d).probes_left task grip (handed_gone h t r m d purpose known task grip handed k) k
 
 -- its run's hand is one of those that are known
 hands_went : {D : Type 0} {stands turns probes faults : D → ℕ} (h t : Inside D) (r m d : ℕ) (purpose : KeptPurpose) (known : DeviceProgress) (task : Task) (grip : Gripped D Ready) → IsHanded turns probes faults h t r m d purpose known task grip
@@ -708,16 +708,12 @@ hands_went h t r m d purpose known task grip handed k =
     let out = handed_out (configuration_of (open_of h)) h.rounds h.opened (held_in (open_of h)) r m d (purpose_of purpose) k.shown.configuration handed.chosen in
     hand_goes h.history.setting (configuration_of (open_of h)).grips (configuration_of (open_of t)).grips r (device_no d)
     (purpose_of purpose) h.away.hands.items t.away.hands.items out.run (below_home h.history.setting d out.device) out.free (none_there _ out.home)
-    (gone_grips h t r m d purpose known task grip handed k)
+    (gone_grips h t r d purpose (progress_at h.away.known.items d).probes_left task grip (handed_gone h t r m d purpose known task grip handed k) k)
     (handed.sent.hands ∙ run_hand h.history.setting.runs h.away.hands.items r (Some (device_no d)) out.run) k.hands
 
 -- the device is handed out, and touched by its run
 pub handed_whole : {D : Type 0} {stands turns probes faults : D → ℕ} (h t : Inside D) (r m d : ℕ) (purpose : KeptPurpose) (known : DeviceProgress) (task : Task) (grip : Gripped D Ready) → IsHanded turns probes faults h t r m d purpose known task grip → IsTouched h t r d (purpose_of purpose)
     → IsWhole stands turns probes faults h → IsWhole stands turns probes faults t
-handed_whole {D = D} {stands = stands} {turns = turns} {probes = probes} {faults = faults} h t r m d purpose known task grip handed touched k =
-    subst (λ (x : Inside D). IsWhole stands turns probes faults x) (sym handed.new) (record {
-      shown = subst (λ (x : Inside D). HubIsKept stands turns probes faults (open_of x)) handed.new (went_out h t r m d purpose known task grip handed k).kept;
-      room = k.room;
-      order = subst (λ (x : Inside D). OrderIsBeside h.rounds h.history (configuration_of (open_of x)).grips t.order.line t.order.table) handed.new (order_went h t r m d purpose known task grip handed touched k);
-      hands = subst (λ (x : Inside D). HandsAre h.history.setting (configuration_of (open_of x)).grips t.away.hands.items) handed.new (hands_went h t r m d purpose known task grip handed k);
-    })
+handed_whole h t r m d purpose known task grip handed touched k =
+    gone_whole h t r d purpose (progress_at h.away.known.items d).probes_left task grip (handed_gone h t r m d purpose known task grip handed k) (handed_kept h t r m d purpose known task grip handed k)
+    (order_went h t r m d purpose known task grip handed touched k) (hands_went h t r m d purpose known task grip handed k) k

@@ -1,36 +1,37 @@
 -- A device that goes out keeps what the type of a hub keeps.
 use Rattle.command_rules.specs.Rosters.{command_at, commands_of, device_no, is_run}
-use Rattle.home_types.specs.Commands.{driven, reads}
 use Rattle.device_gate.specs.Calls.{probed}
 use Rattle.device_gate.specs.Grips.{Gripped}
-use Rattle.device_gate.specs.declared.grips.Ready.{Ready}
 use Rattle.device_gate.specs.Places.{IsHome}
 use Rattle.device_gate.specs.declared.gates.Place.TheVariants.{Home, Out}
+use Rattle.device_gate.specs.declared.grips.Ready.{Ready}
 use Rattle.device_gate.specs.declared.slips.Slip.{Slip}
-use Rattle.device_gate.specs.declared.slips.Task.{Task}
 use Rattle.device_gate.specs.declared.slips.Task.TheVariants.{Drive, Sense}
-use Rattle.home_types.specs.declared.numbers.DeviceNo.{DeviceNo}
-use Rattle.hub_core.specs.Away.{IsSent, MaySend}
+use Rattle.device_gate.specs.declared.slips.Task.{Task}
+use Rattle.history_book.proofs.HistoryReads.{run_place}
 use Rattle.history_book.specs.Readings.{is_doomed, is_live, next_command, next_of, put, sees_down}
 use Rattle.history_book.specs.Settings.{is_device, is_weak}
+use Rattle.home_types.specs.Commands.{driven, reads}
+use Rattle.home_types.specs.Kinds.{kind_at}
 use Rattle.home_types.specs.declared.commands.Command.{Command}
+use Rattle.home_types.specs.declared.numbers.DeviceNo.{DeviceNo}
+use Rattle.hub_core.proofs.calls.Departures.{IsGone, few_tickets, gone, gone_carries, gone_configuration, gone_next, gone_shows, gone_window, gone_within, has_room, home_place, one_for}
 use Rattle.hub_core.proofs.calls.HubChanges.{step_is}
-use Rattle.hub_core.proofs.calls.Departures.{IsLeaving, few_tickets, gone, gone_carries, gone_configuration, gone_kept, has_room, home_place, next_grip, one_for}
-use Rattle.hub_core.proofs.kept.HubReads.{run_place}
-use Rattle.hub_core.proofs.calls.HubStates.{known_same, put_at}
+use Rattle.hub_core.proofs.calls.HubStates.{put_at}
+use Rattle.hub_core.proofs.kept.Hands.{run_above}
 use Rattle.hub_core.proofs.kept.KeptByModel.{taken_kept}
 use Rattle.hub_core.proofs.steps.Choices.{decide_is}
-use Rattle.hub_core.specs.Openings.{names_values_of}
-use Rattle.home_types.specs.Kinds.{kind_at}
-use Rattle.hub_core.specs.KeptByModel.{IsKeptByModel}
-use Rattle.hub_core.specs.HubSteps.{Chose, HubStep, Take, carried_after, task_of}
+use Rattle.hub_core.specs.Away.{IsSent, MaySend}
 use Rattle.hub_core.specs.HubCalls.{DeviceGoesOut, SameWindow}
+use Rattle.hub_core.specs.HubSteps.{Chose, HubStep, Take, carried_after, task_of}
 use Rattle.hub_core.specs.HubsKept.{HubIsKept, IsWhole, open_of}
+use Rattle.hub_core.specs.KeptByModel.{IsKeptByModel}
 use Rattle.hub_core.specs.OpenHubs.{OpenHub, configuration_of, held_in, hub_state_of, progress_at}
 use Rattle.window_order.specs.KeptOrders.{purpose_of}
+use Rattle.hub_core.specs.Openings.{names_values_of}
 use Rattle.hub_core.specs.Steps.{HandsOut, after_choice, at_moment, choice_of, with_grip}
-use Rattle.hub_core.specs.declared.open_windows.OpenWindow.TheInside.{Inside}
 use Rattle.hub_core.specs.declared.known.DeviceProgress.{DeviceProgress}
+use Rattle.hub_core.specs.declared.open_windows.OpenWindow.TheInside.{Inside}
 use Rattle.window_order.specs.declared.purposes.Purpose.{Purpose as KeptPurpose}
 use Rattle.lock_leasing.specs.Configurations.{Commands, Configuration, Probes, Purpose, Undoes, is_out, read_of}
 use Rattle.lock_leasing.specs.Waits.{grip_wait}
@@ -38,7 +39,7 @@ use Rattle.lock_leasing.specs.Words.{has_effect, value_without}
 use Rattle.std.proofs.Common.{ap, ap₂, arith, refl, subst, sym, ◌∙◌}
 use Rattle.std.proofs.lemmas.Grind.{common_steps}
 use Rattle.std.proofs.lemmas.Option.{slice_get_within}
-use Rattle.std.specs.Prelude.{Bool, IsTrue, None, Some, false, if◌then◌else◌, is_some, length, max, nat_lt, not, slice_get, slice_set, suc, true, ℕ, ◌&&◌, ◌-◌, ◌<◌, ◌||◌, ◌≡◌}
+use Rattle.std.specs.Prelude.{Bool, IsTrue, None, Some, false, if◌then◌else◌, is_some, length, max, nat_lt, not, slice_get, slice_set, true, ℕ, ◌&&◌, ◌<◌, ◌||◌, ◌≡◌}
 use Rattle.window_order.proofs.Firsts.{below_home}
 
 -- Why it goes
@@ -216,33 +217,65 @@ pub record IsHanded {D : Type 0} (turns probes faults : D → ℕ) (h t : Inside
   pub moment_is : t.moment ≡ max h.moment m
   pub new : t ≡ record h { moment = t.moment; away = t.away; order = t.order }
 
-pub record WentOut {D : Type 0} (stands turns probes faults : D → ℕ) (s : OpenHub D) (r m : ℕ) (grip : Gripped D Ready) (t : OpenHub D) : Type 0 where
-  pub kept : HubIsKept stands turns probes faults t
+-- so it is gone
+pub handed_gone : {D : Type 0} {stands turns probes faults : D → ℕ} (h t : Inside D) (r m d : ℕ) (purpose : KeptPurpose) (known : DeviceProgress) (task : Task) (grip : Gripped D Ready) → IsHanded turns probes faults h t r m d purpose known task grip → IsWhole stands turns probes faults h
+    → IsGone turns probes faults h t r d purpose (progress_at h.away.known.items d).probes_left task grip
+handed_gone {turns = turns} {probes = probes} {faults = faults} h t r m d purpose known task grip handed k =
+    let out = handed_out (configuration_of (open_of h)) h.rounds h.opened (held_in (open_of h)) r m d (purpose_of purpose) k.shown.configuration handed.chosen in
+    let none_probed : probed task ≡ 0 = ap probed handed.does ∙ not_probing (configuration_of (open_of h)) r d (purpose_of purpose) out.for in
+    let of_run : one_for (nat_lt 0 r) ≡ 1 = ap one_for (run_above h.history.setting.runs r out.run) in
+    record {
+      sent = subst (λ (p : DeviceProgress). IsSent turns probes faults h.away (device_no d) r (record p { purpose = purpose }) task grip t.away) handed.known_is handed.sent;
+      does = handed.does;
+      probed_so = omega (arith, none_probed);
+      ticket = omega (arith, of_run, none_probed);
+      new = handed.new;
+    }
+
+-- the hub shows it
+handed_shows : {D : Type 0} {stands turns probes faults : D → ℕ} (h t : Inside D) (r m d : ℕ) (purpose : KeptPurpose) (known : DeviceProgress) (task : Task) (grip : Gripped D Ready) → IsHanded turns probes faults h t r m d purpose known task grip → IsWhole stands turns probes faults h
+    → open_of t ≡ gone (open_of h) d purpose (progress_at h.away.known.items d).probes_left grip.slip task (max h.moment m)
+handed_shows h t r m d purpose known task grip handed k =
+    gone_shows h t r d purpose (progress_at h.away.known.items d).probes_left task grip (handed_gone h t r m d purpose known task grip handed k)
+    ∙ ap (λ x. gone (open_of h) d purpose (progress_at h.away.known.items d).probes_left grip.slip task x) handed.moment_is
+
+-- what is kept of its configuration
+pub handed_kept : {D : Type 0} {stands turns probes faults : D → ℕ} (h t : Inside D) (r m d : ℕ) (purpose : KeptPurpose) (known : DeviceProgress) (task : Task) (grip : Gripped D Ready) → IsHanded turns probes faults h t r m d purpose known task grip → IsWhole stands turns probes faults h
+    → IsKeptByModel (configuration_of (open_of t)) h.rounds h.opened (held_in (open_of h))
+handed_kept {D = D} h t r m d purpose known task grip handed k =
+    let s = open_of h in
+    let within = gone_within h t r d purpose (progress_at h.away.known.items d).probes_left task grip (handed_gone h t r m d purpose known task grip handed k) k in
+    subst (λ (c : Configuration). IsKeptByModel c s.rounds s.opened (held_in s)) (sym (ap (λ (x : OpenHub D). configuration_of x) (handed_shows h t r m d purpose known task grip handed k) ∙ went_configuration s r d m purpose grip.slip task handed.sent.maker_is within.0 within.1))
+    (subst (λ c. IsKeptByModel (after_choice (at_moment (configuration_of s) m) r c) s.rounds s.opened (held_in s)) handed.chosen (taken_kept (configuration_of s) s.rounds s.opened (held_in s) r m k.shown.configuration))
+
+-- the step of its run
+pub record WentOut {D : Type 0} (s : OpenHub D) (r m : ℕ) (grip : Gripped D Ready) (t : OpenHub D) : Type 0 where
   pub out : DeviceGoesOut s r m grip t
   pub window : SameWindow s t
 
-pub went_out : {D : Type 0} {stands turns probes faults : D → ℕ} (h t : Inside D) (r m d : ℕ) (purpose : KeptPurpose) (known : DeviceProgress) (task : Task) (grip : Gripped D Ready)
-    → IsHanded turns probes faults h t r m d purpose known task grip → IsWhole stands turns probes faults h → WentOut stands turns probes faults (open_of h) r m grip (open_of t)
-went_out {D = D} {stands = stands} {turns = turns} {probes = probes} {faults = faults} h t r m d purpose known task grip handed k =
-    record {
-      kept = subst (λ (x : OpenHub D). HubIsKept stands turns probes faults x) (sym new) (gone_kept stands turns probes faults s r d (progress_at s.devices d).probes_left (max s.moment m) purpose grip.device grip.slip task sent.at leaves configuration k.shown);
-      out = subst (λ (x : OpenHub D). DeviceGoesOut s r m grip x) (sym new) (record {
+pub went_out : {D : Type 0} {stands turns probes faults : D → ℕ} (h t : Inside D) (s₀ : OpenHub D) (r m d : ℕ) (purpose : KeptPurpose) (known : DeviceProgress) (task : Task) (grip : Gripped D Ready)
+    → open_of h ≡ s₀ → IsHanded turns probes faults h t r m d purpose known task grip → IsWhole stands turns probes faults h → WentOut s₀ r m grip (open_of t)
+went_out {D = D} {turns = turns} {probes = probes} {faults = faults} h t s₀ r m d purpose known task grip seen handed k =
+    subst (λ (x : OpenHub D). WentOut x r m grip (open_of t)) seen (record {
+      out = record {
         purpose = purpose_of purpose;
-        step = subst (λ e. HubStep (hub_state_of s) (Take r m grip.slip) (Chose (HandsOut e (purpose_of purpose))) (hub_state_of t')) (sym number)
-            (step_is s t' r m (HandsOut d (purpose_of purpose)) grip.slip handed.chosen (went_state s r d m purpose grip.slip task sent.maker_is leaves.does within within_devices) (record { device = number; maker = sent.maker_is }));
-        task = sent.does ∙ leaves.does;
+        step = subst (λ e. HubStep (hub_state_of s) (Take r m grip.slip) (Chose (HandsOut e (purpose_of purpose))) (hub_state_of (open_of t))) (sym number)
+            (step_is s (open_of t) r m (HandsOut d (purpose_of purpose)) grip.slip handed.chosen
+            (ap (λ (x : OpenHub D). hub_state_of x) (handed_shows h t r m d purpose known task grip handed k)
+            ∙ went_state s r d m purpose grip.slip task sent.maker_is handed.does within.0 within.1) (record { device = number; maker = sent.maker_is }));
+        task = sent.does ∙ handed.does;
         home = subst (λ e. slice_get s.places e ≡ Some (Home grip.device)) (sym number) sent.at;
-        places = ap₂ (λ e x. slice_set s.places e (Out grip.slip x)) (sym number) (sym sent.does);
-        next = next_grip s t' grip d number sent.ticket refl leaves.stood;
-      });
-      window = subst (λ (x : OpenHub D). SameWindow s x) (sym new) (record { setting = refl; rounds = refl; opened = refl; at_opening = known_same (λ (p : DeviceProgress). p.at_opening) s.devices d (record (progress_at s.devices d) { purpose = purpose }) within_devices refl });
-    }
+        places = sent.places ∙ ap₂ (λ e x. slice_set s.places e (Out grip.slip x)) (sym number) (sym sent.does);
+        next = gone_next h t r d purpose (progress_at h.away.known.items d).probes_left task grip is;
+      };
+      window = gone_window h t r d purpose (progress_at h.away.known.items d).probes_left task grip is k;
+    })
   where
     s : OpenHub D
     s = open_of h
 
-    t' : OpenHub D
-    t' = gone s d purpose (progress_at s.devices d).probes_left grip.slip task (max s.moment m)
+    is : IsGone turns probes faults h t r d purpose (progress_at h.away.known.items d).probes_left task grip
+    is = handed_gone h t r m d purpose known task grip handed k
 
     sent : IsSent turns probes faults h.away (device_no d) r (record known { purpose = purpose }) task grip t.away
     sent = handed.sent
@@ -250,56 +283,8 @@ went_out {D = D} {stands = stands} {turns = turns} {probes = probes} {faults = f
     number : grip.slip.device.0 ≡ d
     number = ap (λ (x : DeviceNo). x.0) sent.device
 
-    within : d < length s.places
-    within = slice_get_within s.places d (Home grip.device) sent.at
-
-    within_devices : d < length s.devices
-    within_devices = omega (arith, within, k.shown.devices_size, k.shown.places_size)
-
-    here : progress_at s.devices d ≡ known
-    here = sym handed.known_is
-
-    out : IsHandedOut (configuration_of s) r d (purpose_of purpose)
-    out = handed_out (configuration_of s) s.rounds s.opened (held_in s) r m d (purpose_of purpose) k.shown.configuration handed.chosen
-
-    none_probed : probed task ≡ 0
-    none_probed = ap probed handed.does ∙ not_probing (configuration_of s) r d (purpose_of purpose) out.for
-
-    of_run : one_for (nat_lt 0 r) ≡ 1
-    of_run = ap one_for (positive r (run_place s.setting.runs r out.run).0)
-      where
-        positive : (x : ℕ) → x ≡ suc (x - 1) → nat_lt 0 x ≡ true
-        positive x some = grind (arith, common_steps, some)
-
-    configuration : IsKeptByModel (configuration_of t') s.rounds s.opened (held_in s)
-    configuration =
-        subst (λ (c : Configuration). IsKeptByModel c s.rounds s.opened (held_in s)) (sym (went_configuration s r d m purpose grip.slip task sent.maker_is within within_devices))
-        (subst (λ c. IsKeptByModel (after_choice (at_moment (configuration_of s) m) r c) s.rounds s.opened (held_in s)) handed.chosen (taken_kept (configuration_of s) s.rounds s.opened (held_in s) r m k.shown.configuration))
-
-    leaves : IsLeaving turns probes faults s r d purpose (progress_at s.devices d).probes_left grip.device grip.slip task
-    leaves =
-        record {
-          number = number;
-          maker = sent.maker_is;
-          stood = sent.stood ∙ ap (λ (p : DeviceProgress). p.held) (sym here);
-          had_turns = sent.had_turns;
-          had_probes = sent.had_probes;
-          had_faults = sent.had_faults;
-          does = handed.does;
-          probed_so = omega (arith, none_probed);
-          ticket = omega (arith, of_run, none_probed);
-        }
-
-    new : open_of t ≡ t'
-    new =
-        let devices_now = sent.known_is ∙ ap (λ (p : DeviceProgress). slice_set s.devices d (record p { purpose = purpose })) (sym here) in
-        ap (λ (x : Inside D). open_of x) handed.new ∙ λ i. record s { history = s.history; moment = handed.moment_is i; devices = devices_now i; places = sent.places i; tickets = sent.tickets i }
-
--- .. as the hub is seen
-pub went_out_at : {D : Type 0} {stands turns probes faults : D → ℕ} (h t : Inside D) (s : OpenHub D) (r m d : ℕ) (purpose : KeptPurpose) (known : DeviceProgress) (task : Task) (grip : Gripped D Ready)
-    → open_of h ≡ s → IsHanded turns probes faults h t r m d purpose known task grip → IsWhole stands turns probes faults h → WentOut stands turns probes faults s r m grip (open_of t)
-went_out_at {D = D} {stands = stands} {turns = turns} {probes = probes} {faults = faults} h t s r m d purpose known task grip seen handed k =
-    subst (λ (x : OpenHub D). WentOut stands turns probes faults x r m grip (open_of t)) seen (went_out h t r m d purpose known task grip handed k)
+    within : (d < length h.away.gate.places) × (d < length h.away.known.items)
+    within = gone_within h t r d purpose (progress_at h.away.known.items d).probes_left task grip is k
 
 -- .. also where the hub is seen otherwise
 pub command_given : {D : Type 0} (stands turns probes faults : D → ℕ) (s s₀ : OpenHub D) (r m d k : ℕ) (purpose : Purpose) → HubIsKept stands turns probes faults s → s ≡ s₀ → choice_of (configuration_of s₀) r m ≡ HandsOut d purpose

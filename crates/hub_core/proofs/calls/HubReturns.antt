@@ -8,9 +8,12 @@ use Rattle.device_gate.specs.declared.slips.Slip.{Slip}
 use Rattle.device_gate.specs.declared.slips.Task.{Task}
 use Rattle.device_gate.specs.declared.slips.Told.TheVariants.{Died, Sensed, Worked}
 use Rattle.device_gate.specs.declared.slips.Told.{Told}
+use Rattle.history_book.proofs.HistoryReads.{MayTake, takes_first}
 use Rattle.history_book.specs.Histories.{entries_made}
+use Rattle.history_book.specs.ReadHistories.{HistoryState, read_in, with_doom, with_entry, with_more}
 use Rattle.history_book.specs.Readings.{Reading, is_doomed}
 use Rattle.history_book.specs.Settings.{Setting}
+use Rattle.history_book.specs.WellFormed.{may_follow}
 use Rattle.history_book.specs.declared.entries.Cause.TheVariants.{Refuted}
 use Rattle.history_book.specs.declared.entries.Cause.{Cause}
 use Rattle.history_book.specs.declared.entries.Entry.TheVariants.{Did, Doomed, Undid}
@@ -18,22 +21,21 @@ use Rattle.history_book.specs.declared.entries.Entry.{Entry}
 use Rattle.home_types.specs.Commands.{fails}
 use Rattle.home_types.specs.declared.commands.Answer.TheVariants.{Found}
 use Rattle.home_types.specs.declared.commands.Answer.{Answer}
-use Rattle.hub_core.proofs.calls.Homecomings.{CameHome, IsHome, IsReturned, returned_entries, returned_for, returned_places}
+use Rattle.hub_core.proofs.calls.Homecomings.{CameHome, IsHome, IsReturned, returned_entries, returned_for, returned_places, takes_back}
 use Rattle.hub_core.proofs.calls.HubChanges.{answer_entries, answered_more}
 use Rattle.hub_core.proofs.calls.OutFor.{IsForCommand, for_command, out_for}
 use Rattle.hub_core.specs.Decisions.{refuted_by}
 use Rattle.hub_core.specs.HubsKept.{IsWhole, open_of}
 use Rattle.hub_core.specs.OpenHubs.{OpenHub, progress_at}
 use Rattle.window_order.specs.KeptOrders.{purpose_of}
-use Rattle.hub_core.specs.ReadHistories.{HistoryState, read_in, with_doom, with_entry, with_more}
 use Rattle.hub_core.specs.Steps.{give_entries}
 use Rattle.hub_core.specs.declared.open_windows.OpenWindow.TheInside.{Inside}
 use Rattle.window_order.specs.declared.purposes.Purpose.TheVariants.{Command as ForCommand, Probe as ForProbe, Undo as ForUndo}
 use Rattle.window_order.specs.declared.purposes.Purpose.{Purpose as KeptPurpose}
 use Rattle.lock_leasing.specs.Configurations.{Commands, Undoes, is_undo}
-use Rattle.std.proofs.Common.{ap, ap₂, arith, refl, sym, ◌∙◌}
+use Rattle.std.proofs.Common.{ap, ap₂, arith, refl, subst, sym, ◌∙◌}
 use Rattle.std.proofs.lemmas.Bool.{lt-ltb}
-use Rattle.std.specs.Prelude.{Bool, IsSome, List, None, Option, Some, [], false, if◌then◌else◌, length, not, option_map, slice_get, true, ℕ, ◌&&◌, ◌-◌, ◌<◌, ◌∷◌, ◌≡◌, ◌≤◌}
+use Rattle.std.specs.Prelude.{Bool, IsSome, IsTrue, List, None, Option, Some, [], false, if◌then◌else◌, length, not, option_map, slice_get, true, ℕ, ◌&&◌, ◌-◌, ◌<◌, ◌∷◌, ◌≡◌, ◌≤◌}
 
 -- For what it was out
 
@@ -106,6 +108,14 @@ answer_gives h k grip slip a cause mid after answered =
     ∙ ap₂ (λ (y : Slip) x. answer_entries y.maker k x (refuted_by h.history.setting (read_in h.history) y.maker k x)) (sym answered.same) (sym answered.told)
     ∙ ap (answer_entries slip.maker k a) (sym answered.refuted)
 
+-- they may be appended
+pub takes_answer : {D : Type 0} {stands turns probes faults : D → ℕ} (h : Inside D) (k tag : ℕ) (grip : Gripped D Done) (slip : Slip) (a : Answer)
+    (cause : Option Cause) (mid after : HistoryState) → IsReturned stands turns probes faults h (ForCommand k) tag grip
+    → IsAnswered h grip k slip a cause mid after
+    → IsWhole stands turns probes faults h → MayTake h.history slip.maker (answer_entries slip.maker k a cause)
+takes_answer h k tag grip slip a cause mid after returned answered whole =
+    subst (λ (y : Slip). MayTake h.history y.maker (answer_entries slip.maker k a cause)) (sym answered.same) (subst (MayTake h.history grip.slip.maker) (answer_gives h k grip slip a cause mid after answered) (takes_back h (ForCommand k) tag grip returned whole))
+
 -- the history has a place for it ..
 pub answer_place : {D : Type 0} {stands turns probes faults : D → ℕ} (h : Inside D) (k tag : ℕ) (grip : Gripped D Done) → IsReturned stands turns probes faults h (ForCommand k) tag grip → has_died grip.stage.told ≡ false → IsWhole stands turns probes faults h → 0 < h.history.spare
 answer_place h k tag grip returned lives whole =
@@ -149,6 +159,13 @@ answer_made slip k a cause e o entry_is made = ap₂ (λ x y. entries_made (reco
     by_cause (Some c) = refl
 
 -- An undo came back
+
+-- it may be told
+pub undo_told : {D : Type 0} {stands turns probes faults : D → ℕ} (h : Inside D) (v tag : ℕ) (grip : Gripped D Done) (slip : Slip) → IsReturned stands turns probes faults h (ForUndo v) tag grip → slip ≡ grip.slip → has_died grip.stage.told ≡ false → IsWhole stands turns probes faults h
+    → IsTrue (may_follow h.history.setting (read_in h.history) (Undid (run_no slip.maker) slip.device true))
+undo_told h v tag grip slip returned same lives k =
+    subst (λ (z : Slip). IsTrue (may_follow h.history.setting (read_in h.history) (Undid (run_no z.maker) z.device true))) (sym same)
+    (takes_first h.history grip.slip.maker (Undid (run_no grip.slip.maker) grip.slip.device true) [] (subst (MayTake h.history grip.slip.maker) (undo_gives h v grip lives) (takes_back h (ForUndo v) tag grip returned k)))
 
 pub undone_back : {D : Type 0} {stands turns probes faults : D → ℕ} (h t : Inside D) (v tag : ℕ) (grip : Gripped D Done) (slip : Slip)
     → IsReturned stands turns probes faults h (ForUndo v) tag grip → IsHome h t grip → slip ≡ grip.slip → has_died grip.stage.told ≡ false

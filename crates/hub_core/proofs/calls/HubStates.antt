@@ -6,7 +6,7 @@ use Rattle.device_gate.specs.declared.slips.Slip.{Slip}
 use Rattle.device_gate.specs.declared.slips.Task.TheVariants.{Drive, Probe, Sense}
 use Rattle.device_gate.specs.declared.slips.Task.{Task}
 use Rattle.history_book.specs.Readings.{put}
-use Rattle.hub_core.proofs.kept.HubReads.{get_set}
+use Rattle.hub_core.proofs.kept.SetPlaces.{get_set}
 use Rattle.hub_core.proofs.steps.HubAnswers.{same_self}
 use Rattle.hub_core.specs.HubSteps.{Carried, is_kept, same_carried, same_optional, same_slip, same_task}
 use Rattle.hub_core.specs.OpenHubs.{OpenHub, carried_in, grip_in, hub_state_of, no_device, progress_at}

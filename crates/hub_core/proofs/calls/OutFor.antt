@@ -21,7 +21,7 @@ use Rattle.home_types.specs.declared.commands.Job.TheVariants.{Check, Load, Set,
 use Rattle.home_types.specs.declared.commands.Job.{Job}
 use Rattle.home_types.specs.declared.kinds.Kind.{Kind}
 use Rattle.hub_core.proofs.calls.Departures.{one_for}
-use Rattle.hub_core.proofs.kept.HubReads.{run_above}
+use Rattle.hub_core.proofs.kept.Hands.{run_above}
 use Rattle.hub_core.proofs.kept.KeptByModel.{probe_counted, restored_fits, undo_ordered}
 use Rattle.hub_core.proofs.kept.ReturnsKept.{BringsFor, IsOut, out_is}
 use Rattle.hub_core.proofs.kept.WrittenValues.{nearest_has}

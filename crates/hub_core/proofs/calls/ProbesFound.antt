@@ -1,6 +1,4 @@
 -- The grip of the detector comes back: its device is as it was counted, is back, or has failed.
-use Rattle.hub_core.proofs.kept.FallenOrders.{weak_place}
-use Rattle.hub_core.proofs.kept.TableFits.{either_model}
 use Rattle.command_rules.specs.Rosters.{is_run, run_no}
 use Rattle.device_gate.specs.Calls.{has_died}
 use Rattle.device_gate.specs.Grips.{Gripped, WasCalled}
@@ -10,9 +8,11 @@ use Rattle.device_gate.specs.declared.slips.Slip.{Slip}
 use Rattle.device_gate.specs.declared.slips.Told.TheVariants.{Died, Sensed, Worked}
 use Rattle.device_gate.specs.declared.slips.Told.{Told}
 use Rattle.failure_serialization.specs.Events.{event_place, lost_run}
+use Rattle.history_book.proofs.HistoryReads.{MayTake, run_place, takes_first, takes_rest}
 use Rattle.history_book.proofs.Searches.{each_found}
 use Rattle.history_book.proofs.Snoc.{each_more, entries_on}
 use Rattle.history_book.specs.Histories.{entries_made, entries_of, entry}
+use Rattle.history_book.specs.ReadHistories.{HistoryState, read_in, with_entry, with_lost, with_more}
 use Rattle.history_book.specs.Readings.{Reading, has_written, is_doomed, is_live, is_open, pends, sees_up}
 use Rattle.history_book.specs.Settings.{Setting, is_device}
 use Rattle.history_book.specs.WellFormed.{IsWellFormed, may_follow}
@@ -25,28 +25,28 @@ use Rattle.home_types.specs.declared.numbers.DeviceNo.{DeviceNo}
 use Rattle.home_types.specs.declared.numbers.RunNo.{RunNo}
 use Rattle.hub_core.proofs.calls.Deaths.{more_after}
 use Rattle.hub_core.proofs.calls.Departures.{gone_past}
+use Rattle.hub_core.proofs.calls.Homecomings.{CameHome, IsHome, IsReturned, ProbeBack, came_whole, probe_given, returned_for, returned_places, takes_back}
 use Rattle.hub_core.proofs.calls.HubOrders.{read_whole}
-use Rattle.hub_core.proofs.calls.Homecomings.{CameHome, IsHome, IsReturned, ProbeBack, came_whole, probe_given, returned_for, returned_places}
 use Rattle.hub_core.proofs.calls.OutFor.{IsFor, probe_purpose}
 use Rattle.hub_core.proofs.calls.Turning.{Falls, Rises, TellsTurn, fallen_number, may_fall, may_rise, risen_number, tells_may}
-use Rattle.hub_core.proofs.steps.Calls.{back_entries, dead_entries}
-use Rattle.hub_core.specs.Away.{IsHomeAgain, events_after, with_hand}
-use Rattle.hub_core.specs.declared.away.Away.{Away}
-use Rattle.hub_core.specs.Steps.{probe_entries}
-use Rattle.window_order.specs.declared.purposes.Purpose.TheVariants.{Probe as ForProbe}
 use Rattle.hub_core.proofs.kept.EventsTold.{event_told, lost_told, probe_commands, sound_is}
-use Rattle.hub_core.proofs.kept.HubReads.{run_place}
+use Rattle.hub_core.proofs.kept.FallenOrders.{weak_place}
 use Rattle.hub_core.proofs.kept.Finds.{none_does}
 use Rattle.hub_core.proofs.kept.OrderSteps.{read_more}
 use Rattle.hub_core.proofs.kept.ProbeSteps.{order_fell, order_lost, order_probe_home, order_rose}
+use Rattle.hub_core.proofs.kept.TableFits.{either_model}
+use Rattle.hub_core.proofs.steps.Calls.{back_entries, dead_entries}
+use Rattle.hub_core.specs.Away.{IsHomeAgain, events_after, with_hand}
 use Rattle.hub_core.specs.HubCalls.{IsPacked}
 use Rattle.hub_core.specs.HubsKept.{HandsAre, IsWhole, open_of}
 use Rattle.hub_core.specs.KeptOrders.{HasFallen, HasRisen, IsLostTo, MayTurn, OrderIsBeside, hand_of}
 use Rattle.hub_core.specs.OpenHubs.{OpenHub, configuration_of, held_in, progress_at}
-use Rattle.hub_core.specs.ReadHistories.{HistoryState, read_in, with_entry, with_lost, with_more}
-use Rattle.hub_core.specs.declared.open_windows.OpenWindow.TheInside.{Inside}
+use Rattle.hub_core.specs.Steps.{probe_entries}
+use Rattle.hub_core.specs.declared.away.Away.{Away}
 use Rattle.window_order.specs.declared.kept_orders.KeptOrder.{KeptOrder}
 use Rattle.hub_core.specs.declared.known.Events.{Events}
+use Rattle.hub_core.specs.declared.open_windows.OpenWindow.TheInside.{Inside}
+use Rattle.window_order.specs.declared.purposes.Purpose.TheVariants.{Probe as ForProbe}
 use Rattle.lineage_table.specs.Lineages.{LineageState, accesses_at, lineage_at}
 use Rattle.lock_leasing.proofs.Effects.{live_runs_live}
 use Rattle.lock_leasing.specs.Configurations.{Commands, Grip, Grips, Probes, Purpose, Undoes, grips_command, has_grip, is_command, read_of}
@@ -186,6 +186,14 @@ pub back_may : {D : Type 0} {stands turns probes faults : D → ℕ} (h : Inside
 back_may h s tag grip sl events known found k =
     let here = probe_here h s tag grip sl known k in
     may_rise h (ForProbe here.v) tag grip [] sl events (back_tells h s tag grip sl events known found here) (back_rises h s tag grip sl events known found here) k
+
+-- its restart may be told
+pub back_follows : {D : Type 0} {stands turns probes faults : D → ℕ} (h : Inside D) (s : OpenHub D) (tag : ℕ) (grip : Gripped D Done) (sl : Slip) (events : Events) → ProbeKnown stands turns probes faults h s tag grip sl → FoundBack h s grip events → IsWhole stands turns probes faults h
+    → IsTrue (may_follow h.history.setting (read_in h.history) (Rose sl.device))
+back_follows h s tag grip sl events known found k =
+    let here = probe_here h s tag grip sl known k in
+    subst (λ (z : Slip). IsTrue (may_follow h.history.setting (read_in h.history) (Rose z.device))) (sym known.same)
+    (tells_may h (ForProbe here.v) tag grip (Rose grip.slip.device) [] (back_tells h s tag grip sl events known found here) k)
 
 -- what history, line and table make of it
 pub record IsRisen {D : Type 0} (h t : Inside D) (sl : Slip) (events : Events) : Type 0 where
@@ -423,18 +431,28 @@ dead_may h s tag grip sl events known found k =
     let here = probe_here h s tag grip sl known k in
     may_fall h (ForProbe here.v) tag grip (doom_entries grip.slip.device (lost_here h grip)) sl events (dead_tells h s tag grip sl events known found here) (dead_falls h s tag grip sl events known found here) k
 
--- what the code finds of the lost run: it is one of the window, and its doom has a place
-pub record LostFits (w : Setting) (hands : ℕ) (lost : Option RunNo) (spare : ℕ) : Type 0 where
-  pub run : IfSome lost (λ r. IsTrue (is_run w.runs r.0) × (r.0 ≤ hands))
-  pub room : IsSome lost → 0 < spare
+-- its failure may be told
+pub dead_follows : {D : Type 0} {stands turns probes faults : D → ℕ} (h : Inside D) (s : OpenHub D) (tag : ℕ) (grip : Gripped D Done) (sl : Slip) (events : Events) → ProbeKnown stands turns probes faults h s tag grip sl → FoundDead h s grip events → IsWhole stands turns probes faults h
+    → IsTrue (may_follow h.history.setting (read_in h.history) (Fell sl.device))
+dead_follows h s tag grip sl events known found k =
+    let here = probe_here h s tag grip sl known k in
+    subst (λ (z : Slip). IsTrue (may_follow h.history.setting (read_in h.history) (Fell z.device))) (sym known.same)
+    (tells_may h (ForProbe here.v) tag grip (Fell grip.slip.device) (doom_entries grip.slip.device (lost_here h grip)) (dead_tells h s tag grip sl events known found here) k)
+
+-- what the code finds of the lost run: it is one of the window, and its doom has a place and may be told
+pub record LostFits (fell : HistoryState) (d : DeviceNo) (hands : ℕ) (lost : Option RunNo) : Type 0 where
+  pub run : IfSome lost (λ r. IsTrue (is_run fell.setting.runs r.0) × (r.0 ≤ hands))
+  pub room : IsSome lost → 0 < fell.spare
+  pub follows : IfSome lost (λ r. IsTrue (may_follow fell.setting (read_in fell) (Doomed r (Lost d))))
 
 pub lost_fits : {D : Type 0} {stands turns probes faults : D → ℕ} (h : Inside D) (away : Away D) (s : OpenHub D) (tag : ℕ) (grip : Gripped D Done) (sl : Slip)
     (events : Events) (lost : Option RunNo) (fell : HistoryState) → ProbeKnown stands turns probes faults h s tag grip sl → FoundDead h s grip events
-    → lost ≡ lost_run h.history.history (accesses_at h.order.table sl.device.0) → fell ≡ with_entry h.history 0 (Fell sl.device) → IsHomeAgain h.away grip away → IsWhole stands turns probes faults h → LostFits fell.setting (length away.hands.items) lost fell.spare
+    → lost ≡ lost_run h.history.history (accesses_at h.order.table sl.device.0) → fell ≡ with_entry h.history 0 (Fell sl.device) → IsHomeAgain h.away grip away → IsWhole stands turns probes faults h → LostFits fell sl.device (length away.hands.items) lost
 lost_fits {D = D} {stands = stands} {turns = turns} {probes = probes} {faults = faults} h away s tag grip sl events lost fell known dead found told home k =
-    subst (λ x. LostFits fell.setting (length x) lost fell.spare) (sym (hands_same h.away away grip home known.maker)) (record {
+    subst (λ x. LostFits fell sl.device (length x) lost) (sym (hands_same h.away away grip home known.maker)) (record {
       run = subst (λ (w : Setting). IfSome lost (λ r. IsTrue (is_run w.runs r.0) × (r.0 ≤ length h.away.hands.items))) (sym (ap (λ (x : HistoryState). x.setting) told)) (runs lost loses);
       room = λ some. places lost some loses;
+      follows = may lost loses;
     })
   where
     w : Setting
@@ -466,6 +484,19 @@ lost_fits {D = D} {stands = stands} {turns = turns} {probes = probes} {faults = 
         let two : 2 ≤ h.history.spare = subst (λ o. length (dead_entries d o) ≤ h.history.spare) (sym is) fits in
         let left : fell.spare ≡ h.history.spare - 1 = ap (λ (x : HistoryState). x.spare) told in
         omega (arith, two, left)
+
+    -- the entries of its step may be appended
+    takes : MayTake h.history grip.slip.maker (dead_entries d (lost_by w n d))
+    takes = subst (MayTake h.history grip.slip.maker) (dead_tells h s tag grip sl events known dead here).gives (takes_back h (ForProbe here.v) tag grip here.returned k)
+
+    may : (o : Option RunNo) → option_map (λ (r : RunNo). r.0) o ≡ lost_by w n d → IfSome o (λ r. IsTrue (may_follow fell.setting (read_in fell) (Doomed r (Lost sl.device))))
+    may None is = tt
+    may (Some r) is =
+        let both : MayTake h.history 0 (Fell sl.device ∷ Doomed r (Lost sl.device) ∷ []) =
+        subst (λ (z : Slip). MayTake h.history 0 (Fell z.device ∷ Doomed r (Lost z.device) ∷ [])) (sym known.same)
+        (subst (λ m. MayTake h.history m (dead_entries d (Some r.0))) known.maker
+        (subst (λ o. MayTake h.history grip.slip.maker (dead_entries d o)) (sym is) takes)) in
+        subst (λ (x : HistoryState). IsTrue (may_follow x.setting (read_in x) (Doomed r (Lost sl.device)))) (sym told) (takes_first (with_entry h.history 0 (Fell sl.device)) 0 (Doomed r (Lost sl.device)) [] (takes_rest h.history 0 (Fell sl.device) (Doomed r (Lost sl.device) ∷ []) both))
 
 -- what the code wrote of it
 pub record IsFallen {D : Type 0} (h t : Inside D) (sl : Slip) (events : Events) (lost : Option RunNo) (fell : HistoryState) (fallen : KeptOrder) : Type 0 where

@@ -3,16 +3,15 @@ use Rattle.hub_core.proofs.kept.TableFits.{counted_told}
 use Rattle.hub_core.proofs.weak.WeakProbes.{weak_standing}
 use Rattle.device_gate.specs.Calls.{is_counted_up}
 use Rattle.device_gate.specs.Grips.{Gripped}
-use Rattle.device_gate.specs.declared.gates.Place.TheVariants.{Home, Out}
+use Rattle.device_gate.specs.declared.gates.Place.TheVariants.{Out}
 use Rattle.device_gate.specs.declared.grips.Ready.{Ready}
 use Rattle.device_gate.specs.declared.slips.Task.TheVariants.{Probe}
 use Rattle.history_book.specs.Readings.{put}
 use Rattle.history_book.specs.Settings.{is_device, is_weak}
-use Rattle.hub_core.proofs.calls.Departures.{IsLeaving, few_tickets, gone, gone_carries, gone_configuration, gone_kept, has_room, home_place, next_grip}
+use Rattle.hub_core.proofs.calls.Departures.{IsGone, few_tickets, gone_carries, gone_configuration, gone_grips, gone_next, gone_shows, gone_whole, gone_window, gone_within, has_room, home_place}
 use Rattle.command_rules.specs.Rosters.{device_no}
 use Rattle.home_types.specs.declared.numbers.DeviceNo.{DeviceNo}
 use Rattle.hub_core.specs.Away.{IsSent, MaySend}
-use Rattle.hub_core.proofs.calls.HubStates.{known_same}
 use Rattle.hub_core.proofs.kept.Hands.{probe_goes}
 use Rattle.hub_core.proofs.kept.ProbeSteps.{order_probe_out}
 use Rattle.hub_core.proofs.kept.KeptByModel.{probe_taken_kept}
@@ -21,22 +20,22 @@ use Rattle.hub_core.proofs.calls.HubOrders.{standing_whole}
 use Rattle.hub_core.specs.HubCalls.{IsProbed, SameWindow}
 use Rattle.hub_core.specs.KeptByModel.{IsKeptByModel}
 use Rattle.hub_core.specs.HubSteps.{ProbeTaken, Probed, take_probe, carrying}
-use Rattle.hub_core.specs.HubsKept.{HandsAre, HubIsKept, IsWhole, open_of}
+use Rattle.hub_core.specs.HubsKept.{HandsAre, IsWhole, open_of}
 use Rattle.hub_core.specs.KeptOrders.{OrderIsBeside}
 use Rattle.hub_core.specs.OpenHubs.{OpenHub, configuration_of, held_in, hub_state_of, progress_at}
-use Rattle.hub_core.specs.ReadHistories.{read_in}
+use Rattle.history_book.specs.ReadHistories.{read_in}
 use Rattle.hub_core.specs.Steps.{after_take_probe, may_probe, probe_grip, restored}
 use Rattle.hub_core.specs.declared.open_windows.OpenWindow.TheInside.{Inside}
+use Rattle.window_order.specs.declared.kept_orders.KeptOrder.{KeptOrder}
 use Rattle.hub_core.specs.declared.known.DeviceProgress.{DeviceProgress}
 use Rattle.window_order.specs.declared.purposes.Purpose.TheVariants.{Probe as ForProbe}
 use Rattle.lineage_table.specs.Accesses.{IsDisciplined, value_standing}
 use Rattle.lineage_table.specs.Lineages.{accesses_at, lineage_at}
 use Rattle.lock_leasing.proofs.Facts.{facts_of}
-use Rattle.lock_leasing.specs.Configurations.{Configuration, Grips, Probes, is_out, read_of}
+use Rattle.lock_leasing.specs.Configurations.{Configuration, Probes, is_out, read_of}
 use Rattle.lock_leasing.specs.Words.{standing_value}
 use Rattle.std.proofs.Common.{ap, arith, refl, subst, sym, ◌∙◌}
 use Rattle.std.proofs.lemmas.Grind.{common_steps}
-use Rattle.std.proofs.lemmas.Option.{slice_get_within}
 use Rattle.std.specs.Prelude.{Bool, IsTrue, None, Option, Some, false, if◌then◌else◌, length, nat_lt, not, slice_set, true, ℕ, ◌&&◌, ◌+◌, ◌-◌, ◌<◌, ◌≡◌}
 use Rattle.window_order.proofs.Firsts.{below_home}
 use Rattle.window_order.proofs.Rollbacks.{none_out}
@@ -119,76 +118,54 @@ pub record IsProbedOut {D : Type 0} (turns probes faults : D → ℕ) (h t : Ins
   pub value_is : value ≡ restored (configuration_of (open_of h)) d
   pub known_is : known ≡ progress_at h.away.known.items d
   pub sent : IsSent turns probes faults h.away (device_no d) 0 (record known { purpose = ForProbe value; probes_left = known.probes_left - 1 }) (Probe value) grip t.away
-  pub new : t ≡ record h { away = t.away }
+  pub moment_is : t.moment ≡ h.moment
+  pub new : t ≡ record h { moment = t.moment; away = t.away; order = t.order }
 
--- with so many left
-abbrev pub left_of : {D : Type 0} → Inside D → ℕ → ℕ
-left_of h d = (progress_at h.away.known.items d).probes_left - 1
-
--- the hub shows it
-probe_shows : {D : Type 0} {turns probes faults : D → ℕ} (h t : Inside D) (d : ℕ) (value : Option ℕ) (known : DeviceProgress) (grip : Gripped D Ready)
-    → IsProbedOut turns probes faults h t d value known grip → open_of t ≡ gone (open_of h) d (ForProbe value) (left_of h d) grip.slip (Probe value) h.moment
-probe_shows {D = D} h t d value known grip out =
-    let devices_now = out.sent.known_is ∙ ap (λ (p : DeviceProgress). slice_set h.away.known.items d (record p { purpose = ForProbe value; probes_left = p.probes_left - 1 })) out.known_is in
-    ap (λ (x : Inside D). open_of x) out.new ∙ λ i. record (open_of h) { devices = devices_now i; places = out.sent.places i; tickets = out.sent.tickets i }
-
--- its configuration is the one after the call
-probe_configuration : {D : Type 0} {turns probes faults : D → ℕ} (h t : Inside D) (d : ℕ) (value : Option ℕ) (known : DeviceProgress) (grip : Gripped D Ready) → IsProbedOut turns probes faults h t d value known grip → d < length h.away.known.items
-    → configuration_of (gone (open_of h) d (ForProbe value) (left_of h d) grip.slip (Probe value) h.moment) ≡ after_take_probe (configuration_of (open_of h)) d
-probe_configuration h t d value known grip out within =
-    gone_configuration (open_of h) 0 d (left_of h d) h.moment (ForProbe value) grip.slip (Probe value) out.sent.maker_is (slice_get_within h.away.gate.places d (Home grip.device) out.sent.at) within
-    ∙ (λ i. record (configuration_of (open_of h)) { probes = put (configuration_of (open_of h)).probes d (left_of h d); grips = put (configuration_of (open_of h)).grips d (Some (record { maker = 0; purpose = Probes (out.value_is i) })) })
-    ∙ sym (ap (λ b. if b then record (configuration_of (open_of h)) { probes = put (configuration_of (open_of h)).probes d (left_of h d); grips = put (configuration_of (open_of h)).grips d (Some (probe_grip (configuration_of (open_of h)) d)) } else configuration_of (open_of h)) out.may)
-
-probe_leaves : {D : Type 0} {turns probes faults : D → ℕ} (h t : Inside D) (d : ℕ) (value : Option ℕ) (known : DeviceProgress) (grip : Gripped D Ready)
+-- so it is gone
+sent_gone : {D : Type 0} {turns probes faults : D → ℕ} (h t : Inside D) (d : ℕ) (value : Option ℕ) (known : DeviceProgress) (grip : Gripped D Ready)
     → IsProbedOut turns probes faults h t d value known grip
-    → IsLeaving turns probes faults (open_of h) 0 d (ForProbe value) (left_of h d) grip.device grip.slip (Probe value)
-probe_leaves h t d value known grip out =
+    → IsGone turns probes faults h t 0 d (ForProbe value) ((progress_at h.away.known.items d).probes_left - 1) (Probe value) grip
+sent_gone {turns = turns} {probes = probes} {faults = faults} h t d value known grip out =
     record {
-      number = ap (λ (x : DeviceNo). x.0) out.sent.device;
-      maker = out.sent.maker_is;
-      stood = out.sent.stood ∙ ap (λ (p : DeviceProgress). p.held) out.known_is;
-      had_turns = out.sent.had_turns;
-      had_probes = out.sent.had_probes;
-      had_faults = out.sent.had_faults;
+      sent = subst (λ (p : DeviceProgress). IsSent turns probes faults h.away (device_no d) 0 (record p { purpose = ForProbe value; probes_left = p.probes_left - 1 }) (Probe value) grip t.away) out.known_is out.sent;
       does = refl;
       probed_so = one_less (progress_at h.away.known.items d).probes_left (may_parts (configuration_of (open_of h)) d out.may).left;
       ticket = omega arith;
+      new = out.new;
     }
   where
     one_less : (x : ℕ) → nat_lt 0 x ≡ true → x - 1 + 1 ≡ x
     one_less x some = grind (arith, common_steps)
 
-sent_within : {D : Type 0} {stands turns probes faults : D → ℕ} (h t : Inside D) (d : ℕ) (value : Option ℕ) (known : DeviceProgress) (grip : Gripped D Ready) → IsProbedOut turns probes faults h t d value known grip → IsWhole stands turns probes faults h → d < length h.away.known.items
-sent_within h t d value known grip out k =
-    let within = slice_get_within h.away.gate.places d (Home grip.device) out.sent.at in
-    omega (arith, within, k.shown.devices_size, k.shown.places_size)
+-- its configuration is the one after the call
+sent_configuration : {D : Type 0} {stands turns probes faults : D → ℕ} (h t : Inside D) (d : ℕ) (value : Option ℕ) (known : DeviceProgress)
+    (grip : Gripped D Ready) → IsProbedOut turns probes faults h t d value known grip → IsWhole stands turns probes faults h
+    → configuration_of (open_of t) ≡ after_take_probe (configuration_of (open_of h)) d
+sent_configuration {D = D} h t d value known grip out k =
+    let is = sent_gone h t d value known grip out in
+    let left = (progress_at h.away.known.items d).probes_left - 1 in
+    let within = gone_within h t 0 d (ForProbe value) left (Probe value) grip is k in
+    ap (λ (x : OpenHub D). configuration_of x) (gone_shows h t 0 d (ForProbe value) left (Probe value) grip is)
+    ∙ gone_configuration (open_of h) 0 d left t.moment (ForProbe value) grip.slip (Probe value) out.sent.maker_is within.0 within.1
+    ∙ (λ i. record (configuration_of (open_of h)) { moment = out.moment_is i; probes = put (configuration_of (open_of h)).probes d left; grips = put (configuration_of (open_of h)).grips d (Some (record { maker = 0; purpose = Probes (out.value_is i) })) })
+    ∙ sym (ap (λ b. if b then record (configuration_of (open_of h)) { probes = put (configuration_of (open_of h)).probes d left; grips = put (configuration_of (open_of h)).grips d (Some (probe_grip (configuration_of (open_of h)) d)) } else configuration_of (open_of h)) out.may)
 
 -- what is kept is kept then
-pub sent_whole : {D : Type 0} {stands turns probes faults : D → ℕ} (h t : Inside D) (d : ℕ) (value : Option ℕ) (known : DeviceProgress) (grip : Gripped D Ready) → IsProbedOut turns probes faults h t d value known grip → IsWhole stands turns probes faults h → IsWhole stands turns probes faults t
-sent_whole {D = D} {stands = stands} {turns = turns} {probes = probes} {faults = faults} h t d value known grip out k =
-    subst (λ (x : Inside D). IsWhole stands turns probes faults x) (sym out.new) (record {
-      shown = subst (λ (x : OpenHub D). HubIsKept stands turns probes faults x) (sym (probe_shows h t d value known grip out) ∙ ap (λ (x : Inside D). open_of x) out.new)
-          (gone_kept stands turns probes faults (open_of h) 0 d (left_of h d) h.moment (ForProbe value) grip.device grip.slip (Probe value) out.sent.at (probe_leaves h t d value known grip out) configuration k.shown);
-      room = k.room;
-      order = subst (λ (g : Grips). OrderIsBeside h.rounds h.history g h.order.line h.order.table) (ap (λ (x : Inside D). (configuration_of (open_of x)).grips) out.new)
-          (order_probe_out h.history.setting (read_in h.history) (configuration_of (open_of h)).grips (configuration_of (open_of t)).grips d value h.order.line h.order.table home gone_grips k.order);
-      hands = subst (HandsAre h.history.setting (configuration_of (open_of (record h { away = t.away }))).grips) (sym out.sent.hands) (subst (λ (g : Grips). HandsAre h.history.setting g h.away.hands.items) (ap (λ (x : Inside D). (configuration_of (open_of x)).grips) out.new)
-          (probe_goes h.history.setting (configuration_of (open_of h)).grips (configuration_of (open_of t)).grips d (Probes value) h.away.hands.items home gone_grips k.hands));
-    })
+pub sent_whole : {D : Type 0} {stands turns probes faults : D → ℕ} (h t : Inside D) (d : ℕ) (value : Option ℕ) (known : DeviceProgress) (grip : Gripped D Ready)
+    → IsProbedOut turns probes faults h t d value known grip → t.order ≡ h.order → IsWhole stands turns probes faults h → IsWhole stands turns probes faults t
+sent_whole {D = D} h t d value known grip out order k =
+    gone_whole h t 0 d (ForProbe value) ((progress_at h.away.known.items d).probes_left - 1) (Probe value) grip (sent_gone h t d value known grip out)
+    (subst (λ (c : Configuration). IsKeptByModel c h.rounds h.opened (held_in (open_of h))) (sym (sent_configuration h t d value known grip out k)) (probe_taken_kept (configuration_of (open_of h)) h.rounds h.opened (held_in (open_of h)) d k.shown.configuration))
+    (subst (λ (x : KeptOrder). OrderIsBeside h.rounds h.history (configuration_of (open_of t)).grips x.line x.table) (sym order)
+    (order_probe_out h.history.setting (read_in h.history) (configuration_of (open_of h)).grips
+    (configuration_of (open_of t)).grips d value h.order.line h.order.table home grips k.order))
+    (subst (HandsAre h.history.setting (configuration_of (open_of t)).grips) (sym out.sent.hands) (probe_goes h.history.setting (configuration_of (open_of h)).grips (configuration_of (open_of t)).grips d (Probes value) h.away.hands.items home grips k.hands)) k
   where
-    within : d < length h.away.known.items
-    within = sent_within h t d value known grip out k
-
-    configuration : IsKeptByModel (configuration_of (gone (open_of h) d (ForProbe value) (left_of h d) grip.slip (Probe value) h.moment)) h.rounds h.opened (held_in (open_of h))
-    configuration = subst (λ (c : Configuration). IsKeptByModel c h.rounds h.opened (held_in (open_of h))) (sym (probe_configuration h t d value known grip out within)) (probe_taken_kept (configuration_of (open_of h)) h.rounds h.opened (held_in (open_of h)) d k.shown.configuration)
-
     home : (configuration_of (open_of h)).grips d ≡ None
     home = none_out (configuration_of (open_of h)).grips d (may_parts (configuration_of (open_of h)) d out.may).home
 
-    gone_grips : (configuration_of (open_of t)).grips ≡ put (configuration_of (open_of h)).grips d (Some (record { maker = 0; purpose = Probes value }))
-    gone_grips = ap (λ (x : OpenHub D). (configuration_of x).grips) (probe_shows h t d value known grip out)
-        ∙ ap (λ (c : Configuration). c.grips) (gone_configuration (open_of h) 0 d (left_of h d) h.moment (ForProbe value) grip.slip (Probe value) out.sent.maker_is (slice_get_within h.away.gate.places d (Home grip.device) out.sent.at) within)
+    grips : (configuration_of (open_of t)).grips ≡ put (configuration_of (open_of h)).grips d (Some (record { maker = 0; purpose = Probes value }))
+    grips = gone_grips h t 0 d (ForProbe value) ((progress_at h.away.known.items d).probes_left - 1) (Probe value) grip (sent_gone h t d value known grip out) k
 
 -- and it is the step that it says
 pub record ProbeSent {D : Type 0} (s t : OpenHub D) (d : ℕ) (grip : Gripped D Ready) : Type 0 where
@@ -199,31 +176,25 @@ pub probe_sent : {D : Type 0} {stands turns probes faults : D → ℕ} (h t : In
     (grip : Gripped D Ready) → open_of h ≡ s₀ → IsProbedOut turns probes faults h t d value known grip → IsWhole stands turns probes faults h
     → ProbeSent s₀ (open_of t) d grip
 probe_sent {D = D} h t s₀ d value known grip seen out k =
-    subst (λ (x : OpenHub D). ProbeSent x (open_of t) d grip) seen (subst (λ (x : OpenHub D). ProbeSent (open_of h) x d grip) (sym (probe_shows h t d value known grip out)) (record {
+    subst (λ (x : OpenHub D). ProbeSent x (open_of t) d grip) seen (record {
       probed = (
         (
           ap (λ x. Probed (Some x)) (out.sent.does ∙ ap (λ x. Probe x) out.value_is) ∙ ap (λ (x : ProbeTaken). Probed x.task) (sym takes),
           state ∙ ap (λ (x : ProbeTaken). x.next) (sym takes),
-          (λ may. record { device = number; maker = out.sent.maker_is }),
+          (λ may. record { device = ap (λ (x : DeviceNo). x.0) out.sent.device; maker = out.sent.maker_is }),
         ),
         out.sent.at,
-        ap (λ x. slice_set h.away.gate.places d (Out grip.slip x)) (sym out.sent.does),
-        next_grip s after grip d number out.sent.ticket refl (probe_leaves h t d value known grip out).stood,
+        out.sent.places ∙ ap (λ x. slice_set h.away.gate.places d (Out grip.slip x)) (sym out.sent.does),
+        gone_next h t 0 d (ForProbe value) left (Probe value) grip (sent_gone h t d value known grip out),
       );
-      window = record { setting = refl; rounds = refl; opened = refl; at_opening = known_same (λ (p : DeviceProgress). p.at_opening) h.away.known.items d (record (progress_at h.away.known.items d) { purpose = ForProbe value; probes_left = left_of h d }) within refl };
-    }))
+      window = gone_window h t 0 d (ForProbe value) left (Probe value) grip (sent_gone h t d value known grip out) k;
+    })
   where
-    within : d < length h.away.known.items
-    within = sent_within h t d value known grip out k
-
-    number : grip.slip.device.0 ≡ d
-    number = ap (λ (x : DeviceNo). x.0) out.sent.device
-
     s : OpenHub D
     s = open_of h
 
-    after : OpenHub D
-    after = gone s d (ForProbe value) (left_of h d) grip.slip (Probe value) h.moment
+    left : ℕ
+    left = (progress_at h.away.known.items d).probes_left - 1
 
     takes : take_probe (hub_state_of s) d grip.slip ≡ record { task = Some (Probe (restored (configuration_of s) d)); next = record { configuration = after_take_probe (configuration_of s) d; carried = carrying (hub_state_of s) 0 d (Probes (restored (configuration_of s) d)) grip.slip } }
     takes =
@@ -235,8 +206,11 @@ probe_sent {D = D} h t s₀ d value known grip seen out k =
           };
         } else record { task = None; next = hub_state_of s }) out.may
 
-    state : hub_state_of after ≡ record { configuration = after_take_probe (configuration_of s) d; carried = carrying (hub_state_of s) 0 d (Probes (restored (configuration_of s) d)) grip.slip }
+    state : hub_state_of (open_of t) ≡ record { configuration = after_take_probe (configuration_of s) d; carried = carrying (hub_state_of s) 0 d (Probes (restored (configuration_of s) d)) grip.slip }
     state =
-        let configuration = probe_configuration h t d value known grip out within in
-        let carried = gone_carries s 0 d (left_of h d) h.moment (ForProbe value) grip.slip (Probe value) refl (slice_get_within h.away.gate.places d (Home grip.device) out.sent.at) ∙ ap (λ v. carrying (hub_state_of s) 0 d (Probes v) grip.slip) out.value_is in
+        let within = gone_within h t 0 d (ForProbe value) left (Probe value) grip (sent_gone h t d value known grip out) k in
+        let configuration = sent_configuration h t d value known grip out k in
+        let carried = ap (λ (x : OpenHub D). (hub_state_of x).carried)
+        (gone_shows h t 0 d (ForProbe value) left (Probe value) grip (sent_gone h t d value known grip out)) ∙ gone_carries s 0 d left t.moment
+        (ForProbe value) grip.slip (Probe value) refl within.0 ∙ ap (λ v. carrying (hub_state_of s) 0 d (Probes v) grip.slip) out.value_is in
         λ i. record { configuration = configuration i; carried = carried i }

@@ -14,7 +14,7 @@ use Rattle.hub_core.proofs.kept.ProbeSteps.{order_lost}
 use Rattle.hub_core.proofs.steps.Takes.{live_run}
 use Rattle.hub_core.specs.HubsKept.{IsWhole, open_of}
 use Rattle.hub_core.specs.OpenHubs.{configuration_of}
-use Rattle.hub_core.specs.ReadHistories.{read_in}
+use Rattle.history_book.specs.ReadHistories.{read_in}
 use Rattle.hub_core.specs.Steps.{Moves, choice_of}
 use Rattle.hub_core.specs.declared.open_windows.OpenWindow.TheInside.{Inside}
 use Rattle.lock_leasing.specs.Configurations.{Configuration, read_of}

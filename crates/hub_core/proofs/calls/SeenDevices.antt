@@ -12,7 +12,7 @@ use Rattle.home_types.specs.declared.commands.View.TheVariants.{Down}
 use Rattle.hub_core.proofs.calls.HubOrders.{read_whole, roster_allowed}
 use Rattle.hub_core.specs.HubsKept.{IsWhole, open_of}
 use Rattle.hub_core.specs.OpenHubs.{OpenHub, configuration_of, held_in}
-use Rattle.hub_core.specs.ReadHistories.{read_in}
+use Rattle.history_book.specs.ReadHistories.{read_in}
 use Rattle.hub_core.specs.declared.open_windows.OpenWindow.TheInside.{Inside}
 use Rattle.lineage_table.proofs.Splits.{access_at}
 use Rattle.lineage_table.specs.Accesses.{access_of}

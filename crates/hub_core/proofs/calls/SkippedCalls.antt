@@ -17,7 +17,7 @@ use Rattle.hub_core.specs.HubsKept.{IsWhole, open_of}
 use Rattle.hub_core.specs.KeptOrders.{OrderIsBeside}
 use Rattle.window_order.specs.KeptOrders.{IsUnreleased, is_first, left_by}
 use Rattle.hub_core.specs.OpenHubs.{configuration_of, held_in}
-use Rattle.hub_core.specs.ReadHistories.{HistoryState, read_in, with_entry, with_more}
+use Rattle.history_book.specs.ReadHistories.{HistoryState, read_in, with_entry, with_more}
 use Rattle.hub_core.specs.Steps.{Moves, choice_of, skip_entries}
 use Rattle.hub_core.specs.declared.open_windows.OpenWindow.TheInside.{Inside}
 use Rattle.lineage_table.specs.Lineages.{lineage_at, with_lineage}

@@ -1,48 +1,43 @@
 -- A device that fails or comes back as it comes home: it may, and line and history have room for it.
-use Rattle.hub_core.proofs.kept.TableFits.{counted_told, no_detector}
 use Rattle.device_gate.specs.Calls.{has_died}
 use Rattle.device_gate.specs.Grips.{Gripped}
 use Rattle.device_gate.specs.declared.grips.Done.{Done}
 use Rattle.device_gate.specs.declared.slips.Slip.{Slip}
-use Rattle.history_book.proofs.Snoc.{each_at, entries_on}
-use Rattle.history_book.specs.Histories.{entries_of, entry, kept_by}
-use Rattle.history_book.specs.Readings.{Reading, nothing_read, put}
+use Rattle.history_book.proofs.HistoryReads.{takes_first}
+use Rattle.history_book.specs.Histories.{entry}
+use Rattle.history_book.specs.ReadHistories.{read_in}
+use Rattle.history_book.specs.Readings.{Reading, put}
 use Rattle.history_book.specs.Settings.{Setting}
-use Rattle.history_book.specs.WellFormed.{IsWellFormed, may_follow}
+use Rattle.history_book.specs.WellFormed.{may_follow}
 use Rattle.history_book.specs.declared.entries.Entry.TheVariants.{Fell, Rose}
 use Rattle.history_book.specs.declared.entries.Entry.{Entry}
-use Rattle.history_book.specs.declared.entries.Kept.{Kept}
 use Rattle.home_types.specs.declared.items.Item.TheVariants.{Back, Failed}
 use Rattle.home_types.specs.declared.numbers.DeviceNo.{DeviceNo}
 use Rattle.hub_core.proofs.calls.Homecomings.{ComesBack, IsReturned, after_back, held_back, returned_comes, returned_entries, returned_for, returned_places}
 use Rattle.hub_core.proofs.calls.HubOrders.{read_whole}
 use Rattle.hub_core.proofs.kept.EventsTold.{line_size}
 use Rattle.hub_core.proofs.kept.OrderSteps.{length_with}
+use Rattle.hub_core.proofs.kept.SealedOrders.{table_unsealed}
 use Rattle.hub_core.proofs.kept.Sizes.{line_fits}
+use Rattle.hub_core.proofs.kept.TableFits.{counted_told, no_detector}
 use Rattle.hub_core.proofs.steps.Afters.{read_with}
 use Rattle.hub_core.proofs.steps.Calls.{is_up_for}
 use Rattle.hub_core.specs.Away.{events_after, turned}
 use Rattle.hub_core.specs.Bounds.{most_items}
 use Rattle.hub_core.specs.HubsKept.{IsWhole, open_of}
-use Rattle.hub_core.proofs.kept.SealedOrders.{table_unsealed}
 use Rattle.hub_core.specs.KeptOrders.{MayTurn}
 use Rattle.hub_core.specs.OpenHubs.{configuration_of, events_in, held_in, progress_at}
 use Rattle.window_order.specs.KeptOrders.{purpose_of}
-use Rattle.hub_core.specs.ReadHistories.{read_in}
-use Rattle.hub_core.specs.declared.open_windows.OpenWindow.TheInside.{Inside}
 use Rattle.hub_core.specs.declared.known.Events.{Events}
+use Rattle.hub_core.specs.declared.open_windows.OpenWindow.TheInside.{Inside}
 use Rattle.window_order.specs.declared.purposes.Purpose.{Purpose as KeptPurpose}
 use Rattle.lock_leasing.specs.Configurations.{Grips, read_of}
 use Rattle.serial_line.specs.Marks.{Mark, stands as stands_item}
 use Rattle.std.proofs.Common.{ap, arith, subst, sym, ◌∙◌}
 use Rattle.std.proofs.lemmas.Grind.{common_steps}
-use Rattle.std.specs.Prelude.{Bool, List, false, fold, length, true, ℕ, ◌++◌, ◌+◌, ◌<◌, ◌∷◌, ◌≡◌, ◌≤◌}
+use Rattle.std.specs.Prelude.{Bool, List, false, fold, length, true, ℕ, ◌+◌, ◌<◌, ◌∷◌, ◌≡◌, ◌≤◌}
 use Rattle.window_order.proofs.TurnedLines.{event_place_of, failure_absent, marks_fell, marks_rose, restart_absent}
 use Rattle.window_order.specs.MarksKept.{MarksAreKept}
-
--- the first entry of a step may stand where it stands
-pub first_may : (w : Setting) (h : List Kept) (maker : ℕ) (e : Entry) (es : List Entry) → IsWellFormed w (entries_of (h ++ kept_by maker (e ∷ es))) → may_follow w (read_in (record { setting = w; history = h; spare = 0 })) e ≡ true
-first_may w h maker e es formed = each_at w (may_follow w) (nothing_read w) (entries_of h) e es (subst (IsWellFormed w) (entries_on h maker (e ∷ es)) formed)
 
 -- with an event the line is longer by one
 fell_line : (w : Setting) (n : Reading) (g : Grips) (d : DeviceNo) (marks : List Mark) → MarksAreKept n g marks → length (entry w n (Fell d)).line ≡ length n.line + 1
@@ -69,7 +64,7 @@ tells_comes {stands = stands} {turns = turns} {probes = probes} {faults = faults
 pub tells_may : {D : Type 0} {stands turns probes faults : D → ℕ} (h : Inside D) (why : KeptPurpose) (tag : ℕ) (grip : Gripped D Done) (e : Entry)
     (es : List Entry) → TellsTurn stands turns probes faults h why tag grip e es → IsWhole stands turns probes faults h
     → may_follow h.history.setting (read_in h.history) e ≡ true
-tells_may h why tag grip e es tells k = first_may h.history.setting h.history.history grip.slip.maker e es (tells_comes h why tag grip e es tells k).configuration.history.well_formed
+tells_may h why tag grip e es tells k = takes_first h.history grip.slip.maker e es (tells_comes h why tag grip e es tells k).configuration.history.well_formed
 
 -- so line and history have room
 turn_room : {D : Type 0} {stands turns probes faults : D → ℕ} (h : Inside D) (why : KeptPurpose) (tag : ℕ) (grip : Gripped D Done) (e : Entry) (es : List Entry) → TellsTurn stands turns probes faults h why tag grip e es

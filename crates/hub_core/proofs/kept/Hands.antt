@@ -1,23 +1,24 @@
 -- Of each run of the window, the device whose grip it holds.
 use Rattle.command_rules.specs.Rosters.{Run, is_run}
+use Rattle.history_book.proofs.HistoryReads.{run_place}
 use Rattle.history_book.proofs.Snoc.{put_other, put_same}
 use Rattle.history_book.specs.Readings.{Reading, put}
 use Rattle.history_book.specs.Settings.{Setting}
 use Rattle.home_types.specs.declared.numbers.DeviceNo.{DeviceNo}
 use Rattle.hub_core.proofs.kept.Finds.{find_first, find_none, find_same, none_does}
-use Rattle.hub_core.proofs.kept.HubReads.{get_set, run_place, run_above}
+use Rattle.hub_core.proofs.kept.SetPlaces.{get_set}
 use Rattle.hub_core.specs.Away.{with_hand}
 use Rattle.hub_core.specs.HubsKept.{HandsAre}
 use Rattle.lock_leasing.specs.Configurations.{Grip, Grips, Purpose, has_grip}
+use Rattle.lock_leasing.specs.Places.{GripsFit}
 use Rattle.lock_leasing.specs.Waits.{grip_wait}
 use Rattle.std.proofs.Common.{ap, arith, inl, inr, refl, subst, sym, ◌∙◌}
+use Rattle.std.proofs.lemmas.Bool.{eq-eqb, eqb-true, lt-ltb}
+use Rattle.std.proofs.lemmas.Grind.{common_steps}
 use Rattle.std.proofs.lemmas.List.{length-replicate, length-set}
+use Rattle.std.proofs.lemmas.Option.{same_Some}
 use Rattle.std.specs.Prelude.{List, None, Option, Some, false, if◌then◌else◌, length, nat_lt, option_map, replicate, slice_get, slice_set, suc, true, unwrap_or, zero, ℕ, ⊤, ◌-◌, ◌<◌, ◌==◌, ◌≡◌, ◌≢◌}
 use Rattle.window_order.proofs.Grips.{HoldsNone, none_left}
-use Rattle.lock_leasing.specs.Places.{GripsFit}
-use Rattle.std.proofs.lemmas.Bool.{eq-eqb, eqb-true}
-use Rattle.std.proofs.lemmas.Grind.{common_steps}
-use Rattle.std.proofs.lemmas.Option.{same_Some}
 
 -- none is out
 pub no_hands : (w : Setting) (g : Grips) → ((d : ℕ) → g d ≡ None) → HandsAre w g (replicate (length w.runs) None)
@@ -128,6 +129,10 @@ hands_come w n g maker d purpose hands run out fit k = elim (nat_lt 0 maker) as 
   | true ↦ (λ some. hand_comes w n g (put g d None) maker d purpose hands (slice_set hands (maker - 1) None) (run some) out fit refl refl k)
   | false ↦ (λ none. let detector : maker ≡ 0 = grind (arith, common_steps) in probe_comes w g (put g d None) d purpose hands (out ∙ ap (λ m. Some (record { maker = m; purpose = purpose })) detector) refl k)
 ] refl
+
+-- a run is not the detector
+pub run_above : (runs : List Run) (r : ℕ) → is_run runs r ≡ true → nat_lt 0 r ≡ true
+run_above runs r run = let place = run_place runs r run in lt-ltb 0 r (omega (arith, place.0))
 
 -- a run's hand
 pub run_hand : (runs : List Run) (hands : List (Option DeviceNo)) (r : ℕ) (hand : Option DeviceNo) → is_run runs r ≡ true → with_hand hands r hand ≡ slice_set hands (r - 1) hand

@@ -3,15 +3,17 @@ use Rattle.command_rules.specs.Items.{is_ran}
 use Rattle.command_rules.specs.Rosters.{command_at, device_no, is_run, run_no, touches_from}
 use Rattle.device_order.specs.LineWords.{CutAt}
 use Rattle.device_order.specs.Usages.{holds_command}
-use Rattle.history_book.proofs.Standing.{stands_in}
 use Rattle.history_book.proofs.Snoc.{along_on, each_at, entries_on, put_same, reading_more}
-use Rattle.history_book.specs.Histories.{entries_of, entry, kept_by, reading}
+use Rattle.history_book.proofs.Standing.{stands_in}
 use Rattle.history_book.specs.Gaps.{front_for, gap_set, line_for}
+use Rattle.history_book.specs.Histories.{entries_of, entry, kept_by, reading}
 use Rattle.history_book.specs.Plans.{planned_times}
+use Rattle.history_book.specs.ReadHistories.{HistoryState, read_in, with_doom, with_entry}
 use Rattle.history_book.specs.Readings.{OfRun, Reading, did, is_access, is_doomed, is_told, next_of, nothing_read, pends, put}
 use Rattle.history_book.specs.Sealed.{sealed_in}
 use Rattle.history_book.specs.Settings.{Setting, is_weak, scheduler_of}
 use Rattle.history_book.specs.WellFormed.{IsWellFormed, along, cause_fits, is_well_formed, may_act, may_follow}
+use Rattle.history_book.specs.declared.entries.Cause.{Cause}
 use Rattle.history_book.specs.declared.entries.End.TheVariants.{Aborted, Committed}
 use Rattle.history_book.specs.declared.entries.Entry.TheVariants.{Arrived, Did, Doomed, Ended, Placed, Undid}
 use Rattle.history_book.specs.declared.entries.Entry.{Entry}
@@ -23,26 +25,30 @@ use Rattle.home_types.specs.declared.commands.View.TheVariants.{Down as ViewedDo
 use Rattle.home_types.specs.declared.commands.View.{View}
 use Rattle.home_types.specs.declared.items.Item.TheVariants.{Ran}
 use Rattle.home_types.specs.declared.items.Item.{Item}
+use Rattle.hub_core.proofs.kept.Arranged.{as_they_stand, long_arranged, marks_arranged, marks_for, marks_joined}
+use Rattle.hub_core.proofs.kept.SealedOrders.{placed_sealed, same_sealed, sealed_is, touched_sealed}
+use Rattle.hub_core.proofs.kept.Sizes.{one_at_most}
+use Rattle.hub_core.proofs.kept.TableFits.{committed_bare, doomed_bare, fits_changed, fits_ordered, fits_still, fits_weakly, removed_bare, undone_change_bare}
 use Rattle.hub_core.specs.Bounds.{most_items}
 use Rattle.hub_core.specs.KeptOrders.{IsOrderOf, OrderIsBeside, TableFits}
 use Rattle.window_order.specs.KeptOrders.{IsSealed, IsUnreleased, MayNote, is_first, noted_first}
-use Rattle.hub_core.specs.ReadHistories.{HistoryState, read_in, with_doom, with_entry}
 use Rattle.legal_days.proofs.Lists.{count_cons}
 use Rattle.lineage_table.specs.Accesses.{is_scheduled, status_of}
 use Rattle.lineage_table.specs.Lineages.{LineageState, TableIsOpened, committed_lineage, lineage_at, removed, undone, with_lineage}
 use Rattle.lineage_table.specs.declared.accesses.Status.TheVariants.{Acquired, Scheduled}
 use Rattle.lock_leasing.specs.Configurations.{Commands, Grip, Grips, Purpose, Undoes, grips_command, is_command, no_grips}
+use Rattle.lock_leasing.specs.Places.{GripsFit, IsClear, in_order}
+use Rattle.lock_leasing.specs.Tables.{view_when}
 use Rattle.serial_line.specs.KeptRuns.{AreKeptOf}
 use Rattle.serial_line.specs.Marks.{Mark, Marked, front_of, items_of, marks_without, settling, touching, untouched, with_end, with_item, with_touch}
 use Rattle.std.proofs.Common.{ap, arith, cond, length-append, refl, subst, sym, ◌∙◌}
-use Rattle.hub_core.proofs.kept.Arranged.{as_they_stand, long_arranged, marks_arranged, marks_for, marks_joined}
-use Rattle.hub_core.proofs.kept.SealedOrders.{placed_sealed, same_sealed, sealed_is, touched_sealed}
-use Rattle.hub_core.proofs.kept.Sizes.{one_at_most}
-use Rattle.hub_core.proofs.kept.TableFits.{committed_bare, doomed_bare, fits_changed, fits_ordered, fits_still, fits_weakly, removed_bare, undone_change_bare}
+use Rattle.std.proofs.lemmas.Bool.{and_parts, eqb-true, not-true}
+use Rattle.std.proofs.lemmas.Grind.{common_steps}
 use Rattle.std.proofs.lemmas.List.{length-map, take-append-drop}
 use Rattle.std.specs.Prelude.{Bool, IsSome, IsTrue, List, None, Option, Some, [], count_by, drop, false, if◌then◌else◌, is_some, length, not, option_map, suc, take, true, unwrap_or, ℕ, ◌&&◌, ◌++◌, ◌+◌, ◌<◌, ◌==◌, ◌||◌, ◌∷◌, ◌≡◌, ◌≤◌}
 use Rattle.window_order.proofs.AnsweredDowns.{IsToldDown}
 use Rattle.window_order.proofs.AnsweredTables.{TouchesNow, answered_run, left_after}
+use Rattle.window_order.proofs.Grips.{HoldsNone, held_none, none_left}
 use Rattle.window_order.proofs.Joined.{joined_table}
 use Rattle.window_order.proofs.PlacedTables.{arrived_table, opened_table}
 use Rattle.window_order.proofs.PromisedWords.{command_held}
@@ -52,18 +58,12 @@ use Rattle.window_order.proofs.Steps.{IsOut, out_is}
 use Rattle.window_order.proofs.TableCalls.{status_there, touches_now, waits_there}
 use Rattle.window_order.proofs.TableSteps.{aborted_table, answered_table, changes_one, command_out_table, committed_table, doomed_each, doomed_table, undid_table, undo_dropped_table, undo_out_table}
 use Rattle.window_order.proofs.ToldTables.{told_table, told_touches_now}
-use Rattle.window_order.specs.MarksKept.{MarksAreKept}
 use Rattle.window_order.proofs.TouchedLines.{marks_aborted, marks_answered, marks_arrived, marks_begin, marks_committed, marks_doomed, marks_out, marks_undo_home, marks_undo_out, marks_undone}
+use Rattle.window_order.proofs.TurnedLines.{marks_told}
+use Rattle.window_order.specs.MarksKept.{MarksAreKept}
 use Rattle.window_order.specs.OrderKept.{OrderIsKept}
 use Rattle.window_order.specs.TableChanges.{ChangesEach, answered_change, answered_lineage, doomed_lineage, is_done_there, placed_change, scheduled_on, told_write, undone_change}
 use Rattle.window_order.specs.TableKept.{LineageIsKept, TableIsKept}
-use Rattle.lock_leasing.specs.Tables.{view_when}
-use Rattle.history_book.specs.declared.entries.Cause.{Cause}
-use Rattle.lock_leasing.specs.Places.{GripsFit, IsClear, in_order}
-use Rattle.std.proofs.lemmas.Bool.{and_parts, eqb-true, not-true}
-use Rattle.std.proofs.lemmas.Grind.{common_steps}
-use Rattle.window_order.proofs.Grips.{HoldsNone, held_none, none_left}
-use Rattle.window_order.proofs.TurnedLines.{marks_told}
 
 -- One entry more
 

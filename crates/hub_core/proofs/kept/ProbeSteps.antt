@@ -12,7 +12,7 @@ use Rattle.hub_core.proofs.kept.OrderSteps.{entry_kept, length_with}
 use Rattle.hub_core.proofs.kept.TableFits.{fits_changed, fits_still, fits_turned, unless_bare}
 use Rattle.hub_core.specs.KeptOrders.{IsOrderOf, LineageIsBare, OrderIsBeside}
 use Rattle.window_order.specs.KeptOrders.{IsSealed}
-use Rattle.hub_core.specs.ReadHistories.{HistoryState, read_in, with_entry}
+use Rattle.history_book.specs.ReadHistories.{HistoryState, read_in, with_entry}
 use Rattle.lineage_table.specs.Lineages.{LineageState, counted_up, with_lineage}
 use Rattle.lock_leasing.specs.Configurations.{Grips, Probes, grips_command}
 use Rattle.lock_leasing.specs.Places.{GripsFit}

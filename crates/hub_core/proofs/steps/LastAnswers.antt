@@ -4,9 +4,8 @@ use Rattle.history_book.proofs.Snoc.{entries_on, put_same, reading_more}
 use Rattle.history_book.specs.Histories.{entries_of, reading}
 use Rattle.history_book.specs.Readings.{OfRun, Reading, next_of}
 use Rattle.history_book.specs.declared.entries.Entry.TheVariants.{Did}
-use Rattle.history_book.specs.declared.entries.Entry.{Entry}
 use Rattle.home_types.specs.declared.commands.Answer.{Answer}
-use Rattle.hub_core.specs.ReadHistories.{HistoryState, read_in, with_entry}
+use Rattle.history_book.specs.ReadHistories.{HistoryState, read_in, with_entry}
 use Rattle.std.proofs.Common.{ap, subst, sym, ◌∙◌}
 use Rattle.std.proofs.lemmas.List.{length-append}
 use Rattle.std.specs.Prelude.{IsTrue, [], length, true, ℕ, ◌+◌, ◌<◌, ◌∷◌, ◌≡◌}
@@ -27,10 +26,10 @@ pub record HasJustAnswered (s : HistoryState) (r k d : ℕ) : Type 0 where
   pub answered : next_of (read_in s) r ≡ k + 1
 
 -- .. once the answer to its next command is appended
-pub just_answered : (s t : HistoryState) (maker r k d : ℕ) (e : Entry) (a : Answer) → is_run s.setting.runs maker ≡ true → k ≡ next_of (read_in s) maker → k < length (commands_of s.setting.runs maker) → (command_at s.setting.runs maker k).device.0 ≡ d
-    → r ≡ maker → e ≡ Did (run_no r) k a → t ≡ with_entry s r e → HasJustAnswered t r k d
-just_answered s t maker r k d e a run next within on same is new =
-    subst (λ (u : HistoryState). HasJustAnswered u r k d) (sym (new ∙ ap (with_entry s r) is))
+pub just_answered : (s t : HistoryState) (maker r k d : ℕ) (a : Answer) → is_run s.setting.runs maker ≡ true → k ≡ next_of (read_in s) maker → k < length (commands_of s.setting.runs maker) → (command_at s.setting.runs maker k).device.0 ≡ d
+    → r ≡ maker → t ≡ with_entry s r (Did (run_no r) k a) → HasJustAnswered t r k d
+just_answered s t maker r k d a run next within on same new =
+    subst (λ (u : HistoryState). HasJustAnswered u r k d) (sym new)
     (subst (λ q. HasJustAnswered (with_entry s q (Did (run_no q) k a)) q k d) (sym same) (record {
       run = run;
       there = within;

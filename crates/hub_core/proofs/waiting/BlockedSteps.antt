@@ -17,7 +17,7 @@ use Rattle.device_gate.specs.declared.slips.Told.{Told}
 use Rattle.device_gate.specs.declared.slips.Told.TheVariants.{Died, Sensed, Worked}
 use Rattle.hub_core.proofs.kept.BlockedMarks.{all_left}
 use Rattle.hub_core.proofs.kept.Finds.{find_same}
-use Rattle.hub_core.proofs.kept.HubReads.{run_place}
+use Rattle.history_book.proofs.HistoryReads.{run_place}
 use Rattle.hub_core.proofs.kept.Hands.{IsOf, others_hold}
 use Rattle.hub_core.proofs.steps.Choices.{decide_is}
 use Rattle.hub_core.proofs.steps.GiveCauses.{next_pends}

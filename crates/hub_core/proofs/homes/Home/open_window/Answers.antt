@@ -1,14 +1,18 @@
-use Rattle.hub_core.proofs.calls.HubOpens.{Opens, first_order, first_hands, first_kept, first_opened, first_room, first_scratch, is_first_hub, seen_home, setting_of_indexed}
+use Rattle.command_rules.specs.Rosters.{plain_run, runs_of}
+use Rattle.command_rules.specs.declared.rosters.Roster.{Roster}
+use Rattle.home_types.specs.Limits.{most_runs}
+use Rattle.hub_core.proofs.calls.HubOpens.{Opens, first_hands, first_kept, first_opened, first_order, first_room, first_scratch, is_first_hub, seen_home, setting_of_indexed}
 use Rattle.hub_core.proofs.calls.HubOrders.{index_fits}
 use Rattle.hub_core.proofs.homes.Home.open_window.Goals as goal
 use Rattle.hub_core.proofs.kept.BlockedMarks.{none_blocked}
-use Rattle.hub_core.specs.Homes.{HomeIsKept, setting_for}
 use Rattle.hub_core.specs.Bounds.{most_entries}
+use Rattle.hub_core.specs.Homes.{HomeIsKept, setting_for}
 use Rattle.hub_core.specs.HubCalls.{IsOpened}
 use Rattle.hub_core.specs.HubsKept.{HandsAre, HasRoomLeft, HubIsKept}
 use Rattle.hub_core.specs.KeptOrders.{OrderIsBeside}
 use Rattle.hub_core.specs.OpenHubs.{OpenHub, configuration_of}
-use Rattle.std.proofs.Common.{arith, length, subst, sym, ◌≤◌}
+use Rattle.std.proofs.Common.{arith, length, subst, sym, ◌<◌, ◌≤◌}
+use Rattle.std.proofs.lemmas.List.{length-map}
 
 pub room-requires-clause-runs : goal.room-requires-clause-runs
 room-requires-clause-runs g c = index_fits (setting_for c.args.self c.args.roster c.args.mode) c.args.rounds c.args.self.opened c.requires.may
@@ -16,24 +20,33 @@ room-requires-clause-runs g c = index_fits (setting_for c.args.self c.args.roste
 pub open-requires : goal.open-requires
 open-requires g c = index_fits (setting_for c.args.self c.args.roster c.args.mode) c.args.rounds c.args.self.opened c.requires.may
 
+-- its history has room
+pub empty-requires : goal.empty-requires
+empty-requires g c =
+    let room : 0 < length c.args.roster.runs.items → 0 < c.in-Ok.room.state.book.spare = λ some. omega (arith, some, c.in-Ok.ensures.book.1) in
+    record {
+      no_entry = c.in-Ok.ensures.book.0;
+      few = subst (λ (x : Roster). length (runs_of x) ≤ most_runs) (sym c.in-Ok-open.ensures) c.requires.may.few_runs;
+      room = subst (λ (x : Roster). 0 < length (runs_of x) → 0 < c.in-Ok.room.state.book.spare) (sym c.in-Ok-open.ensures) (λ some. room (let same = length-map c.args.roster.runs.items plain_run in omega (arith, same, some)));
+    }
+
 -- the hub of a window that opens, which is kept and has its room
 pub invariant_of-result : goal.invariant_of-result
 invariant_of-result g c =
     let same = is_first_hub c.args.self c.args.roster c.args.mode c.args.rounds c.in-Ok.room.state.devices.items _ _ _ _ _ _ _ _
     (seen_home c.args.self _ _ _ c.in-Ok-behind_gate.ensures.kinds c.in-Ok-behind_gate.ensures.world c.in-Ok-behind_gate.ensures.opened)
-    (setting_of_indexed _ _ _ _ _ _ c.empty_history.ensures.setting c.in-Ok-open.ensures) c.empty_history.ensures.history c.in-Ok-behind_gate.ensures.places
+    (setting_of_indexed _ _ _ _ _ _ c.empty.ensures.setting c.in-Ok-open.ensures) c.empty.ensures.history c.in-Ok-behind_gate.ensures.places
     c.in-Ok-behind_gate.ensures.tickets in
     let kept : HomeIsKept g.D.Device.tag g.D.Device.stands g.D.Device.turns g.D.Device.probes g.D.Device.faults c.args.self = c.behind_gate.ensures.kept in
     let opens : Opens g.D.Device.tag g.D.Device.stands g.D.Device.turns g.D.Device.probes g.D.Device.faults c.args.self c.args.roster c.args.mode c.args.rounds c.in-Ok.room.state.devices.items = record { kept = kept; may = c.requires.may; knows = c.in-Ok.ensures.devices } in
-    let enough : most_entries (length c.args.roster.runs.items) (length c.args.self.world) c.args.rounds ≤ c.empty_history.result.spare = omega (arith, c.empty_history.ensures.spare, c.in-Ok.ensures.history.room) in
+    let enough : most_entries (length c.args.roster.runs.items) (length c.args.self.world) c.args.rounds ≤ c.empty.result.spare = omega (arith, c.empty.ensures.spare, c.in-Ok.ensures.book.1) in
     record {
       shown = subst (λ (t : OpenHub g.row.D.Denot). HubIsKept g.D.Device.stands g.D.Device.turns g.D.Device.probes g.D.Device.faults t) (sym same) (first_kept _ _ _ _ _ c.args.self c.args.roster c.args.mode _ _ opens);
       room =
-          subst (λ (t : OpenHub g.row.D.Denot). HasRoomLeft c.args.rounds
-          (record { setting = t.setting; history = t.history; spare = c.empty_history.result.spare }) c.in-Ok.room.closing) (sym same)
-          (first_room c.args.self c.args.roster c.args.mode c.args.rounds _ _ kept.size enough c.in-Ok.ensures.closing);
-      order = subst (λ (t : OpenHub g.row.D.Denot). OrderIsBeside c.args.rounds (record { setting = t.setting; history = t.history; spare = c.empty_history.result.spare }) (configuration_of t).grips c.in-Ok.room.state.order.line c.in-Ok.room.state.order.table) (sym same)
-          (first_order _ _ _ _ _ c.args.self c.args.roster c.args.mode c.args.rounds c.empty_history.result.spare _ _ _ opens c.in-Ok.ensures.order);
+          subst (λ (t : OpenHub g.row.D.Denot). HasRoomLeft c.args.rounds (record { setting = t.setting; history = t.history; spare = c.empty.result.spare })
+          c.in-Ok.room.closing) (sym same) (first_room c.args.self c.args.roster c.args.mode c.args.rounds _ _ kept.size enough c.in-Ok.ensures.closing);
+      order = subst (λ (t : OpenHub g.row.D.Denot). OrderIsBeside c.args.rounds (record { setting = t.setting; history = t.history; spare = c.empty.result.spare }) (configuration_of t).grips c.in-Ok.room.state.order.line c.in-Ok.room.state.order.table) (sym same)
+          (first_order _ _ _ _ _ c.args.self c.args.roster c.args.mode c.args.rounds c.empty.result.spare _ _ _ opens c.in-Ok.ensures.order);
       hands = subst (λ (t : OpenHub g.row.D.Denot). HandsAre t.setting (configuration_of t).grips c.in-Ok.room.state.hands.items) (sym same) (first_hands _ _ _ _ _ c.args.self c.args.roster c.args.mode c.args.rounds _ _ opens c.in-Ok.ensures.hands);
     }
 
@@ -44,7 +57,7 @@ invariant_of-result-in-Ok-behind_gate g c = record {
   scratch =
       first_scratch c.args.self c.args.roster c.args.mode c.args.rounds _ _ _ _ _ c.in-Ok.room.scratch
       (seen_home c.args.self _ _ _ c.in-Ok-behind_gate.ensures.kinds c.in-Ok-behind_gate.ensures.world c.in-Ok-behind_gate.ensures.opened)
-      (setting_of_indexed _ _ _ _ _ _ c.empty_history.ensures.setting c.in-Ok-open.ensures) c.in-Ok.ensures.scratch;
+      (setting_of_indexed _ _ _ _ _ _ c.empty.ensures.setting c.in-Ok-open.ensures) c.in-Ok.ensures.scratch;
 }
 
 pub returns-in-Ok-behind_gate-clause-opened : goal.returns-in-Ok-behind_gate-clause-opened
@@ -54,6 +67,6 @@ returns-in-Ok-behind_gate-clause-opened g c =
     subst (λ (t : OpenHub g.row.D.Denot). IsOpened g.D.Device.turns g.D.Device.probes g.D.Device.faults (setting_for c.args.self c.args.roster c.args.mode) c.args.rounds c.args.self t)
     (sym (is_first_hub c.args.self c.args.roster c.args.mode c.args.rounds c.in-Ok.room.state.devices.items _ _ _ _ _ _ _ _
     (seen_home c.args.self _ _ _ c.in-Ok-behind_gate.ensures.kinds c.in-Ok-behind_gate.ensures.world c.in-Ok-behind_gate.ensures.opened)
-    (setting_of_indexed _ _ _ _ _ _ c.empty_history.ensures.setting c.in-Ok-open.ensures) c.empty_history.ensures.history c.in-Ok-behind_gate.ensures.places
+    (setting_of_indexed _ _ _ _ _ _ c.empty.ensures.setting c.in-Ok-open.ensures) c.empty.ensures.history c.in-Ok-behind_gate.ensures.places
     c.in-Ok-behind_gate.ensures.tickets))
     (first_opened _ _ _ _ _ c.args.self c.args.roster c.args.mode _ _ opens)

@@ -1,12 +1,12 @@
 use Rattle.history_book.specs.declared.entries.End.TheVariants.{Aborted}
-use Rattle.hub_core.proofs.calls.HubChanges.{Ending, chosen_here, has_place}
+use Rattle.hub_core.proofs.calls.HubChanges.{Ending, chosen_here, follows_here, has_place}
 use Rattle.hub_core.proofs.calls.HubChoices.{aborting}
 use Rattle.hub_core.proofs.calls.HubOrders.{aborts_whole, hub_finished, read_whole}
 use Rattle.hub_core.proofs.kept.SealedOrders.{live_is_unsealed}
 use Rattle.hub_core.proofs.open_windows.OpenWindow.abort.Goals as goal
 use Rattle.hub_core.specs.HubsKept.{open_of}
 use Rattle.hub_core.specs.OpenHubs.{configuration_of}
-use Rattle.hub_core.specs.ReadHistories.{read_in, with_entry}
+use Rattle.history_book.specs.ReadHistories.{read_in}
 use Rattle.hub_core.specs.declared.decisions.Chosen.TheVariants.{Aborts}
 use Rattle.std.proofs.Common.{ap, ◌∙◌}
 use Rattle.window_order.proofs.TouchedLines.{live_stands}
@@ -29,13 +29,15 @@ withdraw-requires-clause-finished g c =
     let ends = aborting _ _ _ _ c.args.r.0 c.args.moment c.args.cause c.self.invariant.shown.configuration (chosen_here c.self.inside c.args.self.now c.args.r.0 c.args.moment (Aborts c.args.cause) c.self.view_is c.requires) in
     hub_finished c.self.inside c.args.r.0 c.args.moment c.args.cause c.kept.ensures ends c.self.invariant
 
-pub abort-requires-clause-room : goal.abort-requires-clause-room
-abort-requires-clause-room g c = has_place c.self.inside c.args.r.0 c.args.moment _ (Ending (Aborted c.args.cause)) (chosen_here c.self.inside c.args.self.now c.args.r.0 c.args.moment (Aborts c.args.cause) c.self.view_is c.requires) c.self.invariant
+pub push-requires-clause-room : goal.push-requires-clause-room
+push-requires-clause-room g c = has_place c.self.inside c.args.r.0 c.args.moment _ (Ending (Aborted c.args.cause)) (chosen_here c.self.inside c.args.self.now c.args.r.0 c.args.moment (Aborts c.args.cause) c.self.view_is c.requires) c.self.invariant
+
+pub push-requires-clause-follows : goal.push-requires-clause-follows
+push-requires-clause-follows g c = follows_here c.self.inside c.args.r.0 c.args.moment _ (Ending (Aborted c.args.cause)) (chosen_here c.self.inside c.args.self.now c.args.r.0 c.args.moment (Aborts c.args.cause) c.self.view_is c.requires) c.self.invariant
 
 pub invariant_of-self : goal.invariant_of-self
 invariant_of-self g c =
-    let new = c.abort.ensures.new ∙ ap (with_entry c.self.inside.history c.args.r.0) c.abort.ensures.entry in
     aborts_whole c.self.inside _ c.args.r.0 c.args.moment c.args.cause (record {
       chosen = chosen_here c.self.inside c.args.self.now c.args.r.0 c.args.moment (Aborts c.args.cause) c.self.view_is c.requires;
-      new = λ i. record c.self.inside { history = new i; moment = c.max-self-inside.ensures i; order = c.withdraw.new.self };
+      new = λ i. record c.self.inside { history = c.push.ensures i; moment = c.max-self-inside.ensures i; order = c.withdraw.new.self };
     }) (record { marks = c.withdraw.ensures.marks; spare = c.withdraw.ensures.spare; runs = c.withdraw.ensures.runs; sealed = c.withdraw.ensures.sealed; table = c.withdraw.ensures.table }) c.self.invariant

@@ -1,13 +1,16 @@
-use Rattle.command_rules.specs.Rosters.{is_run}
+use Rattle.command_rules.specs.Rosters.{run_no}
+use Rattle.history_book.proofs.HistoryReads.{takes_first}
+use Rattle.history_book.specs.ReadHistories.{HistoryState}
 use Rattle.history_book.specs.Settings.{is_weak}
+use Rattle.history_book.specs.declared.entries.Entry.TheVariants.{Did}
 use Rattle.home_types.specs.declared.commands.Answer.TheVariants.{Down}
-use Rattle.hub_core.proofs.calls.Deaths.{after_death, death_entries, death_made, death_may, died_back, died_whole}
+use Rattle.hub_core.proofs.calls.Deaths.{after_death, death_entries, death_follows, death_made, death_may, died_back, died_whole}
 use Rattle.hub_core.proofs.calls.Homecomings.{CameHome, back_given, grip_back, may_come}
+use Rattle.hub_core.proofs.calls.HubChanges.{doom_follows}
 use Rattle.hub_core.proofs.calls.HubReturns.{command_back}
 use Rattle.hub_core.proofs.calls.PackedEntries.{three_packed}
 use Rattle.hub_core.proofs.open_windows.OpenWindow.answer_died.Goals as goal
 use Rattle.hub_core.proofs.steps.LastAnswers.{just_answered}
-use Rattle.hub_core.specs.ReadHistories.{HistoryState, with_entry}
 use Rattle.hub_core.specs.declared.open_windows.OpenWindow.TheInside.{Inside}
 use Rattle.window_order.specs.declared.purposes.Purpose.TheVariants.{Command as ForCommand}
 use Rattle.std.proofs.Common.{ap, arith, refl, sym, ◌∙◌}
@@ -25,15 +28,18 @@ note_fall-fell-requires g c = record {
       death_may c.self.inside c.args.k _ c.args.grip c.slip-slip.result c.come_home-came.result.events (grip_back c.self.inside c.args.self.now
       (ForCommand c.args.k) _ c.args.grip c.self.view_is c.requires.kept c.requires.purpose c.come_home-came.ensures.called)
       (record { same = c.slip-slip.ensures; up = refl; died = c.requires.died; events_are = c.come_home-came.ensures.events }) c.self.invariant;
+  follows =
+      death_follows c.self.inside c.args.k _ c.args.grip c.slip-slip.result (grip_back c.self.inside c.args.self.now (ForCommand c.args.k) _ c.args.grip
+      c.self.view_is c.requires.kept c.requires.purpose c.come_home-came.ensures.called) c.slip-slip.ensures c.requires.died c.self.invariant;
 }
 
-pub answer-entry-requires : goal.answer-entry-requires
-answer-entry-requires g c =
+pub push-requires : goal.push-requires
+push-requires g c =
     let after = after_death c.self.inside c.args.k _ c.args.grip c.slip-slip.result c.is_first-first.result c.died_by-cause.result c.note_fall-fell.new.history
     c.note_fall-fell.new.order.table (grip_back c.self.inside c.args.self.now
     (ForCommand c.args.k) _ c.args.grip c.self.view_is c.requires.kept c.requires.purpose c.come_home-came.ensures.called) c.slip-slip.ensures c.requires.died
     c.is_first-first.ensures c.died_by-cause.ensures c.note_fall-fell.ensures.history c.note_fall-fell.ensures.order.counted c.self.invariant in
-    record { run = after.run; there = after.there; room = after.room; few = after.few }
+    record { room = after.room; follows = takes_first c.note_fall-fell.new.history c.slip-slip.result.maker _ _ after.takes }
 
 pub note_answer-requires : goal.note_answer-requires
 note_answer-requires g c =
@@ -41,9 +47,7 @@ note_answer-requires g c =
     c.note_fall-fell.new.order.table (grip_back c.self.inside c.args.self.now
     (ForCommand c.args.k) _ c.args.grip c.self.view_is c.requires.kept c.requires.purpose c.come_home-came.ensures.called) c.slip-slip.ensures c.requires.died
     c.is_first-first.ensures c.died_by-cause.ensures c.note_fall-fell.ensures.history c.note_fall-fell.ensures.order.counted c.self.invariant in
-    let last =
-    just_answered c.note_fall-fell.new.history c.answer-entry.new.self c.slip-slip.result.maker c.slip-slip.result.maker c.args.k c.slip-slip.result.device.0
-    c.answer-entry.result Down after.run after.next after.there after.on refl c.answer-entry.ensures.entry c.answer-entry.ensures.new in
+    let last = just_answered c.note_fall-fell.new.history c.push.new.self c.slip-slip.result.maker c.slip-slip.result.maker c.args.k c.slip-slip.result.device.0 Down after.run after.next after.there after.on refl c.push.ensures in
     record {
       access = refl;
       told = λ strong. record {
@@ -52,16 +56,17 @@ note_answer-requires g c =
         device = last.device;
         answered = last.answered;
         homed = after.device;
-        turn = after.turn (ap (λ (x : HistoryState). is_weak x.setting.mode) (sym c.answer-entry.ensures.new) ∙ strong);
+        turn = after.turn (ap (λ (x : HistoryState). is_weak x.setting.mode) (sym c.push.ensures) ∙ strong);
       };
     }
 
-pub doom_for-doomed-requires-clause-run : goal.doom_for-doomed-requires-clause-run
-doom_for-doomed-requires-clause-run g c =
-    ap (λ s. is_run s.setting.runs c.slip-slip.result.maker) c.answer-entry.ensures.new ∙ (after_death c.self.inside c.args.k _ c.args.grip c.slip-slip.result
-    c.is_first-first.result c.died_by-cause.result c.note_fall-fell.new.history c.note_fall-fell.new.order.table (grip_back c.self.inside c.args.self.now
+pub doom_for-doomed-requires-clause-follows : goal.doom_for-doomed-requires-clause-follows
+doom_for-doomed-requires-clause-follows g c =
+    doom_follows c.note_fall-fell.new.history c.push.new.self c.slip-slip.result.maker c.args.k Down c.died_by-cause.result c.push.ensures
+    (after_death c.self.inside c.args.k _ c.args.grip c.slip-slip.result c.is_first-first.result c.died_by-cause.result c.note_fall-fell.new.history
+    c.note_fall-fell.new.order.table (grip_back c.self.inside c.args.self.now
     (ForCommand c.args.k) _ c.args.grip c.self.view_is c.requires.kept c.requires.purpose c.come_home-came.ensures.called) c.slip-slip.ensures c.requires.died
-    c.is_first-first.ensures c.died_by-cause.ensures c.note_fall-fell.ensures.history c.note_fall-fell.ensures.order.counted c.self.invariant).run
+    c.is_first-first.ensures c.died_by-cause.ensures c.note_fall-fell.ensures.history c.note_fall-fell.ensures.order.counted c.self.invariant).takes
 
 pub doom_for-doomed-requires-clause-room : goal.doom_for-doomed-requires-clause-room
 doom_for-doomed-requires-clause-room g c = λ some.
@@ -69,21 +74,21 @@ doom_for-doomed-requires-clause-room g c = λ some.
     c.died_by-cause.result c.note_fall-fell.new.history c.note_fall-fell.new.order.table (grip_back c.self.inside c.args.self.now
     (ForCommand c.args.k) _ c.args.grip c.self.view_is c.requires.kept c.requires.purpose c.come_home-came.ensures.called) c.slip-slip.ensures c.requires.died
     c.is_first-first.ensures c.died_by-cause.ensures c.note_fall-fell.ensures.history c.note_fall-fell.ensures.order.counted c.self.invariant).doom_room some in
-    let left = ap (λ (x : HistoryState). x.spare) c.answer-entry.ensures.new in
+    let left = ap (λ (x : HistoryState). x.spare) c.push.ensures in
     omega (arith, more, left)
 
 pub invariant_of-self : goal.invariant_of-self
 invariant_of-self g c =
     died_whole c.self.inside _ c.args.k _ c.args.grip c.slip-slip.result c.come_home-came.result.events c.is_first-first.result c.first_death.result
-    c.died_by-cause.result c.note_fall-fell.new.history c.answer-entry.new.self _ _ _ c.note_fall-fell.new.order c.note_answer.new.order (grip_back
-    c.self.inside c.args.self.now (ForCommand c.args.k) _ c.args.grip c.self.view_is c.requires.kept c.requires.purpose c.come_home-came.ensures.called)
+    c.died_by-cause.result c.note_fall-fell.new.history c.push.new.self _ _ _ c.note_fall-fell.new.order c.note_answer.new.order (grip_back c.self.inside
+    c.args.self.now (ForCommand c.args.k) _ c.args.grip c.self.view_is c.requires.kept c.requires.purpose c.come_home-came.ensures.called)
     (record { later = omega (arith, c.max-self-inside.ensures); home = c.come_home-came.ensures.home; new = refl })
     (record {
       falls = record { same = c.slip-slip.ensures; up = refl; died = c.requires.died; events_are = c.come_home-came.ensures.events };
       first_is = c.is_first-first.ensures;
       because = c.died_by-cause.ensures;
       told = c.note_fall-fell.ensures.history;
-      answered = c.answer-entry.ensures.new ∙ ap (with_entry c.note_fall-fell.new.history c.slip-slip.result.maker) c.answer-entry.ensures.entry;
+      answered = c.push.ensures;
       doomed = c.doom_for-doomed.ensures.history;
     }) (record {
       died_is = c.first_death.ensures;
@@ -92,8 +97,8 @@ invariant_of-self g c =
       wrote_is = refl;
       last_is = refl;
       line = c.note_answer.ensures.line;
-      table = λ strong. c.note_answer.ensures.ordered ((ap (λ (x : HistoryState). is_weak x.setting.mode) c.answer-entry.ensures.new ∙ ap (λ (x : HistoryState). is_weak x.setting.mode) c.note_fall-fell.ensures.history) ∙ strong);
-      same_table = λ weak. c.note_answer.ensures.weakly ((ap (λ (x : HistoryState). is_weak x.setting.mode) c.answer-entry.ensures.new ∙ ap (λ (x : HistoryState). is_weak x.setting.mode) c.note_fall-fell.ensures.history) ∙ weak);
+      table = λ strong. c.note_answer.ensures.ordered ((ap (λ (x : HistoryState). is_weak x.setting.mode) c.push.ensures ∙ ap (λ (x : HistoryState). is_weak x.setting.mode) c.note_fall-fell.ensures.history) ∙ strong);
+      same_table = λ weak. c.note_answer.ensures.weakly ((ap (λ (x : HistoryState). is_weak x.setting.mode) c.push.ensures ∙ ap (λ (x : HistoryState). is_weak x.setting.mode) c.note_fall-fell.ensures.history) ∙ weak);
       line_after = c.doom_for-doomed.ensures.line;
       unchanged = c.doom_for-doomed.ensures.table;
       changed = c.doom_for-doomed.ensures.doomed;
@@ -104,7 +109,7 @@ returns g c =
     let t : Inside g.row.D.Denot = record c.self.inside { history = c.doom_for-doomed.new.history; moment = c.max-self-inside.result; away = c.come_home-came.new.self; order = c.doom_for-doomed.new.order } in
     let back : CameHome g.D.Device.stands g.D.Device.turns g.D.Device.probes g.D.Device.faults c.self.inside t (ForCommand c.args.k) _ c.args.grip (death_entries c.slip-slip.result c.args.k c.died_by-cause.result) =
     died_back c.self.inside t c.args.k _ c.args.grip c.slip-slip.result c.come_home-came.result.events c.is_first-first.result c.died_by-cause.result
-    c.note_fall-fell.new.history c.answer-entry.new.self (grip_back c.self.inside c.args.self.now
+    c.note_fall-fell.new.history c.push.new.self (grip_back c.self.inside c.args.self.now
     (ForCommand c.args.k) _ c.args.grip c.self.view_is c.requires.kept c.requires.purpose c.come_home-came.ensures.called)
     (record { later = omega (arith, c.max-self-inside.ensures); home = c.come_home-came.ensures.home; new = refl })
     (record {
@@ -112,11 +117,12 @@ returns g c =
       first_is = c.is_first-first.ensures;
       because = c.died_by-cause.ensures;
       told = c.note_fall-fell.ensures.history;
-      answered = c.answer-entry.ensures.new ∙ ap (with_entry c.note_fall-fell.new.history c.slip-slip.result.maker) c.answer-entry.ensures.entry;
+      answered = c.push.ensures;
       doomed = c.doom_for-doomed.ensures.history;
     }) c.self.invariant in
     let made = back_given c.self.inside t c.args.self.now c.args.moment (ForCommand c.args.k) _ c.args.grip _
-    (record { a = Some c.note_fall-fell.result.entry; b = Some c.answer-entry.result; c = c.doom_for-doomed.result }) c.self.view_is c.requires.maker
-    c.max-self-inside.ensures back (death_made c.slip-slip.result c.args.k c.died_by-cause.result _ _ _ c.note_fall-fell.ensures.entry
-    c.answer-entry.ensures.entry c.doom_for-doomed.ensures.entry) (three_packed _ _ _) c.self.invariant in
+    (record { a = Some c.note_fall-fell.result.entry; b = Some (Did (run_no c.slip-slip.result.maker) c.args.k Down); c = c.doom_for-doomed.result })
+    c.self.view_is c.requires.maker c.max-self-inside.ensures back
+    (death_made c.slip-slip.result c.args.k c.died_by-cause.result _ _ _ c.note_fall-fell.ensures.entry refl c.doom_for-doomed.ensures.entry)
+    (three_packed _ _ _) c.self.invariant in
     record { given = made.given; window = made.window }

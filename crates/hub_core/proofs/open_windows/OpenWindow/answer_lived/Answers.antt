@@ -1,20 +1,22 @@
-use Rattle.command_rules.specs.Rosters.{is_run}
+use Rattle.command_rules.specs.Rosters.{run_no}
 use Rattle.device_gate.specs.Calls.{answer_told}
-use Rattle.history_book.specs.Readings.{is_access, next_of}
+use Rattle.history_book.proofs.HistoryReads.{takes_first}
+use Rattle.history_book.specs.ReadHistories.{HistoryState, with_doom}
+use Rattle.history_book.specs.Readings.{is_access}
 use Rattle.history_book.specs.Settings.{is_weak}
+use Rattle.history_book.specs.declared.entries.Entry.TheVariants.{Did}
 use Rattle.hub_core.proofs.calls.Homecomings.{CameHome, back_given, grip_back, may_come}
-use Rattle.hub_core.proofs.calls.HubChanges.{answer_entries}
-use Rattle.hub_core.proofs.calls.HubReturns.{answer_made, answer_place, answered_back, command_back, doom_place}
+use Rattle.hub_core.proofs.calls.HubChanges.{answer_entries, doom_follows}
+use Rattle.hub_core.proofs.calls.HubReturns.{answer_made, answer_place, answered_back, command_back, doom_place, takes_answer}
 use Rattle.hub_core.proofs.calls.PackedEntries.{two_packed}
 use Rattle.hub_core.proofs.calls.ReturnedOrders.{answered_whole, may_tell}
 use Rattle.hub_core.proofs.open_windows.OpenWindow.answer_lived.Goals as goal
 use Rattle.hub_core.proofs.steps.Gives.{told_access}
 use Rattle.hub_core.proofs.steps.LastAnswers.{just_answered}
-use Rattle.hub_core.specs.ReadHistories.{HistoryState, read_in, with_doom, with_entry}
 use Rattle.hub_core.specs.declared.open_windows.OpenWindow.TheInside.{Inside}
 use Rattle.window_order.specs.declared.purposes.Purpose.TheVariants.{Command as ForCommand}
 use Rattle.std.proofs.Common.{ap, arith, refl, sym, ◌∙◌}
-use Rattle.std.specs.Prelude.{None, Some, ◌≡◌}
+use Rattle.std.specs.Prelude.{None, Some}
 
 pub come_home-came-requires : goal.come_home-came-requires
 come_home-came-requires g c = record { may = may_come c.self.inside c.args.self.now c.args.grip c.self.view_is c.requires.kept c.self.invariant }
@@ -22,23 +24,29 @@ come_home-came-requires g c = record { may = may_come c.self.inside c.args.self.
 pub refuted-cause-requires : goal.refuted-cause-requires
 refuted-cause-requires g c = let command = command_back c.self.inside c.args.self.now c.args.grip.slip c.args.grip.task c.args.k c.self.view_is c.requires.kept c.requires.purpose c.self.invariant in record { run = rw c.slip-slip.ensures command.run; there = rw c.slip-slip.ensures command.within }
 
-pub answer-entry-requires : goal.answer-entry-requires
-answer-entry-requires g c =
-    let command = command_back c.self.inside c.args.self.now c.args.grip.slip c.args.grip.task c.args.k c.self.view_is c.requires.kept c.requires.purpose c.self.invariant in
-    let number : next_of (read_in c.self.inside.history) c.slip-slip.result.maker ≡ c.args.k = ap (λ s. next_of (read_in c.self.inside.history) s.maker) c.slip-slip.ensures ∙ sym command.next in
-    record {
-      run = rw c.slip-slip.ensures command.run;
-      there = rw c.slip-slip.ensures command.within;
-      room = answer_place c.self.inside c.args.k _ c.args.grip (grip_back c.self.inside c.args.self.now (ForCommand c.args.k) _ c.args.grip c.self.view_is c.requires.kept c.requires.purpose c.come_home-came.ensures.called) c.requires.lives c.self.invariant;
-      few = omega (arith, number, command.few);
-    }
+pub push-requires-clause-room : goal.push-requires-clause-room
+push-requires-clause-room g c = answer_place c.self.inside c.args.k _ c.args.grip (grip_back c.self.inside c.args.self.now (ForCommand c.args.k) _ c.args.grip c.self.view_is c.requires.kept c.requires.purpose c.come_home-came.ensures.called) c.requires.lives c.self.invariant
+
+pub push-requires-clause-follows : goal.push-requires-clause-follows
+push-requires-clause-follows g c =
+    takes_first c.self.inside.history c.slip-slip.result.maker _ _
+    (takes_answer c.self.inside c.args.k _ c.args.grip c.slip-slip.result c.answer-answer.result c.refuted-cause.result _ _ (grip_back c.self.inside
+    c.args.self.now (ForCommand c.args.k) _ c.args.grip c.self.view_is c.requires.kept c.requires.purpose c.come_home-came.ensures.called)
+    (record {
+      same = c.slip-slip.ensures;
+      lives = c.requires.lives;
+      told = c.answer-answer.ensures ∙ ap answer_told c.come_home-came.ensures.told;
+      refuted = c.refuted-cause.ensures;
+      answered = refl;
+      doomed = refl;
+    }) c.self.invariant)
 
 pub note_answer-requires : goal.note_answer-requires
 note_answer-requires g c =
     let command = command_back c.self.inside c.args.self.now c.args.grip.slip c.args.grip.task c.args.k c.self.view_is c.requires.kept c.requires.purpose c.self.invariant in
-    let last = just_answered c.self.inside.history c.answer-entry.new.self c.args.grip.slip.maker c.slip-slip.result.maker c.args.k c.slip-slip.result.device.0
-    c.answer-entry.result c.answer-answer.result command.run command.next command.within (command.on ∙ ap (λ s. s.device.0) (sym c.slip-slip.ensures))
-    (ap (λ s. s.maker) c.slip-slip.ensures) c.answer-entry.ensures.entry c.answer-entry.ensures.new in
+    let last = just_answered c.self.inside.history c.push.new.self c.args.grip.slip.maker c.slip-slip.result.maker c.args.k c.slip-slip.result.device.0
+    c.answer-answer.result command.run command.next command.within (command.on ∙ ap (λ s. s.device.0) (sym c.slip-slip.ensures))
+    (ap (λ s. s.maker) c.slip-slip.ensures) c.push.ensures in
     let tells = may_tell c.self.inside c.args.k _ c.args.grip c.slip-slip.result (grip_back c.self.inside c.args.self.now (ForCommand c.args.k) _ c.args.grip c.self.view_is c.requires.kept c.requires.purpose c.come_home-came.ensures.called) c.slip-slip.ensures c.self.invariant in
     record {
       access = ap is_access c.answer-answer.ensures ∙ told_access c.come_home-came.result.told;
@@ -48,34 +56,42 @@ note_answer-requires g c =
         device = last.device;
         answered = last.answered;
         homed = tells.device;
-        turn = tells.turn (ap (λ (x : HistoryState). is_weak x.setting.mode) (sym c.answer-entry.ensures.new) ∙ strong);
+        turn = tells.turn (ap (λ (x : HistoryState). is_weak x.setting.mode) (sym c.push.ensures) ∙ strong);
       };
     }
 
-pub doom_for-doomed-requires-clause-run : goal.doom_for-doomed-requires-clause-run
-doom_for-doomed-requires-clause-run g c =
-    ap (λ s. is_run s.setting.runs c.slip-slip.result.maker) c.answer-entry.ensures.new
-    ∙ ap (λ s. is_run c.self.inside.history.setting.runs s.maker) c.slip-slip.ensures ∙ (command_back c.self.inside c.args.self.now c.args.grip.slip
-    c.args.grip.task c.args.k c.self.view_is c.requires.kept c.requires.purpose c.self.invariant).run
+pub doom_for-doomed-requires-clause-follows : goal.doom_for-doomed-requires-clause-follows
+doom_for-doomed-requires-clause-follows g c =
+    doom_follows c.self.inside.history c.push.new.self c.slip-slip.result.maker c.args.k c.answer-answer.result c.refuted-cause.result c.push.ensures
+    (takes_answer c.self.inside c.args.k _ c.args.grip c.slip-slip.result c.answer-answer.result c.refuted-cause.result c.push.new.self _ (grip_back
+    c.self.inside c.args.self.now (ForCommand c.args.k) _ c.args.grip c.self.view_is c.requires.kept c.requires.purpose c.come_home-came.ensures.called)
+    (record {
+      same = c.slip-slip.ensures;
+      lives = c.requires.lives;
+      told = c.answer-answer.ensures ∙ ap answer_told c.come_home-came.ensures.told;
+      refuted = c.refuted-cause.ensures;
+      answered = c.push.ensures;
+      doomed = refl;
+    }) c.self.invariant)
 
 pub doom_for-doomed-requires-clause-room : goal.doom_for-doomed-requires-clause-room
 doom_for-doomed-requires-clause-room g c = λ some.
-    doom_place c.self.inside c.args.k _ c.args.grip c.slip-slip.result c.answer-answer.result c.refuted-cause.result c.answer-entry.new.self
-    (with_doom c.answer-entry.new.self c.slip-slip.result.maker c.refuted-cause.result) (grip_back c.self.inside c.args.self.now
+    doom_place c.self.inside c.args.k _ c.args.grip c.slip-slip.result c.answer-answer.result c.refuted-cause.result c.push.new.self
+    (with_doom c.push.new.self c.slip-slip.result.maker c.refuted-cause.result) (grip_back c.self.inside c.args.self.now
     (ForCommand c.args.k) _ c.args.grip c.self.view_is c.requires.kept c.requires.purpose c.come_home-came.ensures.called)
     (record {
       same = c.slip-slip.ensures;
       lives = c.requires.lives;
       told = c.answer-answer.ensures ∙ ap answer_told c.come_home-came.ensures.told;
       refuted = c.refuted-cause.ensures;
-      answered = c.answer-entry.ensures.new ∙ ap (with_entry c.self.inside.history c.slip-slip.result.maker) c.answer-entry.ensures.entry;
+      answered = c.push.ensures;
       doomed = refl;
     }) c.self.invariant some
 
 pub invariant_of-self : goal.invariant_of-self
 invariant_of-self g c =
     answered_whole c.self.inside _ c.come_home-came.result.held c.args.k _ c.args.grip c.slip-slip.result c.answer-answer.result c.refuted-cause.result
-    c.answer-entry.new.self _ _ _ c.note_answer.new.order (grip_back c.self.inside c.args.self.now
+    c.push.new.self _ _ _ c.note_answer.new.order (grip_back c.self.inside c.args.self.now
     (ForCommand c.args.k) _ c.args.grip c.self.view_is c.requires.kept c.requires.purpose c.come_home-came.ensures.called)
     (record { later = omega (arith, c.max-self-inside.ensures); home = c.come_home-came.ensures.home; new = refl })
     (record {
@@ -83,7 +99,7 @@ invariant_of-self g c =
       lives = c.requires.lives;
       told = c.answer-answer.ensures ∙ ap answer_told c.come_home-came.ensures.told;
       refuted = c.refuted-cause.ensures;
-      answered = c.answer-entry.ensures.new ∙ ap (with_entry c.self.inside.history c.slip-slip.result.maker) c.answer-entry.ensures.entry;
+      answered = c.push.ensures;
       doomed = c.doom_for-doomed.ensures.history;
     }) (record {
       value_is = c.come_home-came.ensures.held;
@@ -91,8 +107,8 @@ invariant_of-self g c =
       wrote_is = refl;
       last_is = refl;
       line = c.note_answer.ensures.line;
-      table = λ strong. c.note_answer.ensures.ordered (ap (λ (x : HistoryState). is_weak x.setting.mode) c.answer-entry.ensures.new ∙ strong);
-      same_table = λ weak. c.note_answer.ensures.weakly (ap (λ (x : HistoryState). is_weak x.setting.mode) c.answer-entry.ensures.new ∙ weak);
+      table = λ strong. c.note_answer.ensures.ordered (ap (λ (x : HistoryState). is_weak x.setting.mode) c.push.ensures ∙ strong);
+      same_table = λ weak. c.note_answer.ensures.weakly (ap (λ (x : HistoryState). is_weak x.setting.mode) c.push.ensures ∙ weak);
       line_after = c.doom_for-doomed.ensures.line;
       unchanged = c.doom_for-doomed.ensures.table;
       changed = c.doom_for-doomed.ensures.doomed;
@@ -102,19 +118,19 @@ pub returns : goal.returns
 returns g c =
     let t : Inside g.row.D.Denot = record c.self.inside { history = c.doom_for-doomed.new.history; moment = c.max-self-inside.result; away = c.come_home-came.new.self; order = c.doom_for-doomed.new.order } in
     let back : CameHome g.D.Device.stands g.D.Device.turns g.D.Device.probes g.D.Device.faults c.self.inside t (ForCommand c.args.k) _ c.args.grip (answer_entries c.slip-slip.result.maker c.args.k c.answer-answer.result c.refuted-cause.result) =
-    answered_back c.self.inside t c.args.k _ c.args.grip c.slip-slip.result c.answer-answer.result c.refuted-cause.result c.answer-entry.new.self (grip_back
-    c.self.inside c.args.self.now (ForCommand c.args.k) _ c.args.grip c.self.view_is c.requires.kept c.requires.purpose c.come_home-came.ensures.called)
+    answered_back c.self.inside t c.args.k _ c.args.grip c.slip-slip.result c.answer-answer.result c.refuted-cause.result c.push.new.self (grip_back c.self.inside c.args.self.now (ForCommand c.args.k) _ c.args.grip c.self.view_is c.requires.kept c.requires.purpose c.come_home-came.ensures.called)
     (record { later = omega (arith, c.max-self-inside.ensures); home = c.come_home-came.ensures.home; new = refl })
     (record {
       same = c.slip-slip.ensures;
       lives = c.requires.lives;
       told = c.answer-answer.ensures ∙ ap answer_told c.come_home-came.ensures.told;
       refuted = c.refuted-cause.ensures;
-      answered = c.answer-entry.ensures.new ∙ ap (with_entry c.self.inside.history c.slip-slip.result.maker) c.answer-entry.ensures.entry;
+      answered = c.push.ensures;
       doomed = c.doom_for-doomed.ensures.history;
     }) in
     let made = back_given c.self.inside t c.args.self.now c.args.moment (ForCommand c.args.k) _ c.args.grip _
-    (record { a = Some c.answer-entry.result; b = c.doom_for-doomed.result; c = None }) c.self.view_is c.requires.maker c.max-self-inside.ensures back
-    (answer_made c.slip-slip.result c.args.k c.answer-answer.result c.refuted-cause.result _ _ c.answer-entry.ensures.entry c.doom_for-doomed.ensures.entry)
+    (record { a = Some (Did (run_no c.slip-slip.result.maker) c.args.k c.answer-answer.result); b = c.doom_for-doomed.result; c = None }) c.self.view_is
+    c.requires.maker c.max-self-inside.ensures back
+    (answer_made c.slip-slip.result c.args.k c.answer-answer.result c.refuted-cause.result _ _ refl c.doom_for-doomed.ensures.entry)
     (two_packed _ _) c.self.invariant in
     record { given = made.given; window = made.window }

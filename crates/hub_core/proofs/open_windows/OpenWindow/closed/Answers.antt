@@ -1,5 +1,3 @@
-use Rattle.home_types.specs.Listed.{Listed}
-use Rattle.history_book.specs.declared.entries.Kept.{Kept}
 use Rattle.history_book.specs.declared.records.WindowRecord.{WindowRecord}
 use Rattle.hub_core.proofs.calls.HubCloses.{Closes, Tells, all_are_home, faults_fell, home_left, hub_leaves, items_fit, turns_fell, window_closed}
 use Rattle.hub_core.proofs.open_windows.OpenWindow.closed.Goals as goal
@@ -7,9 +5,8 @@ use Rattle.hub_core.proofs.windows.Closings.{IsLastState}
 use Rattle.hub_core.specs.HubCalls.{WindowIsClosed}
 use Rattle.hub_core.specs.HubsKept.{open_of}
 use Rattle.hub_core.specs.OpenHubs.{OpenHub, configuration_of}
-use Rattle.hub_core.specs.ReadHistories.{HistoryState}
 use Rattle.hub_core.specs.Steps.{not_quiet}
-use Rattle.std.proofs.Common.{None, ap, arith, subst, sym, ◌+◌, ◌≡◌, ◌∙◌}
+use Rattle.std.proofs.Common.{None, arith, subst, sym, ◌+◌, ◌∙◌, ◌≡◌}
 
 -- every device is home
 pub close-devices-requires : goal.close-devices-requires
@@ -52,7 +49,7 @@ invariant_of-home g c =
     let closes : Closes g.D.Device.tag g.D.Device.stands g.D.Device.turns g.D.Device.probes g.D.Device.faults
     (open_of c.self.inside) c.close-devices.result.items =
     record { kept = c.self.invariant.shown; quiet = quiet; places = c.close-devices.ensures.devices; numbered = c.close-devices.ensures.numbers } in
-    home_left _ _ _ _ _ _ _ c.history.inside.kinds.items c.copied-world.result.items closes (ap (λ (h : HistoryState). h.setting.kinds) c.history.view_is)
+    home_left _ _ _ _ _ _ _ c.into_parts-kinds.result.1.items c.copied-world.result.items closes c.into_parts-kinds.ensures.kinds
     (subst (IsLastState (configuration_of (open_of c.self.inside))) (sym c.copied-world.ensures)
     (hub_leaves c.self.inside c.stands_left-last.result.items c.self.invariant quiet (λ e. c.stands_left-last.ensures.ordered (c.is_weak-weak.ensures ∙ e))
     (λ e. c.stands_left-last.ensures.weakly (c.is_weak-weak.ensures ∙ e))))
@@ -64,16 +61,29 @@ returns g c =
     let closes : Closes g.D.Device.tag g.D.Device.stands g.D.Device.turns g.D.Device.probes g.D.Device.faults
     (open_of c.self.inside) c.close-devices.result.items =
     record { kept = c.self.invariant.shown; quiet = quiet; places = c.close-devices.ensures.devices; numbered = c.close-devices.ensures.numbers } in
-    let closed : WindowRecord = record { mode = c.history.inside.mode; first = c.history.inside.first; history = c.into_list.result; order = c.order_of.result; last = record { devices = c.stands_left-last.result }; turns = c.rises_in-turns.result.turns; faults = c.rises_in-turns.result.faults } in
+    let closed : WindowRecord = record {
+      mode = c.into_parts-kinds.result.0;
+      first = c.into_parts-kinds.result.2;
+      history = c.into_parts-kinds.result.3;
+      order = c.order_of.result;
+      last = record { devices = c.stands_left-last.result };
+      turns = c.rises_in-turns.result.turns;
+      faults = c.rises_in-turns.result.faults;
+    } in
     let tells : Tells g.D.Device.turns g.D.Device.faults (open_of c.self.inside) c.close-devices.result.items closed = record {
-      mode = ap (λ (h : HistoryState). h.setting.mode) c.history.view_is;
-      first = ap (λ (h : HistoryState). h.setting.first) c.history.view_is;
-      history = ap (λ (l : Listed Kept). l.items) c.into_list.ensures ∙ ap (λ (h : HistoryState). h.history) c.history.view_is;
+      mode = c.into_parts-kinds.ensures.mode;
+      first = c.into_parts-kinds.ensures.first;
+      history = c.into_parts-kinds.ensures.history;
       order = λ e. c.order_of.ensures.ordered (c.is_weak-weak.ensures ∙ e) ∙ c.self.invariant.order.line_is.items;
       unclaimed = λ e. c.order_of.ensures.weakly (c.is_weak-weak.ensures ∙ e);
       last = hub_leaves c.self.inside c.stands_left-last.result.items c.self.invariant quiet (λ e. c.stands_left-last.ensures.ordered (c.is_weak-weak.ensures ∙ e)) (λ e. c.stands_left-last.ensures.weakly (c.is_weak-weak.ensures ∙ e));
       turns_rose = c.rises_in-turns.ensures.turns;
       faults_rose = c.rises_in-turns.ensures.faults;
     } in
-    subst (λ (t : OpenHub g.row.D.Denot). WindowIsClosed g.D.Device.turns g.D.Device.probes g.D.Device.faults t (record { kinds = c.history.inside.kinds.items; world = c.copied-world.result.items; devices = c.close-devices.result.items; opened = c.self.inside.opened + 1 }) closed) c.self.view_is
-    (window_closed _ _ _ _ _ _ _ c.history.inside.kinds.items c.copied-world.result.items closed closes tells (ap (λ (h : HistoryState). h.setting.kinds) c.history.view_is) c.copied-world.ensures)
+    subst (λ (t : OpenHub g.row.D.Denot). WindowIsClosed g.D.Device.turns g.D.Device.probes g.D.Device.faults t (record {
+      kinds = c.into_parts-kinds.result.1.items;
+      world = c.copied-world.result.items;
+      devices = c.close-devices.result.items;
+      opened = c.self.inside.opened + 1;
+    }) closed) c.self.view_is
+    (window_closed _ _ _ _ _ _ _ c.into_parts-kinds.result.1.items c.copied-world.result.items closed closes tells c.into_parts-kinds.ensures.kinds c.copied-world.ensures)

@@ -2,7 +2,8 @@ use Rattle.command_rules.specs.Rosters.{is_run}
 use Rattle.std.specs.Prelude.{false, is_some, max, ◌≡◌}
 use Rattle.lock_leasing.specs.Configurations.{read_of}
 use Rattle.hub_core.specs.Decisions.{strong_command, told_choice}
-use Rattle.hub_core.specs.OpenHubs.{OpenHub, configuration_of, progress_of}
+use Rattle.history_book.specs.Progress.{progress_of}
+use Rattle.hub_core.specs.OpenHubs.{OpenHub, configuration_of}
 use Rattle.hub_core.proofs.calls.HubChanges.{strong_seen}
 use Rattle.hub_core.proofs.calls.HubChoices.{hub_answers, hub_at_command, hub_commands, hub_dooms, hub_is_live, hub_skips, hub_under_way, hub_weakly, placed_before}
 use Rattle.hub_core.proofs.open_windows.OpenWindow.decide.Goals as goal
@@ -36,9 +37,9 @@ returns-in-None-clause-choice g c =
 
 pub decide_command-requires : goal.decide_command-requires
 decide_command-requires g c =
-    let at = hub_at_command g.D.Device.stands g.D.Device.turns g.D.Device.probes g.D.Device.faults _ _ c.args.r.0 c.progress-progress.result
-    c.in-Some-next_command.command c.self.view_is c.self.invariant.shown c.progress-progress.ensures c.in_default.is c.if-is_none.ensures c.in_default-doomed.is
-    c.in-Some-next_command.ensures (sym c.if-holds.ensures) in
+    let at = hub_at_command g.D.Device.stands g.D.Device.turns g.D.Device.probes g.D.Device.faults _ _ c.args.r.0 c.next-k.result c.register.result
+    c.progress-progress.result c.in-Some-next_command.command c.self.view_is c.self.invariant.shown c.progress-progress.ensures c.in_default.is
+    c.if-is_none.ensures c.in_default-doomed.is c.in-Some-next_command.ensures c.next-k.ensures c.register.ensures (sym c.if-holds.ensures) in
     record { strong = (strong_seen c.self.inside c.args.self.now false c.self.view_is (sym c.if-is_weak.ensures)); turn = at.0; command = at.1 }
 
 pub decide_skip-requires : goal.decide_skip-requires
@@ -51,17 +52,18 @@ decide_skip-requires g c = record {
 
 pub returns-then-holds-clause-choice : goal.returns-then-holds-clause-choice
 returns-then-holds-clause-choice g c =
-    hub_commands _ _ c.args.r.0 c.args.moment c.progress-progress.result c.in-Some-next_command.command _ c.self.view_is
+    hub_commands _ _ c.args.r.0 c.args.moment c.next-k.result c.register.result c.progress-progress.result c.in-Some-next_command.command _ c.self.view_is
     (sym c.if-is_weak.ensures) c.if-not-has_run.ensures c.progress-progress.ensures c.in_default.is c.in_default-grip_of.ensures
-    (ap is_some c.in-Some-arrived.is) c.if-is_none.ensures c.in_default-doomed.is c.in-Some-next_command.ensures (sym c.if-holds.ensures)
-    (subst (λ m. told_choice c.args.r.0 m c.decide_command.result ≡ strong_command c.args.self.now.setting (read_of (configuration_of c.args.self.now)) (configuration_of c.args.self.now).grips c.args.r.0 m c.progress-progress.result.answered c.in-Some-next_command.command)
+    (ap is_some c.in-Some-arrived.is) c.if-is_none.ensures c.in_default-doomed.is c.in-Some-next_command.ensures c.next-k.ensures c.register.ensures
+    (sym c.if-holds.ensures)
+    (subst (λ m. told_choice c.args.r.0 m c.decide_command.result ≡ strong_command c.args.self.now.setting (read_of (configuration_of c.args.self.now)) (configuration_of c.args.self.now).grips c.args.r.0 m c.next-k.result c.in-Some-next_command.command)
     (c.max-moment.ensures ∙ ap (λ (t : OpenHub g.row.D.Denot). max t.moment c.args.moment) c.self.view_is) c.decide_command.ensures)
 
 pub returns-else-holds-clause-choice : goal.returns-else-holds-clause-choice
 returns-else-holds-clause-choice g c =
-    hub_skips _ _ c.args.r.0 c.args.moment c.progress-progress.result c.in-Some-next_command.command _ c.self.view_is c.if-not-has_run.ensures
-    c.progress-progress.ensures c.in_default.is c.in_default-grip_of.ensures (ap is_some c.in-Some-arrived.is) c.if-is_none.ensures c.in_default-doomed.is
-    c.in-Some-next_command.ensures (sym c.if-holds.ensures) (c.decide_skip.ensures _)
+    hub_skips _ _ c.args.r.0 c.args.moment c.next-k.result c.register.result c.progress-progress.result c.in-Some-next_command.command _ c.self.view_is
+    c.if-not-has_run.ensures c.progress-progress.ensures c.in_default.is c.in_default-grip_of.ensures (ap is_some c.in-Some-arrived.is) c.if-is_none.ensures
+    c.in_default-doomed.is c.in-Some-next_command.ensures c.next-k.ensures c.register.ensures (sym c.if-holds.ensures) (c.decide_skip.ensures _)
 
 pub decide_weakly-requires : goal.decide_weakly-requires
 decide_weakly-requires g c = record {

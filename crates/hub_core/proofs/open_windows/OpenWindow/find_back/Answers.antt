@@ -1,5 +1,5 @@
 use Rattle.hub_core.proofs.calls.Homecomings.{may_come}
-use Rattle.hub_core.proofs.calls.ProbesFound.{back_may, risen_given, risen_whole}
+use Rattle.hub_core.proofs.calls.ProbesFound.{back_follows, back_may, risen_given, risen_whole}
 use Rattle.hub_core.proofs.open_windows.OpenWindow.find_back.Goals as goal
 use Rattle.hub_core.specs.declared.open_windows.OpenWindow.TheInside.{Inside}
 use Rattle.std.proofs.Common.{ap, arith, refl, ◌∙◌}
@@ -12,6 +12,10 @@ pub note_rise-requires : goal.note_rise-requires
 note_rise-requires g c = record {
   may =
       back_may c.self.inside c.args.self.now _ c.args.grip c.slip.result c.come_home-came.result.events
+      (record { seen = c.self.view_is; there = c.requires.kept; maker = c.requires.maker; called = c.come_home-came.ensures.called; same = c.slip.ensures })
+      (record { down = c.requires.down; lives = c.requires.lives; events_are = c.come_home-came.ensures.events }) c.self.invariant;
+  follows =
+      back_follows c.self.inside c.args.self.now _ c.args.grip c.slip.result c.come_home-came.result.events
       (record { seen = c.self.view_is; there = c.requires.kept; maker = c.requires.maker; called = c.come_home-came.ensures.called; same = c.slip.ensures })
       (record { down = c.requires.down; lives = c.requires.lives; events_are = c.come_home-came.ensures.events }) c.self.invariant;
 }

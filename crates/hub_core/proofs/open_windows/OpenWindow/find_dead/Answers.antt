@@ -1,6 +1,6 @@
 use Rattle.hub_core.proofs.calls.Homecomings.{may_come}
 use Rattle.hub_core.proofs.calls.PackedEntries.{two_packed}
-use Rattle.hub_core.proofs.calls.ProbesFound.{dead_may, fallen_given, fallen_made, fallen_whole, lost_fits}
+use Rattle.hub_core.proofs.calls.ProbesFound.{dead_follows, dead_may, fallen_given, fallen_made, fallen_whole, lost_fits}
 use Rattle.hub_core.proofs.open_windows.OpenWindow.find_dead.Goals as goal
 use Rattle.hub_core.specs.declared.open_windows.OpenWindow.TheInside.{Inside}
 use Rattle.std.proofs.Common.{arith, refl}
@@ -13,6 +13,10 @@ pub note_fall-fell-requires : goal.note_fall-fell-requires
 note_fall-fell-requires g c = record {
   may =
       dead_may c.self.inside c.args.self.now _ c.args.grip c.slip.result c.come_home-came.result.events
+      (record { seen = c.self.view_is; there = c.requires.kept; maker = c.requires.maker; called = c.come_home-came.ensures.called; same = c.slip.ensures })
+      (record { up = c.requires.up; died = c.requires.died; events_are = c.come_home-came.ensures.events }) c.self.invariant;
+  follows =
+      dead_follows c.self.inside c.args.self.now _ c.args.grip c.slip.result c.come_home-came.result.events
       (record { seen = c.self.view_is; there = c.requires.kept; maker = c.requires.maker; called = c.come_home-came.ensures.called; same = c.slip.ensures })
       (record { up = c.requires.up; died = c.requires.died; events_are = c.come_home-came.ensures.events }) c.self.invariant;
 }
@@ -32,6 +36,14 @@ doom_lost-doomed-requires-clause-room g c =
     (record { seen = c.self.view_is; there = c.requires.kept; maker = c.requires.maker; called = c.come_home-came.ensures.called; same = c.slip.ensures })
     (record { up = c.requires.up; died = c.requires.died; events_are = c.come_home-came.ensures.events }) c.note_fall-fell.ensures.lost
     c.note_fall-fell.ensures.history c.come_home-came.ensures.home c.self.invariant).room
+
+pub doom_lost-doomed-requires-clause-follows : goal.doom_lost-doomed-requires-clause-follows
+doom_lost-doomed-requires-clause-follows g c =
+    (lost_fits c.self.inside c.come_home-came.new.self c.args.self.now _ c.args.grip c.slip.result c.come_home-came.result.events c.note_fall-fell.result.lost
+    c.note_fall-fell.new.history
+    (record { seen = c.self.view_is; there = c.requires.kept; maker = c.requires.maker; called = c.come_home-came.ensures.called; same = c.slip.ensures })
+    (record { up = c.requires.up; died = c.requires.died; events_are = c.come_home-came.ensures.events }) c.note_fall-fell.ensures.lost
+    c.note_fall-fell.ensures.history c.come_home-came.ensures.home c.self.invariant).follows
 
 pub invariant_of-self : goal.invariant_of-self
 invariant_of-self g c =

@@ -1,6 +1,6 @@
 use Rattle.hub_core.proofs.calls.HubChanges.{chosen_here}
 use Rattle.hub_core.proofs.calls.HubOrders.{handed_whole, may_mark}
-use Rattle.hub_core.proofs.calls.HubOuts.{IsHanded, command_given, may_send, went_out_at}
+use Rattle.hub_core.proofs.calls.HubOuts.{IsHanded, command_given, may_send, went_out}
 use Rattle.hub_core.proofs.open_windows.OpenWindow.hand_out.Goals as goal
 use Rattle.hub_core.specs.HubSteps.{task_of}
 use Rattle.hub_core.specs.OpenHubs.{configuration_of}
@@ -51,5 +51,5 @@ returns g c =
       moment_is = c.max-self-inside.ensures;
       new = refl;
     } in
-    let made = went_out_at c.self.inside t c.args.self.now c.args.r.0 c.args.moment c.args.d.0 c.args.purpose _ _ _ c.self.view_is handed c.self.invariant in
+    let made = went_out c.self.inside t c.args.self.now c.args.r.0 c.args.moment c.args.d.0 c.args.purpose _ _ _ c.self.view_is handed c.self.invariant in
     record { out = made.out; window = made.window }

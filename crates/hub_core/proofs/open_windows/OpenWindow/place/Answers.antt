@@ -1,11 +1,11 @@
 use Rattle.command_rules.specs.Rosters.{is_run, runs_of}
 use Rattle.history_book.specs.declared.entries.Entry.TheVariants.{Placed}
-use Rattle.hub_core.proofs.calls.HubChanges.{Going, chosen_here, has_place, strong_here}
+use Rattle.hub_core.proofs.calls.HubChanges.{Going, chosen_here, follows_here, has_place, strong_here}
 use Rattle.hub_core.proofs.calls.HubOrders.{hub_arranged, hub_arranges, hub_joins, hub_known, joins_behind, joins_planned, joins_whole, joins_within, line_place, marks_then}
 use Rattle.hub_core.proofs.kept.Arranged.{long_arranged}
 use Rattle.hub_core.proofs.open_windows.OpenWindow.place.Goals as goal
 use Rattle.window_order.specs.KeptOrders.{MayArrange, scheduled_with}
-use Rattle.hub_core.specs.ReadHistories.{with_entry}
+use Rattle.history_book.specs.ReadHistories.{with_entry}
 use Rattle.hub_core.specs.declared.decisions.Chosen.TheVariants.{Joins}
 use Rattle.serial_line.specs.Marks.{Mark, items_of, stands, with_item}
 use Rattle.home_types.specs.declared.items.Item.TheVariants.{Ran}
@@ -73,8 +73,11 @@ join-requires-clause-new g c =
     (chosen_here c.self.inside c.args.self.now c.args.r.0 c.args.moment (Joins c.args.at) c.self.view_is c.requires.chosen)
     (strong_here c.self.inside c.args.self.now false c.self.view_is c.requires.strong) c.self.invariant).new)
 
-pub place-requires-clause-room : goal.place-requires-clause-room
-place-requires-clause-room g c = has_place c.self.inside c.args.r.0 c.args.moment _ Going (chosen_here c.self.inside c.args.self.now c.args.r.0 c.args.moment (Joins c.args.at) c.self.view_is c.requires.chosen) c.self.invariant
+pub push-requires-clause-room : goal.push-requires-clause-room
+push-requires-clause-room g c = has_place c.self.inside c.args.r.0 c.args.moment _ Going (chosen_here c.self.inside c.args.self.now c.args.r.0 c.args.moment (Joins c.args.at) c.self.view_is c.requires.chosen) c.self.invariant
+
+pub push-requires-clause-follows : goal.push-requires-clause-follows
+push-requires-clause-follows g c = rw c.max-self-inside.ensures (follows_here c.self.inside c.args.r.0 c.args.moment _ Going (chosen_here c.self.inside c.args.self.now c.args.r.0 c.args.moment (Joins c.args.at) c.self.view_is c.requires.chosen) c.self.invariant)
 
 pub planned_uses-uses-requires-clause-homed : goal.planned_uses-uses-requires-clause-homed
 planned_uses-uses-requires-clause-homed g c =
@@ -88,7 +91,7 @@ planned_uses-uses-requires-clause-homed g c =
 pub invariant_of-self : goal.invariant_of-self
 invariant_of-self g c =
     let chosen = (chosen_here c.self.inside c.args.self.now c.args.r.0 c.args.moment (Joins c.args.at) c.self.view_is c.requires.chosen) in
-    let new = c.place.ensures.new ∙ ap (with_entry c.self.inside.history c.args.r.0) c.place.ensures.entry ∙ ap (λ m. with_entry c.self.inside.history c.args.r.0 (Placed c.args.r c.args.at m)) c.max-self-inside.ensures in
+    let new = c.push.ensures ∙ ap (λ m. with_entry c.self.inside.history c.args.r.0 (Placed c.args.r c.args.at m)) c.max-self-inside.ensures in
     let marks = hub_arranged c.self.inside c.args.self.now c.args.r.0 c.args.at c.args.moment c.args.scratch.now _ _ _ c.self.view_is c.requires.planned c.scheduler.ensures c.flags.ensures c.arrange.ensures.marks in
     let changes = subst₂ (λ (ms : List Mark) (ls : List LineageState). ChangesEach (scheduled_with (runs_of c.roster.result.now) c.args.r.0 c.planned_uses-uses.result (drop c.args.at (items_of ms))) ls c.join.new.self.table) marks c.arrange.ensures.table c.join.ensures.table in
     let table = joins_planned c.self.inside c.args.self.now c.args.r.0 c.args.at c.args.moment c.max-self-inside.result c.args.scratch.now

@@ -1,8 +1,8 @@
 use Rattle.history_book.specs.declared.entries.Entry.TheVariants.{Placed}
-use Rattle.hub_core.proofs.calls.HubChanges.{Going, chosen_here, has_place, strong_here}
+use Rattle.hub_core.proofs.calls.HubChanges.{Going, chosen_here, follows_here, has_place, strong_here}
 use Rattle.hub_core.proofs.calls.HubOrders.{enters_whole, hub_absent, hub_known, joins_behind, joins_within, line_place}
 use Rattle.hub_core.proofs.open_windows.OpenWindow.place_weakly.Goals as goal
-use Rattle.hub_core.specs.ReadHistories.{with_entry}
+use Rattle.history_book.specs.ReadHistories.{with_entry}
 use Rattle.hub_core.specs.declared.decisions.Chosen.TheVariants.{Joins}
 use Rattle.std.proofs.Common.{ap, refl, ◌∙◌}
 use Rattle.std.specs.Prelude.{true}
@@ -22,12 +22,15 @@ insert-requires-clause-absent g c = hub_absent c.self.inside c.args.r.0 c.args.a
 pub insert-requires-clause-known : goal.insert-requires-clause-known
 insert-requires-clause-known g c = hub_known c.self.inside c.args.r.0 c.args.at c.args.moment (chosen_here c.self.inside c.args.self.now c.args.r.0 c.args.moment (Joins c.args.at) c.self.view_is c.requires.chosen) c.self.invariant
 
-pub place-requires-clause-room : goal.place-requires-clause-room
-place-requires-clause-room g c = has_place c.self.inside c.args.r.0 c.args.moment _ Going (chosen_here c.self.inside c.args.self.now c.args.r.0 c.args.moment (Joins c.args.at) c.self.view_is c.requires.chosen) c.self.invariant
+pub push-requires-clause-room : goal.push-requires-clause-room
+push-requires-clause-room g c = has_place c.self.inside c.args.r.0 c.args.moment _ Going (chosen_here c.self.inside c.args.self.now c.args.r.0 c.args.moment (Joins c.args.at) c.self.view_is c.requires.chosen) c.self.invariant
+
+pub push-requires-clause-follows : goal.push-requires-clause-follows
+push-requires-clause-follows g c = rw c.max-self-inside.ensures (follows_here c.self.inside c.args.r.0 c.args.moment _ Going (chosen_here c.self.inside c.args.self.now c.args.r.0 c.args.moment (Joins c.args.at) c.self.view_is c.requires.chosen) c.self.invariant)
 
 pub invariant_of-self : goal.invariant_of-self
 invariant_of-self g c =
-    let new = c.place.ensures.new ∙ ap (with_entry c.self.inside.history c.args.r.0) c.place.ensures.entry ∙ ap (λ m. with_entry c.self.inside.history c.args.r.0 (Placed c.args.r c.args.at m)) c.max-self-inside.ensures in
+    let new = c.push.ensures ∙ ap (λ m. with_entry c.self.inside.history c.args.r.0 (Placed c.args.r c.args.at m)) c.max-self-inside.ensures in
     enters_whole c.self.inside _ c.args.r.0 c.args.at c.args.moment (record {
       chosen = chosen_here c.self.inside c.args.self.now c.args.r.0 c.args.moment (Joins c.args.at) c.self.view_is c.requires.chosen;
       new = λ i. record c.self.inside { history = new i; moment = c.max-self-inside.ensures i; order = record { line = c.insert.new.self; table = c.self.inside.order.table } };

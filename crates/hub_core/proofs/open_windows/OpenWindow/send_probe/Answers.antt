@@ -14,8 +14,9 @@ invariant_of-self g c = sent_whole c.self.inside _ c.args.d.0 c.restored-value.r
   value_is = c.restored-value.ensures ∙ ap (λ s. restored (configuration_of s) c.args.d.0) (sym c.self.view_is);
   known_is = c.known-known.ensures;
   sent = c.send.ensures.sent;
+  moment_is = refl;
   new = refl;
-}) c.self.invariant
+}) refl c.self.invariant
 
 pub returns : goal.returns
 returns g c =
@@ -25,6 +26,7 @@ returns g c =
       value_is = c.restored-value.ensures ∙ ap (λ s. restored (configuration_of s) c.args.d.0) (sym c.self.view_is);
       known_is = c.known-known.ensures;
       sent = c.send.ensures.sent;
+      moment_is = refl;
       new = refl;
     }) c.self.invariant in
     record { probed = made.probed; window = made.window }

@@ -1,7 +1,0 @@
-use Rattle.history_book.proofs.FirstTold.{first_told-places}
-use Rattle.history_book.proofs.books.first_doom.Goals as goal
-use Rattle.history_book.specs.Books.{doom_in}
-use Rattle.std.proofs.Common.{rules}
-
-pub returns : goal.returns
-returns c = first_told-places (doom_in c.args.r.0) c.args.history.now c.find_map.result (search rules) (search rules)

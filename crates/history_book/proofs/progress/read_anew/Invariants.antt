@@ -1,0 +1,7 @@
+use Rattle.history_book.proofs.progress.read_anew.Given as goal
+use Rattle.history_book.specs.Progress.{progress_in}
+use Rattle.std.specs.Prelude.{take, ◌≡◌}
+
+-- the entries before this one are read
+abbrev pub invariant-entries : goal.invariant-entries
+invariant-entries l = l.progress ≡ progress_in (take l.at l.history) l.r.0
