@@ -1,0 +1,35 @@
+import os, re, sys
+sys.path.insert(0, os.path.dirname(os.path.realpath(__file__)))
+from antt_moves import read, put
+tree = os.path.realpath(sys.argv[1])
+def edit(path, *pairs):
+    p = f"{tree}/{path}"; t = read(p)
+    for a, b in pairs:
+        if b in t: continue
+        if a not in t: print("MISSING in", path, ":", a[:90]); continue
+        t = t.replace(a, b, 1)
+    put(p, t)
+edit("docs/ARCHITECTURE.md",
+ ("proofs above cite its lemmas too. Where a definition, its code and its proof stand:", "proofs above cite its lemmas too. To find a rule, look it up in [docs/RULES.md](RULES.md): each of its sections names its definitions, and its last table, [Calls and lemmas](RULES.md#calls-and-lemmas), the calls that keep it and the lemmas that show so. Each crate's README says what its calls promise, and what stands in each file of its proofs. Where a definition, its code and its proof stand:"),
+ ("lemmas by concept, and one folder for each function that needed an answer", "lemmas by concept, and proofs/MODULE/[TYPE/]FUNCTION/Answers.antt for each function that needed answers"),
+ ("\n## The layers\n", "\nAn answer bears the name of what the prover asks: `returns-clause-marks` is the clause `marks` where the function returns, `push-requires` what the call of `push` asks for, `returns-in-None-clause-same` a clause in one arm of a match. A function without a folder is proved by the prover alone, with the tactics that its `#[tactic(..)]` or that of its root file names.\n\n## The layers\n"))
+edit("docs/RULES.md",
+ ("The calls that keep each rule, and the files of lemmas that carry most of it, under the proofs of the crate that is named first.", "The calls that keep each rule, and the files of lemmas that carry most of it, under the proofs of the crate that is named first; in brackets the lemmas that conclude it. The calls of `Hub` stand in hub_core, src/hubs and src/step_calls."),
+ ("what place and run are by table and line, `event_place`, `lost_run` (failure_serialization, Events).", "what place and run are by table and line, `event_place`, `lost_run` (failure_serialization, Events), in a contract `IsEventOf`, `IsLossOf` (failure_serialization, Ruled)."),
+ ("without a floor it is the beginning.\n\n*Definitions:* `binds`, `first_place`; `IsClear`", "without a floor it is the beginning. Where no run of the line is live, each of its items stands before the first live one, and the first place is the end of the line.\n\n*Definitions:* `binds`, `first_place`, in a contract `IsFirstPlaceOf` (FirstPlaces); `IsClear`"),
+ ("*Definitions:* `line_after` (history_book, Histories); `decide_answered`, `decide_doomed` (hub_core, Steps).", "*Definitions:* `line_after` (history_book, Histories); `decide_answered`, `decide_doomed` (hub_core, Steps), in a contract `strong_doomed` (hub_core, Decisions)."),
+ ("`effective_writer` (lineage_table, Accesses); what each call leaves (lineage_table, Lineages); what a placing leaves, `scheduled_on`, with `rescheduled` (window_order, TableChanges); `committed_lineage` (lineage_table, Lineages);", "`effective_writer` (lineage_table, Accesses); what each call leaves (lineage_table, Lineages, and of an answer `lineage_answered`, Answers); what a placing leaves, `scheduled_on`, with `rescheduled`, and an answer, a skip and a doom, `answered_lineage`, `skipped_lineage`, `doomed_lineage` (window_order, TableChanges); a commit, `committed_lineage` (lineage_table, Lineages);"),
+ ("| failures and restarts | `fell`, `rose` (failure_serialization) | failure_serialization: proofs/ToldByTable; hub_core: proofs/kept/EventsTold; window_order: proofs/TurnedOrders |", "| failures and restarts | `fell`, `rose` (failure_serialization) | failure_serialization: proofs/RuledEvents (`event_of`, `loss_of`); hub_core: proofs/kept/EventsTold (`event_told`, `lost_told`); window_order: proofs/TurnedOrders |"),
+ ("| floor and first place | `first_place` (lock_leasing) | lock_leasing: proofs/Bindings, proofs/ClearPlaces |", "| floor and first place | `first_place` (lock_leasing) | lock_leasing: proofs/Bindings (`first_is`), proofs/ClearPlaces |"),
+ ("| fixed view | `Hub::take` | hub_core: proofs/calls/SeenDevices |", "| fixed view | `Hub::take`, `Hub::give` | hub_core: proofs/calls/SeenDevices |"),
+ ("| runs that follow | `Hub::take` | hub_core: proofs/kept/Followed |", "| runs that follow | `Hub::take`, by `decide_arrived` (hub_core, src/placings); promised by `IsOrderFor`: `following` (legal_days) | hub_core: proofs/kept/Followed (`followed_placed`, `committed_behind`) |"),
+ ("| lineages | the calls of `Table` (lineage_table) | lineage_table: proofs/Keeping; lineage_laws: proofs/Statuses, proofs/LineOrders |", "| lineages | the calls of `Table` (lineage_table), and those of `KeptOrder` (window_order) | lineage_table: proofs/Keeping; window_order: proofs/NotedAnswers, proofs/PassedRuns, proofs/Scheduling; lineage_laws: proofs/Statuses, proofs/LineOrders |"),
+ ("| commit and abort | `commit` (commit_compaction), `next_undo`, `withdraw` (abort_rollback) | commit_compaction: proofs/Keeping; abort_rollback: proofs/NextUndos; window_order: proofs/Rollbacks |", "| commit and abort | `decide_answered`, `decide_doomed` (hub_core, src/decisions); `settle`, `withdraw` of `KeptOrder` (window_order), over `commit` (commit_compaction) and `next_undo`, `withdraw` (abort_rollback) | hub_core: proofs/calls/HubChoices (`answered_commits`, `answered_fails`), proofs/calls/NextUndos (`next_undo_is`), proofs/windows/StrongChoices (`doomed_is`); commit_compaction: proofs/Keeping; window_order: proofs/Rollbacks |"),
+ ("| strict isolation; legal window | `Hub::close_window` | hub_core: proofs/windows/Closings, proofs/weak/WeakClosings |", "| strict isolation | `may_go`, `down_at_end` (visibility_models) | hub_core: proofs/kept/HistoryKept (`alone_now`, `ends_up`) |\n| legal window | `Hub::close_window` | hub_core: proofs/windows/Closings, proofs/weak/WeakClosings |"))
+edit("docs/PROMISES.md",
+ ("a window that threads work has its record only when its last state is kept; what fails hands back what is left", "a window that threads work is told as done only when its last state is kept; what fails hands back what is left, the record of a window whose state was not kept among it"),
+ ("| `hub_threads`: `run_kept_window`: `worked`, `last`, `kept`, `any_moment`, `fails` |", "| `hub_threads`: `run_kept_window`: `worked`, `last`, `kept`, `any_moment`, `fails`; `home_journal`: `Journal::settled`: `durable` |"),
+ ("| `keep_command`: `status`, `ends` (`KeepEnds`:", "| `hub_commands`: `keep_command` (src/keeps): `status`, `ends` (`KeepEnds`, `DiskIsLeft`, `JournalIsDamaged`:"))
+edit("docs/EMBEDDING.md",
+ ("a window has its record only when its state is kept; from then on every crash leaves it", "a window is told as done, with its record, only when its state is kept; from then on every crash leaves it; where the disk fails the refusal hands the record back"))
+edit("crates/hub_commands/README.md", ("(`GoesOnBehind` of `hub_core`)", "(`GoesOnBehind` of `legal_days`)"))
