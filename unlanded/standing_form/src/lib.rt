@@ -1,6 +1,0 @@
-// Two lists behind references, seen as one record.
-#![tactic(auto)]
-
-pub mod twos;
-
-pub use twos::Two;
