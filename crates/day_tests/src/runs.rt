@@ -309,15 +309,16 @@ pub struct Playing<'a, C> {
 }
 
 impl<'a, C: Clock> Device for Playing<'a, C> {
-    ghost tag = { λ s. s.number.0 };
+    ghost use Rattle.std.specs.Prelude.{None};
 
-    ghost stands = { λ s. s.value };
-
-    ghost turns = { λ s. s.answered };
-
-    ghost probes = { λ s. s.probed };
-
-    ghost faults = { λ s. s.failed };
+    ghost shows = { λ s. record {
+      tag = s.number.0;
+      plan = None;
+      stands = s.value;
+      turns = s.answered;
+      probes = s.probed;
+      faults = s.failed;
+    } };
 
     fn drive(&mut self, v: Value) -> Result<(), Dead> {
         if let Some(part) = self.part {

@@ -1,4 +1,5 @@
 -- Devices that go into their places one after another, and out of them.
+use Rattle.device_states.specs.Devices.{Shown}
 use Rattle.std.proofs.Common.{◌≡◌, ℕ, List, [], ◌∷◌, ◌++◌, Some, refl, sym, ap, ◌∙◌, zero, suc, length, ◌≤◌, ◌<◌, ◌+◌, ◌⊎◌, inl, inr, false, true, arith, reverse}
 use Rattle.std.proofs.lemmas.List.{append-nil, append_assoc, length-reverse, map-append, reverse-append}
 use Rattle.std.proofs.lemmas.Option.{slice_get_within}
@@ -69,17 +70,17 @@ none_out_taken {D = D} devices places rest place slip task every are taken out h
     stuck device is = cc
 
 -- the devices of a gate whose places are all home stand at their numbers
-pub numbers_after : {D : Type 0} (tag : D → ℕ) (devices : List D) (places : List (Place D)) (every : List (Place D))
-    → all_home devices ++ reverse places ≡ every → places ≡ [] → ((d : ℕ) (device : D) → slice_get every d ≡ Some (Home device) → tag device ≡ d)
-    → AreNumbered tag devices
-numbers_after tag devices places every are empty home = λ d device is.
+pub numbers_after : {D : Type 0} (shows : D → Shown) (devices : List D) (places : List (Place D)) (every : List (Place D))
+    → all_home devices ++ reverse places ≡ every → places ≡ [] → ((d : ℕ) (device : D) → slice_get every d ≡ Some (Home device) → (shows device).tag ≡ d)
+    → AreNumbered shows devices
+numbers_after shows devices places every are empty home = λ d device is.
     home d device (ap (λ p. slice_get p d) (sym are ∙ ap (λ p. all_home devices ++ reverse p) empty ∙ append-nil (all_home devices)) ∙ home_at devices d device is)
 
 -- a gate is right whose places are those of these devices, all of them home
-pub opens : {D : Type 0} (tag : D → ℕ) (devices left : List D) (places turned : List (Place D)) (room : ℕ)
-    → all_home left ++ reverse places ≡ all_home devices → left ≡ [] → turned ≡ reverse places → length places ≤ room → AreNumbered tag devices
-    → IsGate tag turned left room
-opens tag devices left places turned room are empty is enough numbers =
+pub opens : {D : Type 0} (shows : D → Shown) (devices left : List D) (places turned : List (Place D)) (room : ℕ)
+    → all_home left ++ reverse places ≡ all_home devices → left ≡ [] → turned ≡ reverse places → length places ≤ room → AreNumbered shows devices
+    → IsGate shows turned left room
+opens shows devices left places turned room are empty is enough numbers =
     let same : turned ≡ all_home devices = is ∙ sym (ap (λ l. all_home l ++ reverse places) empty) ∙ are in
     record {
       home = λ d device at. numbers d device (device_at devices d device (sym (ap (λ p. slice_get p d) same) ∙ at));

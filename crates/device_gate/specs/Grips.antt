@@ -3,8 +3,8 @@ use Rattle.device_gate.specs.Calls.{answered_turns, failed, is_counted_up, may_t
 use Rattle.device_gate.specs.declared.slips.Slip.{Slip}
 use Rattle.device_gate.specs.declared.slips.Task.{Task}
 use Rattle.device_gate.specs.declared.slips.Told.{Told}
-use Rattle.device_states.specs.Devices.{HasRoom}
-use Rattle.std.specs.Prelude.{IfSome, IsTrue, ℕ, ◌+◌, ◌≡◌}
+use Rattle.device_states.specs.Devices.{MayBeProbed, Shown}
+use Rattle.std.specs.Prelude.{IfSome, IsTrue, ◌+◌, ◌≡◌}
 
 -- a device that is out, with its slip, its task, and how far the grip has come
 pub record Gripped (D S : Type 0) : Type 0 where
@@ -14,20 +14,19 @@ pub record Gripped (D S : Type 0) : Type 0 where
   pub stage : S
 
 -- the device is as its slip says, and each of its counts may still rise by what the task does
-pub record IsAsLeft (task : Task) (slip : Slip) (tag stands turns probes faults : ℕ) : Type 0 where
-  pub is_device : tag ≡ slip.device.0
-  pub stood : IsTrue (is_counted_up task) → stands ≡ slip.stood
-  pub had_turns : turns ≡ slip.turns
-  pub had_probes : probes ≡ slip.probes
-  pub had_faults : faults ≡ slip.faults
-  pub room : HasRoom turns (probes + 1) faults
+pub record IsAsLeft (task : Task) (slip : Slip) (shown : Shown) : Type 0 where
+  pub is_device : shown.tag ≡ slip.device.0
+  pub stood : IsTrue (is_counted_up task) → shown.stands ≡ slip.stood
+  pub had_turns : shown.turns ≡ slip.turns
+  pub had_probes : shown.probes ≡ slip.probes
+  pub had_faults : shown.faults ≡ slip.faults
+  pub room : MayBeProbed shown
 
 -- the task was done with the device of the slip, once, and this is what the device told
-pub record WasCalled (told : Told) (task : Task) (slip : Slip)
-    (tag stands turns probes faults : ℕ) : Type 0 where
-  pub is_device : tag ≡ slip.device.0
+pub record WasCalled (told : Told) (task : Task) (slip : Slip) (shown : Shown) : Type 0 where
+  pub is_device : shown.tag ≡ slip.device.0
   pub fits : IsTrue (may_tell task slip.stood told)
-  pub stands_there : IfSome (stands_after task slip.stood told) (λ v. stands ≡ v)
-  pub turns_rose : turns ≡ slip.turns + answered_turns task told
-  pub probes_rose : probes ≡ slip.probes + probed task
-  pub faults_rose : faults ≡ slip.faults + failed told
+  pub stands_there : IfSome (stands_after task slip.stood told) (λ v. shown.stands ≡ v)
+  pub turns_rose : shown.turns ≡ slip.turns + answered_turns task told
+  pub probes_rose : shown.probes ≡ slip.probes + probed task
+  pub faults_rose : shown.faults ≡ slip.faults + failed told

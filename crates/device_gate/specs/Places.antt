@@ -3,6 +3,7 @@ use Rattle.device_gate.specs.declared.gates.Place.{Place}
 use Rattle.device_gate.specs.declared.gates.Place.TheVariants.{Home, Out}
 use Rattle.device_gate.specs.declared.slips.Slip.{Slip}
 use Rattle.device_gate.specs.declared.slips.Task.{Task}
+use Rattle.device_states.specs.Devices.{Shown}
 use Rattle.std.specs.Prelude.{List, None, Option, Some, [], length, map, option_map, slice_get, ℕ, ◌<◌, ◌≡◌, ◌≤◌}
 
 -- what a gate shows: the places, and how many devices were handed out, each with the next ticket
@@ -45,15 +46,15 @@ abbrev pub IsKept : {D : Type 0} → List (Place D) → Slip → Task → Type 0
 IsKept places slip task = slice_get places slip.device.0 ≡ Some (Out slip task)
 
 -- each device stands at its number
-abbrev pub AreNumbered : {D : Type 0} → (D → ℕ) → List D → Type 0
-AreNumbered {D} tag devices =
-    (d : ℕ) (device : D) → slice_get devices d ≡ Some device → tag device ≡ d
+abbrev pub AreNumbered : {D : Type 0} → (D → Shown) → List D → Type 0
+AreNumbered {D} shows devices =
+    (d : ℕ) (device : D) → slice_get devices d ≡ Some device → (shows device).tag ≡ d
 
 -- what the type of a gate keeps: each device is in the place of its number, and there is an empty
 -- list with room for all
-pub record IsGate {D : Type 0} (tag : D → ℕ) (places : List (Place D)) (emptied : List D)
+pub record IsGate {D : Type 0} (shows : D → Shown) (places : List (Place D)) (emptied : List D)
     (room : ℕ) : Type 0 where
-  pub home : (d : ℕ) (device : D) → slice_get places d ≡ Some (Home device) → tag device ≡ d
+  pub home : (d : ℕ) (device : D) → slice_get places d ≡ Some (Home device) → (shows device).tag ≡ d
   pub out : (d : ℕ) (slip : Slip) (task : Task) → slice_get places d ≡ Some (Out slip task)
       → slip.device.0 ≡ d
   pub none : emptied ≡ []

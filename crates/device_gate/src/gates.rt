@@ -3,7 +3,7 @@ ghost use Rattle.std.specs.Prelude.{◌≡◌, ◌+◌, ◌<◌, ◌≤◌, ◌^
 ghost use Rattle.device_gate.specs.Calls.{is_counted_up};
 ghost use Rattle.device_gate.specs.Grips.{WasCalled};
 ghost use Rattle.device_gate.specs.Places.{AllHome, AreNumbered, IsFirstOut, IsHome, IsKept, all_home, kept_of, slip_of};
-ghost use Rattle.device_states.specs.Devices.{HasRoom};
+ghost use Rattle.device_states.specs.Devices.{MayBeProbed};
 
 use crate::grips::{Done, Grip, Ready, Stage};
 use crate::slips::{Slip, Task, Told};
@@ -41,7 +41,7 @@ impl<D: Device> Model for Gate<D> {
 
     ghost view = { λ g. record { places = g.places.items; tickets = g.tickets } };
 
-    ghost invariant = { λ g. IsGate D.tag g.places.items g.emptied.items g.emptied.spare };
+    ghost invariant = { λ g. IsGate D.shows g.places.items g.emptied.items g.emptied.spare };
 }
 
 impl<D: Device> Gate<D> {
@@ -49,7 +49,7 @@ impl<D: Device> Gate<D> {
     ///
     /// Answers `NoMemory` where there is none to be had, and gives the devices back.
     pub fn open(alloc: Global, devices: List<D>) -> Result<Gate<D>, (List<D>, NoMemory)>
-        requires numbers { AreNumbered D.tag devices.items }
+        requires numbers { AreNumbered D.shows devices.items }
         ensures home { IfOk result (λ gate. gate.places ≡ all_home devices.items) }
         ensures tickets { IfOk result (λ gate. gate.tickets ≡ 0) }
         ensures refused { IfErr result (λ refused. refused.0 ≡ devices) }
@@ -74,7 +74,7 @@ impl<D: Device> Gate<D> {
     pub fn close(self) -> List<D>
         requires home { AllHome self.places }
         ensures devices { all_home result.items ≡ self.places }
-        ensures numbers { AreNumbered D.tag result.items }
+        ensures numbers { AreNumbered D.shows result.items }
     {
         let Gate {
             mut places,
@@ -94,7 +94,7 @@ impl<D: Device> Gate<D> {
     /// Does nothing. Its contract is that each device which is home is in the place of its number.
     pub fn numbered(&self)
         ensures { (d : ℕ) (device : D) → slice_get self.now.places d ≡ Some (Place.Home device)
-            → D.tag device ≡ d }
+            → (D.shows device).tag ≡ d }
     {
         let _ = &self.tickets;
     }
@@ -171,9 +171,9 @@ impl<D: Device> Gate<D> {
     pub fn hand_out(&mut self, d: DeviceNo, maker: u32, stood: Value, task: Task) -> Grip<D, Ready>
         requires home { IsHome self.old.places d.0 }
         requires room { (device : D) → slice_get self.old.places d.0 ≡ Some (Place.Home device)
-            → HasRoom (D.turns device) (D.probes device + 1) (D.faults device) }
+            → MayBeProbed (D.shows device) }
         requires stood { (device : D) → slice_get self.old.places d.0 ≡ Some (Place.Home device)
-            → IsTrue (is_counted_up task) → D.stands device ≡ stood }
+            → IsTrue (is_counted_up task) → (D.shows device).stands ≡ stood }
         requires tickets { self.old.tickets < 2 ^ 63 }
         ensures device { slice_get self.old.places d.0 ≡ Some (Place.Home result.device) }
         ensures places { self.new.places
@@ -184,10 +184,10 @@ impl<D: Device> Gate<D> {
         ensures number { result.slip.device ≡ d }
         ensures maker { result.slip.maker ≡ maker }
         ensures stood { result.slip.stood ≡ stood }
-        ensures turns { result.slip.turns ≡ D.turns result.device }
-        ensures probes { result.slip.probes ≡ D.probes result.device }
-        ensures faults { result.slip.faults ≡ D.faults result.device }
-        ensures tag { D.tag result.device ≡ d.0 }
+        ensures turns { result.slip.turns ≡ (D.shows result.device).turns }
+        ensures probes { result.slip.probes ≡ (D.shows result.device).probes }
+        ensures faults { result.slip.faults ≡ (D.shows result.device).faults }
+        ensures tag { (D.shows result.device).tag ≡ d.0 }
     {
         let known = self.device(d);
         let slip = Slip {
@@ -215,9 +215,7 @@ impl<D: Device> Gate<D> {
             ≡ slice_set self.old.places grip.slip.device.0 (Place.Home grip.device) }
         ensures tickets { self.new.tickets ≡ self.old.tickets }
         ensures told { result ≡ grip.stage.told }
-        ensures called { WasCalled result grip.task grip.slip (D.tag grip.device)
-            (D.stands grip.device) (D.turns grip.device) (D.probes grip.device)
-            (D.faults grip.device) }
+        ensures called { WasCalled result grip.task grip.slip (D.shows grip.device) }
     {
         let d = grip.slip().device;
         let told = grip.told();

@@ -1,6 +1,6 @@
 //! The grip of a device: made ready for one task, done by one call, spent by giving it back.
-ghost use Rattle.std.specs.Prelude.{◌≡◌, ◌+◌, ℕ, IfSome, IsTrue};
-ghost use Rattle.device_states.specs.Devices.{HasRoom};
+ghost use Rattle.std.specs.Prelude.{◌≡◌, ◌+◌, IfSome, IsTrue};
+ghost use Rattle.device_states.specs.Devices.{MayBeCalled, MayBeProbed, Shown};
 ghost use Rattle.device_gate.specs.Calls.{answered_turns, failed, may_tell, probed, stands_after};
 ghost use Rattle.device_gate.specs.Grips.{Gripped, IsAsLeft, WasCalled};
 ghost use Rattle.device_gate.specs.declared.slips.Slip.{Slip};
@@ -13,9 +13,8 @@ use std::marker::Model;
 
 /// How far a grip has come: `Ready` or `Done`.
 pub trait Stage {
-    /// How the device is, against its task and slip: its tag, where it stands, its turns, probes
-    /// and faults.
-    ghost fits: { Self → Task → Slip → ℕ → ℕ → ℕ → ℕ → ℕ → Type 0 };
+    /// How the device is by what it shows, against its task and slip.
+    ghost fits: { Self → Task → Slip → Shown → Type 0 };
 }
 
 /// The stage of a grip whose call is still to be made: its device is as it left.
@@ -29,13 +28,11 @@ pub struct Done {
 }
 
 impl Stage for Ready {
-    ghost fits = { λ _ task slip tag stands turns probes faults. IsAsLeft task slip tag stands turns
-        probes faults };
+    ghost fits = { λ _ task slip shown. IsAsLeft task slip shown };
 }
 
 impl Stage for Done {
-    ghost fits = { λ done task slip tag stands turns probes faults. WasCalled done.told task slip
-        tag stands turns probes faults };
+    ghost fits = { λ done task slip shown. WasCalled done.told task slip shown };
 }
 
 /// A device that is out, with its slip and what is to be done with it.
@@ -58,8 +55,7 @@ impl<D: Device, S: Stage> Model for Grip<D, S> {
     ghost view = { λ g.
         record { device = g.device; slip = g.slip; task = g.task; stage = g.stage } };
 
-    ghost invariant = { λ g. S.fits g.stage g.task g.slip (D.tag g.device) (D.stands g.device)
-        (D.turns g.device) (D.probes g.device) (D.faults g.device) };
+    ghost invariant = { λ g. S.fits g.stage g.task g.slip (D.shows g.device) };
 }
 
 impl<D: Device, S: Stage> Grip<D, S> {
@@ -82,8 +78,7 @@ impl<D: Device> Grip<D, Ready> {
     /// A grip of a device that is as the slip says.
     #[inline(always)]
     pub(crate) fn new(device: D, slip: Slip, task: Task) -> Grip<D, Ready>
-        requires { IsAsLeft task slip (D.tag device) (D.stands device) (D.turns device)
-            (D.probes device) (D.faults device) }
+        requires { IsAsLeft task slip (D.shows device) }
         ensures device { result.device ≡ device }
         ensures slip { result.slip ≡ slip }
         ensures task { result.task ≡ task }
@@ -99,9 +94,7 @@ impl<D: Device> Grip<D, Ready> {
     /// Does nothing. Its contract is that the device is as its slip says, with room for what the
     /// task does to its counts.
     pub fn kept(&self)
-        ensures { IsAsLeft self.now.task self.now.slip (D.tag self.now.device)
-            (D.stands self.now.device) (D.turns self.now.device) (D.probes self.now.device)
-            (D.faults self.now.device) }
+        ensures { IsAsLeft self.now.task self.now.slip (D.shows self.now.device) }
     {
         let _ = &self.slip;
     }
@@ -111,15 +104,14 @@ impl<D: Device> Grip<D, Ready> {
     ///
     /// The device that the grip held is let go. The grip makes no call.
     pub fn answered(self, device: D, told: Told) -> Grip<D, Done>
-        requires called { WasCalled told self.task self.slip (D.tag device) (D.stands device)
-            (D.turns device) (D.probes device) (D.faults device) }
-        requires plan { D.plan device ≡ D.plan self.device }
+        requires called { WasCalled told self.task self.slip (D.shows device) }
+        requires plan { (D.shows device).plan ≡ (D.shows self.device).plan }
         ensures told { result.stage.told ≡ told }
         ensures slip { result.slip ≡ self.slip }
         ensures task { result.task ≡ self.task }
         ensures device { result.device ≡ device }
-        ensures tag { D.tag result.device ≡ D.tag self.device }
-        ensures plan { D.plan result.device ≡ D.plan self.device }
+        ensures tag { (D.shows result.device).tag ≡ (D.shows self.device).tag }
+        ensures plan { (D.shows result.device).plan ≡ (D.shows self.device).plan }
     {
         let Grip {
             device: left,
@@ -142,8 +134,8 @@ impl<D: Device> Grip<D, Ready> {
     pub fn act(self) -> Grip<D, Done>
         ensures slip { result.slip ≡ self.slip }
         ensures task { result.task ≡ self.task }
-        ensures tag { D.tag result.device ≡ D.tag self.device }
-        ensures plan { D.plan result.device ≡ D.plan self.device }
+        ensures tag { (D.shows result.device).tag ≡ (D.shows self.device).tag }
+        ensures plan { (D.shows result.device).plan ≡ (D.shows self.device).plan }
     {
         let Grip {
             mut device,
@@ -172,9 +164,7 @@ impl<D: Device> Grip<D, Done> {
     /// The device, and how it is after the call.
     pub(crate) fn spent(self) -> D
         ensures device { result ≡ self.device }
-        ensures called { WasCalled self.stage.told self.task self.slip (D.tag self.device)
-            (D.stands self.device) (D.turns self.device) (D.probes self.device)
-            (D.faults self.device) }
+        ensures called { WasCalled self.stage.told self.task self.slip (D.shows self.device) }
     {
         let Grip {
             device,
@@ -189,15 +179,16 @@ impl<D: Device> Grip<D, Done> {
 /// Does the task with the device.
 #[inline(always)]
 fn call<D: Device>(device: &mut D, task: Task) -> Told
-    requires room { HasRoom (D.turns device.old) (D.probes device.old + 1) (D.faults device.old) }
-    ensures told { IsTrue (may_tell task (D.stands device.old) result) }
-    ensures stands { IfSome (stands_after task (D.stands device.old) result)
-        (λ v. D.stands device.new ≡ v) }
-    ensures turns { D.turns device.new ≡ D.turns device.old + answered_turns task result }
-    ensures probes { D.probes device.new ≡ D.probes device.old + probed task }
-    ensures faults { D.faults device.new ≡ D.faults device.old + failed result }
-    ensures tag { D.tag device.new ≡ D.tag device.old }
-    ensures plan { D.plan device.new ≡ D.plan device.old }
+    requires room { MayBeProbed (D.shows device.old) }
+    ensures told { IsTrue (may_tell task (D.shows device.old).stands result) }
+    ensures stands { IfSome (stands_after task (D.shows device.old).stands result)
+        (λ v. (D.shows device.new).stands ≡ v) }
+    ensures turns { (D.shows device.new).turns
+        ≡ (D.shows device.old).turns + answered_turns task result }
+    ensures probes { (D.shows device.new).probes ≡ (D.shows device.old).probes + probed task }
+    ensures faults { (D.shows device.new).faults ≡ (D.shows device.old).faults + failed result }
+    ensures tag { (D.shows device.new).tag ≡ (D.shows device.old).tag }
+    ensures plan { (D.shows device.new).plan ≡ (D.shows device.old).plan }
 {
     match task {
         Task::Drive(value) => drive(device, value),
@@ -212,16 +203,16 @@ fn call<D: Device>(device: &mut D, task: Task) -> Told
 /// Drives the device to the value.
 #[inline(always)]
 fn drive<D: Device>(device: &mut D, value: Value) -> Told
-    requires room { HasRoom (D.turns device.old) (D.probes device.old) (D.faults device.old) }
-    ensures told { IsTrue (may_tell (Task.Drive value) (D.stands device.old) result) }
-    ensures stands { IfSome (stands_after (Task.Drive value) (D.stands device.old) result)
-        (λ v. D.stands device.new ≡ v) }
-    ensures turns { D.turns device.new
-        ≡ D.turns device.old + answered_turns (Task.Drive value) result }
-    ensures probes { D.probes device.new ≡ D.probes device.old }
-    ensures faults { D.faults device.new ≡ D.faults device.old + failed result }
-    ensures tag { D.tag device.new ≡ D.tag device.old }
-    ensures plan { D.plan device.new ≡ D.plan device.old }
+    requires room { MayBeCalled (D.shows device.old) }
+    ensures told { IsTrue (may_tell (Task.Drive value) (D.shows device.old).stands result) }
+    ensures stands { IfSome (stands_after (Task.Drive value) (D.shows device.old).stands result)
+        (λ v. (D.shows device.new).stands ≡ v) }
+    ensures turns { (D.shows device.new).turns
+        ≡ (D.shows device.old).turns + answered_turns (Task.Drive value) result }
+    ensures probes { (D.shows device.new).probes ≡ (D.shows device.old).probes }
+    ensures faults { (D.shows device.new).faults ≡ (D.shows device.old).faults + failed result }
+    ensures tag { (D.shows device.new).tag ≡ (D.shows device.old).tag }
+    ensures plan { (D.shows device.new).plan ≡ (D.shows device.old).plan }
 {
     match device.drive(value) {
         Ok(()) => Told::Worked,
@@ -231,16 +222,16 @@ fn drive<D: Device>(device: &mut D, value: Value) -> Told
 
 /// Probes the device, and where it answers drives it to the value that is to be restored.
 fn probe<D: Device>(device: &mut D, restored: Option<Value>) -> Told
-    requires room { HasRoom (D.turns device.old) (D.probes device.old + 1) (D.faults device.old) }
-    ensures told { IsTrue (may_tell (Task.Probe restored) (D.stands device.old) result) }
-    ensures stands { IfSome (stands_after (Task.Probe restored) (D.stands device.old) result)
-        (λ v. D.stands device.new ≡ v) }
-    ensures turns { D.turns device.new
-        ≡ D.turns device.old + answered_turns (Task.Probe restored) result }
-    ensures probes { D.probes device.new ≡ D.probes device.old + 1 }
-    ensures faults { D.faults device.new ≡ D.faults device.old + failed result }
-    ensures tag { D.tag device.new ≡ D.tag device.old }
-    ensures plan { D.plan device.new ≡ D.plan device.old }
+    requires room { MayBeProbed (D.shows device.old) }
+    ensures told { IsTrue (may_tell (Task.Probe restored) (D.shows device.old).stands result) }
+    ensures stands { IfSome (stands_after (Task.Probe restored) (D.shows device.old).stands result)
+        (λ v. (D.shows device.new).stands ≡ v) }
+    ensures turns { (D.shows device.new).turns
+        ≡ (D.shows device.old).turns + answered_turns (Task.Probe restored) result }
+    ensures probes { (D.shows device.new).probes ≡ (D.shows device.old).probes + 1 }
+    ensures faults { (D.shows device.new).faults ≡ (D.shows device.old).faults + failed result }
+    ensures tag { (D.shows device.new).tag ≡ (D.shows device.old).tag }
+    ensures plan { (D.shows device.new).plan ≡ (D.shows device.old).plan }
 {
     match (device.probe(), restored) {
         (Err(Dead), _) => Told::Died,

@@ -20,11 +20,11 @@ pub trait Bench {
         start: Value,
         downs: &[(u32, u32)],
     ) -> Result<Self::Dev, NoMemory>
-        ensures tag { IfOk result (λ device. Self.Dev.tag device ≡ d.0) }
+        ensures tag { IfOk result (λ device. (Self.Dev.shows device).tag ≡ d.0) }
         ensures plan { IfOk result
-            (λ device. IfSome (Self.Dev.plan device) (λ told. told ≡ downs.now)) }
-        ensures stands { IfOk result (λ device. Self.Dev.stands device ≡ start) }
-        ensures turns { IfOk result (λ device. Self.Dev.turns device ≡ 0) }
-        ensures probes { IfOk result (λ device. Self.Dev.probes device ≡ 0) }
-        ensures faults { IfOk result (λ device. Self.Dev.faults device ≡ 0) };
+            (λ device. IfSome (Self.Dev.shows device).plan (λ told. told ≡ downs.now)) }
+        ensures stands { IfOk result (λ device. (Self.Dev.shows device).stands ≡ start) }
+        ensures turns { IfOk result (λ device. (Self.Dev.shows device).turns ≡ 0) }
+        ensures probes { IfOk result (λ device. (Self.Dev.shows device).probes ≡ 0) }
+        ensures faults { IfOk result (λ device. (Self.Dev.shows device).faults ≡ 0) };
 }

@@ -14,15 +14,16 @@ pub struct CalmDevice {
 }
 
 impl Device for CalmDevice {
-    ghost tag = { λ s. s.number.0 };
+    ghost use Rattle.std.specs.Prelude.{None};
 
-    ghost stands = { λ s. s.value };
-
-    ghost turns = { λ s. s.answered };
-
-    ghost probes = { λ s. s.probed };
-
-    ghost faults = { λ _. 0 };
+    ghost shows = { λ s. record {
+      tag = s.number.0;
+      plan = None;
+      stands = s.value;
+      turns = s.answered;
+      probes = s.probed;
+      faults = 0;
+    } };
 
     fn drive(&mut self, v: Value) -> Result<(), Dead> {
         self.value = v;

@@ -1,6 +1,6 @@
 //! A device: three calls that may die, and what is counted of them.
 ghost use Rattle.std.specs.Prelude.{◌≡◌, ◌+◌, OnOk, OnErr, IfOk};
-ghost use Rattle.device_states.specs.Devices.{HasRoom};
+ghost use Rattle.device_states.specs.Devices.{MayBeCalled};
 
 use home_types::Value;
 
@@ -13,80 +13,68 @@ pub struct Dead;
 /// It may fail at any call, and each failure raises its count of faults by one. A call asks that
 /// the three counts are below 2^63, so that none of them overflows.
 pub trait Device: Drop {
-    ghost use Rattle.std.specs.Prelude.{ℕ, List, Option, None};
+    ghost use Rattle.device_states.specs.Devices.{Shown};
 
-    /// Its device number.
-    ghost tag: { Self → ℕ };
-
-    /// The ranges of calls in which it is down, as it was built with them, where it tells them.
-    ghost plan: { Self → Option (List (ℕ × ℕ)) } = { λ _. None };
-
-    /// The value at which it stands.
-    ghost stands: { Self → ℕ };
-
-    /// How many drives and senses it has answered.
-    ghost turns: { Self → ℕ };
-
-    /// How many probes were made of it, whatever it answered.
-    ghost probes: { Self → ℕ };
-
-    /// How many calls it has failed.
-    ghost faults: { Self → ℕ };
+    /// What it shows: its device number; the ranges of calls in which it is down, as it was built
+    /// with them, where it tells them; the value at which it stands; how many drives and senses it
+    /// has answered; how many probes were made of it, whatever it answered; and how many calls it
+    /// has failed.
+    ghost shows: { Self → Shown };
 
     /// Drives the device to the value `v`.
     ///
     /// Answers `Dead` where the device fails. Where it stands then is not told.
     fn drive(&mut self, v: Value) -> Result<(), Dead>
-        requires room { HasRoom (turns self.old) (probes self.old) (faults self.old) }
-        ensures stands { OnOk result (stands self.new ≡ v) }
-        ensures counted { OnOk result (turns self.new ≡ turns self.old + 1) }
-        ensures calm { OnOk result (faults self.new ≡ faults self.old) }
-        ensures uncounted { OnErr result (turns self.new ≡ turns self.old) }
-        ensures cause { OnErr result (faults self.new ≡ faults self.old + 1) }
+        requires room { MayBeCalled (shows self.old) }
+        ensures stands { OnOk result ((shows self.new).stands ≡ v) }
+        ensures counted { OnOk result ((shows self.new).turns ≡ (shows self.old).turns + 1) }
+        ensures calm { OnOk result ((shows self.new).faults ≡ (shows self.old).faults) }
+        ensures uncounted { OnErr result ((shows self.new).turns ≡ (shows self.old).turns) }
+        ensures cause { OnErr result ((shows self.new).faults ≡ (shows self.old).faults + 1) }
 
-        ensures probes { probes self.new ≡ probes self.old }
-        ensures tag { tag self.new ≡ tag self.old }
-        ensures plan { plan self.new ≡ plan self.old };
+        ensures probes { (shows self.new).probes ≡ (shows self.old).probes }
+        ensures tag { (shows self.new).tag ≡ (shows self.old).tag }
+        ensures plan { (shows self.new).plan ≡ (shows self.old).plan };
 
     /// Senses the value at which the device stands.
     ///
     /// Answers `Dead` where the device fails. Where it stands then is not told.
     fn sense(&mut self) -> Result<Value, Dead>
-        requires room { HasRoom (turns self.old) (probes self.old) (faults self.old) }
-        ensures found { IfOk result (λ x. x ≡ stands self.old) }
-        ensures stands { OnOk result (stands self.new ≡ stands self.old) }
-        ensures counted { OnOk result (turns self.new ≡ turns self.old + 1) }
-        ensures calm { OnOk result (faults self.new ≡ faults self.old) }
-        ensures uncounted { OnErr result (turns self.new ≡ turns self.old) }
-        ensures cause { OnErr result (faults self.new ≡ faults self.old + 1) }
+        requires room { MayBeCalled (shows self.old) }
+        ensures found { IfOk result (λ x. x ≡ (shows self.old).stands) }
+        ensures stands { OnOk result ((shows self.new).stands ≡ (shows self.old).stands) }
+        ensures counted { OnOk result ((shows self.new).turns ≡ (shows self.old).turns + 1) }
+        ensures calm { OnOk result ((shows self.new).faults ≡ (shows self.old).faults) }
+        ensures uncounted { OnErr result ((shows self.new).turns ≡ (shows self.old).turns) }
+        ensures cause { OnErr result ((shows self.new).faults ≡ (shows self.old).faults + 1) }
 
-        ensures probes { probes self.new ≡ probes self.old }
-        ensures tag { tag self.new ≡ tag self.old }
-        ensures plan { plan self.new ≡ plan self.old };
+        ensures probes { (shows self.new).probes ≡ (shows self.old).probes }
+        ensures tag { (shows self.new).tag ≡ (shows self.old).tag }
+        ensures plan { (shows self.new).plan ≡ (shows self.old).plan };
 
     /// Asks the device whether it answers.
     ///
     /// Answers `Dead` where the device fails. Where it stands then is not told.
     fn probe(&mut self) -> Result<(), Dead>
-        requires room { HasRoom (turns self.old) (probes self.old) (faults self.old) }
-        ensures stands { OnOk result (stands self.new ≡ stands self.old) }
-        ensures calm { OnOk result (faults self.new ≡ faults self.old) }
-        ensures cause { OnErr result (faults self.new ≡ faults self.old + 1) }
+        requires room { MayBeCalled (shows self.old) }
+        ensures stands { OnOk result ((shows self.new).stands ≡ (shows self.old).stands) }
+        ensures calm { OnOk result ((shows self.new).faults ≡ (shows self.old).faults) }
+        ensures cause { OnErr result ((shows self.new).faults ≡ (shows self.old).faults + 1) }
 
-        ensures counted { probes self.new ≡ probes self.old + 1 }
-        ensures turns { turns self.new ≡ turns self.old }
-        ensures tag { tag self.new ≡ tag self.old }
-        ensures plan { plan self.new ≡ plan self.old };
+        ensures counted { (shows self.new).probes ≡ (shows self.old).probes + 1 }
+        ensures turns { (shows self.new).turns ≡ (shows self.old).turns }
+        ensures tag { (shows self.new).tag ≡ (shows self.old).tag }
+        ensures plan { (shows self.new).plan ≡ (shows self.old).plan };
 
     /// How many drives and senses the device has answered.
     fn turns(&self) -> u64
-        ensures { result ≡ turns self.now };
+        ensures { result ≡ (shows self.now).turns };
 
     /// How many probes were made of the device, whatever it answered.
     fn probes(&self) -> u64
-        ensures { result ≡ probes self.now };
+        ensures { result ≡ (shows self.now).probes };
 
     /// How many calls the device has failed.
     fn faults(&self) -> u64
-        ensures { result ≡ faults self.now };
+        ensures { result ≡ (shows self.now).faults };
 }

@@ -93,17 +93,14 @@ impl Device for SimDevice {
     ghost use Rattle.std.specs.Prelude.{Some};
     ghost use Rattle.device_states.specs.SimDevices.{after_drive, after_probe, after_sense, next_call_answer, sense_answer};
 
-    ghost tag = { λ s. s.tag };
-
-    ghost plan = { λ s. Some s.plan };
-
-    ghost stands = { λ s. s.stands };
-
-    ghost turns = { λ s. s.turns };
-
-    ghost probes = { λ s. s.probes };
-
-    ghost faults = { λ s. s.faults };
+    ghost shows = { λ s. record {
+      tag = s.tag;
+      plan = Some s.plan;
+      stands = s.stands;
+      turns = s.turns;
+      probes = s.probes;
+      faults = s.faults;
+    } };
 
     fn drive(&mut self, v: Value) -> Result<(), Dead>
         requires room { HasRoom self.old.turns self.old.probes self.old.faults }

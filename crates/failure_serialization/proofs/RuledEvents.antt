@@ -20,7 +20,7 @@ use Rattle.lineage_table.specs.declared.accesses.Status.TheVariants.{Acquired, R
 use Rattle.lock_leasing.proofs.EventRuns.{before_first, before_none, first_open, found_there, put_at, run_place}
 use Rattle.lock_leasing.proofs.Facts.{Facts, command_pends, facts_of}
 use Rattle.lock_leasing.proofs.Holding.{TellsTest}
-use Rattle.lock_leasing.specs.Configurations.{Configuration, Grips, grips_command, read_of}
+use Rattle.lock_leasing.specs.Configurations.{Configuration, Grips, grips_command, point, point_of, read_of}
 use Rattle.lock_leasing.specs.Places.{up_to_first}
 use Rattle.lock_leasing.specs.Standings.{IsStandingOf}
 use Rattle.lock_leasing.specs.Tables.{EachTellsOfRun, IsLineageOf, is_at_work, runs_with_access, status_by_answers, uses, view_when}
@@ -91,7 +91,7 @@ module _ (w : Setting) (n : Reading) (g : Grips) (f : Facts w n g) (d : ℕ) (hi
       by_doom false e =
           ap (λ s. (is_scheduled x.status || unwrap_or (option_map (λ q. q.0 == r) first) false) && s) (sound x e)
           ∙ ap (λ t. (is_scheduled t || unwrap_or (option_map (λ q. q.0 == r) first) false) && true) (tells.status (rw e refl))
-          ∙ by_tests (is_at_work w n g r d) (unwrap_or (option_map (λ q. q.0 == r) first) false) (is_weak w.mode) (is_live n r) (is_doomed n r) (pends w n r d) (did n r d) e strong (lives (is_live n r) (touches w.runs r d) _ used) (named first none) (left r used)
+          ∙ by_tests (is_at_work (point w n g) r d) (unwrap_or (option_map (λ q. q.0 == r) first) false) (is_weak w.mode) (is_live n r) (is_doomed n r) (pends w n r d) (did n r d) e strong (lives (is_live n r) (touches w.runs r d) _ used) (named first none) (left r used)
 
   told_lost : TellsTest w n g f d (spans w n d) (is_lost history)
   told_lost x rest tells used = by_doom (is_doomed n r) refl
@@ -127,12 +127,12 @@ module _ (w : Setting) (n : Reading) (g : Grips) (f : Facts w n g) (d : ℕ) (hi
       by_doom false e =
           ap (λ s. is_acquired x.status && unwrap_or (option_map is_up_view x.view) false && s) (sound x e)
           ∙ ap (λ t. is_acquired t && unwrap_or (option_map is_up_view x.view) false && true) (tells.status (rw e refl))
-          ∙ ap (λ v. is_acquired (status_by_answers w n g r d) && unwrap_or (option_map is_up_view v) false && true) (tells.view e)
+          ∙ ap (λ v. is_acquired (status_by_answers (point w n g) r d) && unwrap_or (option_map is_up_view v) false && true) (tells.view e)
           ∙ by_view (view_of n r d) (is_live n r) (is_doomed n r) (pends w n r d) (grips_command g r d) e (lives (is_live n r) (touches w.runs r d) _ used) (command_pends w n g r d f)
 
   -- The place and the loss
 
-  pub placed : (first : Option RunNo) (xs : List Access) (marks : List Mark) (x : Item) → HasNoAnswer n first d → map (λ y. y.run.0) xs ≡ runs_with_access w n d n.line → EachTellsOfRun w n g d xs → items_of marks ≡ n.line
+  pub placed : (first : Option RunNo) (xs : List Access) (marks : List Mark) (x : Item) → HasNoAnswer n first d → map (λ y. y.run.0) xs ≡ runs_with_access w n d n.line → EachTellsOfRun (point w n g) d xs → items_of marks ≡ n.line
       → items_of (with_item (event_place history first xs marks) x marks) ≡ with_event w n (device_no d) x
   placed first xs marks x none runs told items =
       items_inserted marks (event_place history first xs marks) x
@@ -161,7 +161,7 @@ module _ (w : Setting) (n : Reading) (g : Grips) (f : Facts w n g) (d : ℕ) (hi
       place : event_place history first xs marks ≡ up_to_first (of_run (awaits w n d)) n.line
       place = by_found (find (waits history first) xs) refl
 
-  pub lost : (xs : List Access) → map (λ y. y.run.0) xs ≡ runs_with_access w n d n.line → EachTellsOfRun w n g d xs → option_map (λ r. r.0) (lost_run history xs) ≡ lost_by w n d
+  pub lost : (xs : List Access) → map (λ y. y.run.0) xs ≡ runs_with_access w n d n.line → EachTellsOfRun (point w n g) d xs → option_map (λ r. r.0) (lost_run history xs) ≡ lost_by w n d
   lost xs runs told = number (find (is_lost history) xs) ∙ first_open w n g f d (spans w n d) (is_lost history) xs opens told_lost runs told ∙ ordered (is_weak w.mode) strong
     where
       opens : (q : ℕ) → spans w n d q ≡ true → is_open w n q d ≡ true
@@ -184,7 +184,7 @@ dooms_of s table line history parts q = ap (λ h. is_none (doom_of h q)) (sym pa
     turned None = refl
     turned (Some c) = refl
 
-lineage_of : (s : Configuration) (table : List LineageState) (line : List Mark) (history : List Kept) (d : ℕ) → IsStandingOf s table line history s.setting.runs → d < length table → IsLineageOf s.setting (read_of s) s.grips d (lineage_at table d)
+lineage_of : (s : Configuration) (table : List LineageState) (line : List Mark) (history : List Kept) (d : ℕ) → IsStandingOf s table line history s.setting.runs → d < length table → IsLineageOf (point_of s) d (lineage_at table d)
 lineage_of s table line history d parts inside = let size = parts.its_table.devices in parts.its_table.each d (omega (arith, size, inside))
 
 pub event_of : (table : List LineageState) (line : List Mark) (history : List Kept) (first : Option RunNo) (d : DeviceNo) (x : Item) (after : List Mark) → d.0

@@ -8,6 +8,7 @@ ghost use Rattle.handed_devices.specs.Answers.{known_value};
 
 use crate::devices::HandedDevice;
 use device_gate::{Done, Grip, Ready, Slip, Task, Told};
+use device_states::Device;
 use home_types::Value;
 
 /// Whether the device of the slip may tell this of the task: of a drive or a probe that it worked,
@@ -52,8 +53,7 @@ pub fn hand_in(
 fn after_call(slip: Slip, task: Task, told: Told) -> HandedDevice
     requires room { HasRoom slip.turns (slip.probes + 1) slip.faults }
     requires fits { may_tell task slip.stood told ≡ true }
-    ensures called { WasCalled told task slip result.number.0 result.value result.turns
-        result.probes result.faults }
+    ensures called { WasCalled told task slip (⟦<HandedDevice as Device>⟧.shows result) }
     ensures value { result.value ≡ known_value told task slip.stood }
 {
     HandedDevice {

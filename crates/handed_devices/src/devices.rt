@@ -21,15 +21,16 @@ pub struct HandedDevice {
 }
 
 impl Device for HandedDevice {
-    ghost tag = { λ s. s.number.0 };
+    ghost use Rattle.std.specs.Prelude.{None};
 
-    ghost stands = { λ s. s.value };
-
-    ghost turns = { λ s. s.turns };
-
-    ghost probes = { λ s. s.probes };
-
-    ghost faults = { λ s. s.faults };
+    ghost shows = { λ s. record {
+      tag = s.number.0;
+      plan = None;
+      stands = s.value;
+      turns = s.turns;
+      probes = s.probes;
+      faults = s.faults;
+    } };
 
     fn drive(&mut self, _v: Value) -> Result<(), Dead> {
         self.faults += 1;

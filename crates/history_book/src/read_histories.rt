@@ -274,6 +274,7 @@ impl ReadHistory {
     }
 
     /// The device of the run's command with the number `k`; none where there is no such command.
+    #[inline(always)]
     pub fn device_of(&self, r: RunNo, k: u32) -> Option<DeviceNo>
         ensures there { IfSome result (λ d. IsTrue (is_run self.now.setting.runs r.0)
             × (k < length (commands_of self.now.setting.runs r.0))) }

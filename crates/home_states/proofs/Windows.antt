@@ -1,6 +1,7 @@
 -- Windows that are opened on a home however many it had.
 use Rattle.command_rules.specs.Rosters.{runs_of}
 use Rattle.command_rules.specs.declared.rosters.Roster.{Roster}
+use Rattle.device_states.specs.Devices.{Shown}
 use Rattle.home_types.specs.declared.modes.Mode.{Mode}
 use Rattle.hub_core.proofs.SoundWindows.{may_open}
 use Rattle.hub_core.specs.Homes.{HomeIsKept, HomeState, setting_for}
@@ -13,10 +14,14 @@ use Rattle.routine_reader.specs.declared.scripts.WindowText.{WindowText}
 use Rattle.std.proofs.Common.{arith}
 use Rattle.std.specs.Prelude.{IsTrue, Some, slice_get, ℕ, ◌<◌, ◌^◌, ◌≡◌}
 
+-- what a device would show that was never called
+abbrev uncalled : {D : Type 0} → (D → Shown) → D → Shown
+uncalled shows device = record (shows device) { turns = 0; probes = 0; faults = 0 }
+
 -- the same home as if no window had been opened on it, whose devices were never called
-young_kept : {D : Type 0} (tag stands turns probes faults : D → ℕ) (home : HomeState D) → HomeIsKept tag stands turns probes faults home
-    → HomeIsKept tag stands (λ device. 0) (λ device. 0) (λ device. 0) (record home { opened = 0 })
-young_kept tag stands turns probes faults home kept = record {
+young_kept : {D : Type 0} (shows : D → Shown) (home : HomeState D) → HomeIsKept shows home
+    → HomeIsKept (uncalled shows) (record home { opened = 0 })
+young_kept shows home kept = record {
   numbered = kept.numbered;
   kinds = kept.kinds;
   size = kept.size;
@@ -28,14 +33,14 @@ young_kept tag stands turns probes faults home kept = record {
 }
 
 -- a window of a sound script may be opened on a home that is not at the end of its windows
-pub may_open_ever : {D : Type 0} (tag stands turns probes faults : D → ℕ) (script : Script) (mode : Mode) (k : ℕ) (window : WindowText) (home : HomeState D) (roster : Roster)
+pub may_open_ever : {D : Type 0} (shows : D → Shown) (script : Script) (mode : Mode) (k : ℕ) (window : WindowText) (home : HomeState D) (roster : Roster)
     → IsSound (plain_script script) → IsTrue (is_mode mode) → slice_get script.windows.items k ≡ Some window → runs_of roster ≡ script_runs script k
-    → HomeIsKept tag stands turns probes faults home → home.kinds ≡ kinds_of script → home.opened < 2 ^ 31 → MayOpen (setting_for home roster mode) window.probes home.opened
-may_open_ever {D} tag stands turns probes faults script mode k window home roster sound goes at runs kept kinds low =
+    → HomeIsKept shows home → home.kinds ≡ kinds_of script → home.opened < 2 ^ 31 → MayOpen (setting_for home roster mode) window.probes home.opened
+may_open_ever {D} shows script mode k window home roster sound goes at runs kept kinds low =
     let young : HomeState D = record home { opened = 0 } in
     let may : MayOpen (setting_for young roster mode) window.probes young.opened =
-    may_open tag stands (λ device. 0) (λ device. 0) (λ device. 0) script mode k window young roster
-    (record { sound = sound; goes = goes; at = at; runs = runs; kept = young_kept tag stands turns probes faults home kept; kinds = kinds; opened = omega arith }) in
+    may_open (uncalled shows) script mode k window young roster
+    (record { sound = sound; goes = goes; at = at; runs = runs; kept = young_kept shows home kept; kinds = kinds; opened = omega arith }) in
     record {
       few_devices = may.few_devices;
       few_runs = may.few_runs;

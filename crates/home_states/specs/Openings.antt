@@ -1,4 +1,5 @@
 -- A window is opened on a live home, and closed.
+use Rattle.device_states.specs.Devices.{Shown}
 use Rattle.handed_devices.specs.declared.devices.HandedDevice.{HandedDevice}
 use Rattle.history_book.specs.Sealed.{BeginsWithSealed}
 use Rattle.history_book.specs.Settings.{Setting, is_weak}
@@ -21,15 +22,16 @@ use Rattle.routine_reader.specs.declared.scripts.Script.{Script}
 use Rattle.routine_reader.specs.declared.scripts.WindowText.{WindowText}
 use Rattle.std.specs.Prelude.{None, Some, false, length, slice_get, ℕ, ⊤, ◌^◌, ◌≡◌, ◌≤◌}
 
--- the counts of a device whose calls are made elsewhere
-abbrev pub handed_turns : HandedDevice → ℕ
-handed_turns device = device.turns
-
-abbrev pub handed_probes : HandedDevice → ℕ
-handed_probes device = device.probes
-
-abbrev pub faults_of : HandedDevice → ℕ
-faults_of device = device.faults
+-- what a device shows whose calls are made elsewhere
+abbrev pub handed_shows : HandedDevice → Shown
+handed_shows device = record {
+  tag = device.number.0;
+  plan = None;
+  stands = device.value;
+  turns = device.turns;
+  probes = device.probes;
+  faults = device.faults;
+}
 
 -- the window of the script with this number, on the home as it is
 abbrev pub live_setting_on : Script → Mode → ℕ → HomeState HandedDevice → Setting
@@ -41,8 +43,7 @@ pub record IsOpenedOn (script : Script) (mode : Mode) (k : ℕ) (home : HomeStat
     (hub : OpenHub HandedDevice) : Type 0 where
   pub window : WindowText
   pub at : slice_get script.windows.items k ≡ Some window
-  pub opened : IsOpened handed_turns handed_probes faults_of
-      (live_setting_on script mode k home) window.probes home hub
+  pub opened : IsOpened handed_shows (live_setting_on script mode k home) window.probes home hub
 
 -- why it cannot be
 abbrev pub CannotOpen : Script → ℕ → HomeState HandedDevice → NotOpened → Type 0
@@ -74,7 +75,7 @@ pub record HasClosed (s t : LiveState) : Type 0 where
   pub home : HomeState HandedDevice
   pub closed : WindowRecord
   pub was : s.phase ≡ InWindow number hub
-  pub is_closed : WindowIsClosed handed_turns handed_probes faults_of hub home closed
+  pub is_closed : WindowIsClosed handed_shows hub home closed
   pub quiet : not_quiet (configuration_of hub) ≡ None
   pub sealed : is_weak hub.setting.mode ≡ false
       → BeginsWithSealed hub.setting (history_of closed) closed.order.items

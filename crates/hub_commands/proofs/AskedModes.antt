@@ -9,7 +9,7 @@ use Rattle.home_types.specs.declared.modes.Scheduler.TheVariants.{Fcfs, JustInTi
 use Rattle.home_types.specs.declared.modes.Scheduler.{Scheduler}
 use Rattle.home_types.specs.declared.modes.Visibility.TheVariants.{Eventual, Global, Partitioned, Weak}
 use Rattle.home_types.specs.declared.modes.Visibility.{Visibility}
-use Rattle.hub_commands.specs.CommandsTaken.{keep_line, keep_line_of, run_line, run_line_of, still_line, still_line_of, watch_line, watch_line_of}
+use Rattle.hub_commands.specs.CommandsTaken.{keep_options, keep_options_of, run_line, run_line_of, still_line, still_line_of, watch_line, watch_line_of}
 use Rattle.hub_core.specs.Openings.{is_mode}
 use Rattle.std.proofs.Common.{refl, subst, ◌≡◌}
 use Rattle.std.specs.Prelude.{IsTrue, List, None, Option, Some, option_and_then, true, ℕ}
@@ -74,10 +74,10 @@ watch_goes words options is = by_line (command_line_of words) refl is
     by_line (Some (Trial n)) some found = absurd (cc)
 
 -- and that of a replay that is kept
-pub keep_goes : (words : List (List ℕ)) (options : Options) → keep_line_of words ≡ Some (Keep options) → IsTrue (is_mode options.mode)
+pub keep_goes : (words : List (List ℕ)) (options : Options) → keep_options_of words ≡ Some options → IsTrue (is_mode options.mode)
 keep_goes words options is = by_line (command_line_of words) refl is
   where
-    by_line : (o : Option CommandLine) → command_line_of words ≡ o → option_and_then keep_line o ≡ Some (Keep options) → IsTrue (is_mode options.mode)
+    by_line : (o : Option CommandLine) → command_line_of words ≡ o → option_and_then keep_options o ≡ Some options → IsTrue (is_mode options.mode)
     by_line None none found = absurd (cc)
     by_line (Some (Run given)) some found = absurd (cc)
     by_line (Some (Replay given)) some found = absurd (cc)

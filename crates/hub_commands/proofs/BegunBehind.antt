@@ -1,29 +1,28 @@
 -- A home behind kept states: where a day begins on it.
-use Rattle.history_book.specs.Settings.{Setting}
-use Rattle.history_book.specs.declared.records.WindowRecord.{WindowRecord}
+use Rattle.device_states.specs.Devices.{Shown}
 use Rattle.home_journal.specs.Journals.{IsStateOf}
 use Rattle.home_types.specs.declared.modes.Mode.{Mode}
 use Rattle.home_types.specs.declared.worlds.Stand.{Stand}
 use Rattle.hub_commands.proofs.DaysUnderWay.{new_left, new_unprobed, starts_on}
 use Rattle.hub_commands.specs.Days.{IsUnderWayOn, course_behind}
 use Rattle.hub_commands.specs.KeptDays.{HomeBegins, HomeGoesOn, kept_course}
+use Rattle.hub_commands.specs.Ways.{WindowWay}
 use Rattle.hub_core.specs.Homes.{AreNew, HomeState}
 use Rattle.legal_days.specs.LegalDays.{AreLeftFrom, Beginning, new_day}
 use Rattle.legal_days.specs.ResumedDays.{GoesOnBehind, IsStateResumed, resumed_day}
 use Rattle.routine_reader.specs.Rosters.{kinds_of, start_home, start_stand}
 use Rattle.routine_reader.specs.declared.scripts.Script.{Script}
-use Rattle.routine_reader.specs.declared.scripts.WindowText.{WindowText}
 use Rattle.std.proofs.Common.{ap, refl, subst, sym, ◌∙◌}
 use Rattle.std.proofs.lemmas.List.{length-map}
 use Rattle.std.specs.Prelude.{Bool, Err, IfOk, List, None, Ok, Option, Result, Some, [], false, if◌then◌else◌, length, slice_get, true, ℕ, ◌≡◌}
 
 -- the home was resumed in the last state
-pub resumed_home : {D : Type 0} (tag : D → ℕ) (plan : D → Option (List (ℕ × ℕ))) (stands turns probes faults : D → ℕ) (script : Script) (kept : ℕ) (last : Option (List Stand)) (state : List Stand) (home : HomeState D)
+pub resumed_home : {D : Type 0} (shows : D → Shown) (script : Script) (kept : ℕ) (last : Option (List Stand)) (state : List Stand) (home : HomeState D)
     → Some state ≡ last → IsStateOf (kinds_of script) state → home.kinds ≡ kinds_of script → home.opened ≡ 0 → IsStateResumed state home.world
-    → AreLeftFrom tag plan stands turns faults (resumed_day script kept state home.world) [] home.devices
-    → ((d : ℕ) (device : D) → slice_get home.devices d ≡ Some device → probes device ≡ 0)
-    → HomeGoesOn tag plan stands turns probes faults script kept last home
-resumed_home tag plan stands turns probes faults script kept last state home is values kinds opened resumed left unprobed = record {
+    → AreLeftFrom shows (resumed_day script kept state home.world) [] home.devices
+    → ((d : ℕ) (device : D) → slice_get home.devices d ≡ Some device → (shows device).probes ≡ 0)
+    → HomeGoesOn shows script kept last home
+resumed_home shows script kept last state home is values kinds opened resumed left unprobed = record {
   begins = begins;
   goes_on = subst (λ l. GoesOnBehind script kept l begins) is (home.world, resumed, refl);
   home_begins = record {
@@ -40,15 +39,15 @@ resumed_home tag plan stands turns probes faults script kept last state home is 
     begins = resumed_day script kept state home.world
 
 -- it was built anew
-pub built_home : {D : Type 0} (tag : D → ℕ) (plan : D → Option (List (ℕ × ℕ))) (stands turns probes faults : D → ℕ) (script : Script) (kept : ℕ) (last : Option (List Stand)) (home : HomeState D)
-    → None ≡ last → AreNew tag plan stands turns probes faults script.devices.items home.devices → home.kinds ≡ kinds_of script → home.world ≡ start_home script → home.opened ≡ 0
-    → HomeGoesOn tag plan stands turns probes faults script kept last home
-built_home tag plan stands turns probes faults script kept last home none are kinds world opened = record {
+pub built_home : {D : Type 0} (shows : D → Shown) (script : Script) (kept : ℕ) (last : Option (List Stand)) (home : HomeState D)
+    → None ≡ last → AreNew shows script.devices.items home.devices → home.kinds ≡ kinds_of script → home.world ≡ start_home script → home.opened ≡ 0
+    → HomeGoesOn shows script kept last home
+built_home shows script kept last home none are kinds world opened = record {
   begins = new_day script;
   goes_on = subst (λ l. GoesOnBehind script kept l (new_day script)) none refl;
   home_begins = record {
-    left = new_left tag plan stands turns probes faults script home.devices are;
-    unprobed = new_unprobed tag plan stands turns probes faults script home.devices are;
+    left = new_left shows script home.devices are;
+    unprobed = new_unprobed shows script home.devices are;
     kinds = kinds;
     world = world;
     size = ap (λ w. length w) world ∙ length-map script.devices.items start_stand;
@@ -57,31 +56,31 @@ built_home tag plan stands turns probes faults script kept last home none are ki
 }
 
 -- whether or not it could be had
-pub resumed_or_none : {D E : Type 0} (tag : D → ℕ) (plan : D → Option (List (ℕ × ℕ))) (stands turns probes faults : D → ℕ) (script : Script) (kept : ℕ) (last : Option (List Stand)) (state : List Stand) (result : Result (HomeState D) E)
+pub resumed_or_none : {D E : Type 0} (shows : D → Shown) (script : Script) (kept : ℕ) (last : Option (List Stand)) (state : List Stand) (result : Result (HomeState D) E)
     → Some state ≡ last → IsStateOf (kinds_of script) state → IfOk result (λ home. home.kinds ≡ kinds_of script) → IfOk result (λ home. home.opened ≡ 0) → IfOk result (λ home. IsStateResumed state home.world)
-    → ((k : ℕ) → IfOk result (λ home. AreLeftFrom tag plan stands turns faults (resumed_day script k state home.world) [] home.devices))
-    → IfOk result (λ home. (d : ℕ) (device : D) → slice_get home.devices d ≡ Some device → probes device ≡ 0)
-    → IfOk result (λ home. HomeGoesOn tag plan stands turns probes faults script kept last home)
-resumed_or_none tag plan stands turns probes faults script kept last state (Ok home) is values kinds opened resumed left unprobed =
-    resumed_home tag plan stands turns probes faults script kept last state home is values kinds opened resumed (left kept) unprobed
-resumed_or_none tag plan stands turns probes faults script kept last state (Err e) is values kinds opened resumed left unprobed = tt
+    → ((k : ℕ) → IfOk result (λ home. AreLeftFrom shows (resumed_day script k state home.world) [] home.devices))
+    → IfOk result (λ home. (d : ℕ) (device : D) → slice_get home.devices d ≡ Some device → (shows device).probes ≡ 0)
+    → IfOk result (λ home. HomeGoesOn shows script kept last home)
+resumed_or_none shows script kept last state (Ok home) is values kinds opened resumed left unprobed =
+    resumed_home shows script kept last state home is values kinds opened resumed (left kept) unprobed
+resumed_or_none shows script kept last state (Err e) is values kinds opened resumed left unprobed = tt
 
-pub built_or_none : {D E : Type 0} (tag : D → ℕ) (plan : D → Option (List (ℕ × ℕ))) (stands turns probes faults : D → ℕ) (script : Script) (kept : ℕ) (last : Option (List Stand)) (result : Result (HomeState D) E)
-    → None ≡ last → IfOk result (λ home. AreNew tag plan stands turns probes faults script.devices.items home.devices) → IfOk result (λ home. home.kinds ≡ kinds_of script)
+pub built_or_none : {D E : Type 0} (shows : D → Shown) (script : Script) (kept : ℕ) (last : Option (List Stand)) (result : Result (HomeState D) E)
+    → None ≡ last → IfOk result (λ home. AreNew shows script.devices.items home.devices) → IfOk result (λ home. home.kinds ≡ kinds_of script)
     → IfOk result (λ home. home.world ≡ start_home script) → IfOk result (λ home. home.opened ≡ 0)
-    → IfOk result (λ home. HomeGoesOn tag plan stands turns probes faults script kept last home)
-built_or_none tag plan stands turns probes faults script kept last (Ok home) none are kinds world opened = built_home tag plan stands turns probes faults script kept last home none are kinds world opened
-built_or_none tag plan stands turns probes faults script kept last (Err e) none are kinds world opened = tt
+    → IfOk result (λ home. HomeGoesOn shows script kept last home)
+built_or_none shows script kept last (Ok home) none are kinds world opened = built_home shows script kept last home none are kinds world opened
+built_or_none shows script kept last (Err e) none are kinds world opened = tt
 
 up_there : (b : Bool) → (if b then false else true) ≡ false → b ≡ true
 up_there true is = refl
 up_there false is = absurd (cc)
 
 -- the day has played no window there
-pub begins_under_way : {D : Type 0} (works : Setting → WindowText → WindowRecord → (ℕ → ℕ) → Type 0) (tag : D → ℕ) (plan : D → Option (List (ℕ × ℕ))) (stands turns probes faults : D → ℕ) (kept : ℕ) (begins : Beginning) (mode : Mode) (home : HomeState D)
-    → HomeBegins tag plan stands turns probes faults begins home → IsUnderWayOn works tag plan stands turns probes faults (kept_course kept begins) mode home []
-begins_under_way works tag plan stands turns probes faults kept begins mode home is =
-    starts_on works tag plan stands turns probes faults (kept_course kept begins) mode home is.left is.unprobed is.kinds is.world is.size is.opened (λ d inside. up_there _)
+pub begins_under_way : {D : Type 0} (works : WindowWay) (shows : D → Shown) (kept : ℕ) (begins : Beginning) (mode : Mode) (home : HomeState D)
+    → HomeBegins shows begins home → IsUnderWayOn works shows (kept_course kept begins) mode home []
+begins_under_way works shows kept begins mode home is =
+    starts_on works shows (kept_course kept begins) mode home is.left is.unprobed is.kinds is.world is.size is.opened (λ d inside. up_there _)
 
 -- a day can always begin there, whether or not the home could be had
 pub some_beginning : (script : Script) (kept : ℕ) (last : Option (List Stand)) → (begins : Beginning) × GoesOnBehind script kept last begins

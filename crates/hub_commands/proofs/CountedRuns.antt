@@ -1,7 +1,7 @@
 -- The runs of a day can be counted: no window has more than a script may have.
 use Rattle.command_rules.specs.Rosters.{Run}
 use Rattle.day_report.specs.Days.{abort_count, commit_count, is_abort, is_commit}
-use Rattle.history_book.specs.Settings.{Setting}
+use Rattle.device_states.specs.Devices.{Shown}
 use Rattle.history_book.specs.WellFormed.{IsWellFormed}
 use Rattle.history_book.specs.declared.records.WindowRecord.{WindowRecord}
 use Rattle.home_types.specs.Listed.{Listed}
@@ -13,8 +13,8 @@ use Rattle.home_types.specs.declared.modes.Visibility.{Visibility}
 use Rattle.home_types.specs.declared.worlds.Stand.{Stand}
 use Rattle.hub_commands.specs.Boards.{IsToldOf}
 use Rattle.hub_commands.specs.Days.{WindowsArePlayed, new_course}
-use Rattle.hub_commands.specs.Finishes.{Shown}
 use Rattle.hub_commands.specs.Going.{IsNextToTell, NextIs}
+use Rattle.hub_commands.specs.Ways.{WindowWay}
 use Rattle.hub_commands.specs.declared.plays.DayUnderWay.{DayUnderWay}
 use Rattle.legal_days.proofs.Lists.{at_place}
 use Rattle.legal_days.specs.LegalDays.{setting_of}
@@ -70,7 +70,7 @@ sums_few (closed ∷ later) few =
     omega (arith, commits_are, aborts_are, few 0 closed refl, rest)
 
 -- the runs of the windows that were played can be counted
-pub runs_few : (works : Setting → WindowText → WindowRecord → (ℕ → ℕ) → Type 0) (script : Script) (mode : Mode) (records : List WindowRecord) (takes : List (ℕ → ℕ)) → IsSound (plain_script script)
+pub runs_few : (works : WindowWay) (script : Script) (mode : Mode) (records : List WindowRecord) (takes : List (ℕ → ℕ)) → IsSound (plain_script script)
     → WindowsArePlayed works script mode records takes → commit_count records + abort_count records < 2 ^ 64
 unfolding commit_count abort_count
 runs_few works script mode records takes sound played =
@@ -83,8 +83,8 @@ runs_few works script mode records takes sound played =
     omega (arith, few, windows, all, count)
 
 -- the next window, where it was played, is one more than was told of
-pub next_to_tell : {D : Type 0} (works : Setting → WindowText → WindowRecord → (ℕ → ℕ) → Type 0) (shown : Shown D) (script : Script) (mode : Mode) (records : List WindowRecord) (told : Option (List Counts)) (next : Result (DayUnderWay D) (Listed WindowRecord))
-    → IsSound (plain_script script) → IsToldOf told records → NextIs works shown (new_course script) mode records next → IsNextToTell told next
-next_to_tell works shown script mode records told (Ok day) sound is gone =
+pub next_to_tell : {D : Type 0} (works : WindowWay) (shows : D → Shown) (script : Script) (mode : Mode) (records : List WindowRecord) (told : Option (List Counts)) (next : Result (DayUnderWay D) (Listed WindowRecord))
+    → IsSound (plain_script script) → IsToldOf told records → NextIs works shows (new_course script) mode records next → IsNextToTell told next
+next_to_tell works shows script mode records told (Ok day) sound is gone =
     (record { before = records; closed = gone.closed; more = gone.more; told_of = is }, runs_few works script mode day.windows.items gone.under_way.takes sound gone.under_way.played)
-next_to_tell works shown script mode records told (Err windows) sound is same = subst (λ rs. IsToldOf told rs) (sym same) is
+next_to_tell works shows script mode records told (Err windows) sound is same = subst (λ rs. IsToldOf told rs) (sym same) is

@@ -1,4 +1,5 @@
 -- A day under way, and one window more.
+use Rattle.device_states.specs.Devices.{Shown}
 use Rattle.history_book.specs.Settings.{Setting}
 use Rattle.history_book.specs.declared.records.WindowRecord.{WindowRecord}
 use Rattle.home_types.proofs.Snocs.{snoc_get}
@@ -8,9 +9,11 @@ use Rattle.hub_core.specs.Homes.{AreNew, HomeIsKept, HomeState}
 use Rattle.legal_days.proofs.Lists.{at_place}
 use Rattle.legal_days.specs.LegalDays.{AreLeftFrom, IsLegalCutDayFrom, IsLegalDayFrom, new_day, one_more_where, setting_from, state_from, total}
 use Rattle.legal_days.specs.LegalWindows.{IsLegalWindow}
+use Rattle.hub_commands.proofs.PlayedWindows.{IsPlayed, device_played, setting_played, size_played}
 use Rattle.hub_commands.proofs.Snocs.{length_more, sum_more}
 use Rattle.hub_commands.specs.Days.{DayCourse, HaveCommitted, IsUnderWayOn, NoneHasFailedOn, WindowsArePlayedOn, new_course, script_of}
-use Rattle.hub_commands.specs.Played.{HasGoneOn, IsPlayed, setting_on}
+use Rattle.hub_commands.specs.Played.{HasGoneOn, setting_on}
+use Rattle.hub_commands.specs.Ways.{WindowWay}
 use Rattle.hub_core.proofs.calls.HubOpens.{get_front, get_last}
 use Rattle.routine_reader.specs.Rosters.{kinds_of, script_runs, start_home, start_stand}
 use Rattle.routine_reader.specs.declared.scripts.DeviceText.{DeviceText}
@@ -20,7 +23,7 @@ use Rattle.hub_core.specs.HubCalls.{NoneFails, RunsHaveEnded}
 use Rattle.std.proofs.Common.{ap, arith, inl, inr, refl, subst, sym, ◌∙◌}
 use Rattle.std.proofs.lemmas.List.{length-map}
 use Rattle.std.proofs.lemmas.Option.{slice_get_within}
-use Rattle.std.specs.Prelude.{Bool, List, Option, Some, [], false, length, map, option_map, slice_get, slice_index_or, suc, true, unwrap_or, zero, ℕ, ◌+◌, ◌++◌, ◌∷◌, ◌<◌, ◌≡◌, ◌≤◌}
+use Rattle.std.specs.Prelude.{Bool, List, Some, [], false, length, map, option_map, slice_get, slice_index_or, suc, true, unwrap_or, zero, ℕ, ◌+◌, ◌++◌, ◌∷◌, ◌<◌, ◌≡◌, ◌≤◌}
 
 -- a window more leaves the states before it
 state_before : (course : DayCourse) (records : List WindowRecord) (closed : WindowRecord) (k : ℕ) → k ≤ length records → state_from course.begins (records ++ closed ∷ []) k ≡ state_from course.begins records k
@@ -80,80 +83,83 @@ none_before course records closed none d inside =
     none_again (course.down d) (total (λ c. c.faults.items) records d) is.0 (omega (arith, all, is.1))
 
 -- where no device has failed, each was up as the window was opened, and none fails in it
-none_fails : {D : Type 0} (works : Setting → WindowText → WindowRecord → (ℕ → ℕ) → Type 0) (tag : D → ℕ) (plan : D → Option (List (ℕ × ℕ))) (stands turns probes faults : D → ℕ) (course : DayCourse) (mode : Mode) (home : HomeState D) (records : List WindowRecord) (closed : WindowRecord)
-    → IsUnderWayOn works tag plan stands turns probes faults course mode home records → NoneHasFailedOn course (records ++ closed ∷ [])
+none_fails : {D : Type 0} (works : WindowWay) (shows : D → Shown) (course : DayCourse) (mode : Mode) (home : HomeState D) (records : List WindowRecord) (closed : WindowRecord)
+    → IsUnderWayOn works shows course mode home records → NoneHasFailedOn course (records ++ closed ∷ [])
     → NoneFails (setting_on (script_of course) mode (length records) home) closed.faults.items
-none_fails works tag plan stands turns probes faults course mode home records closed day none = record {
+none_fails works shows course mode home records closed day none = record {
   up = day.up (none_before course records closed none);
   steady = λ d inside. let size = day.size in let all = more_faults records closed d in let is = none_of (course.down d) (total (λ c. c.faults.items) (records ++ closed ∷ []) d) (none d (omega (arith, inside, size))) in omega (arith, all, is.1);
 }
 
 -- the windows with one more
-windows_more : {D : Type 0} (works : Setting → WindowText → WindowRecord → (ℕ → ℕ) → Type 0) (tag : D → ℕ) (plan : D → Option (List (ℕ × ℕ))) (stands turns probes faults : D → ℕ) (course : DayCourse) (mode : Mode) (before after : HomeState D) (records : List WindowRecord) (closed : WindowRecord)
-    → (day : IsUnderWayOn works tag plan stands turns probes faults course mode before records) → (is : IsPlayed works tag plan turns probes faults (script_of course) mode (length records) before after closed)
-    → WindowsArePlayedOn works course mode (records ++ closed ∷ []) (day.takes ++ is.taken ∷ [])
-windows_more works tag plan stands turns probes faults course mode before after records closed day is = record {
-  count = let within = slice_get_within (script_of course).windows.items (length records) is.window is.at in omega (arith, within, length_more records closed);
-  legal = each_more (λ w k c. IsLegalWindow w c) course mode records closed day.played.legal (subst (λ w. IsLegalWindow w closed) here is.legal);
+windows_more : {D : Type 0} (works : WindowWay) (shows : D → Shown) (course : DayCourse) (mode : Mode) (before after : HomeState D) (records : List WindowRecord) (closed : WindowRecord)
+    → (day : IsUnderWayOn works shows course mode before records) → (is : IsPlayed works shows (script_of course) mode (length records) before after closed)
+    → WindowsArePlayedOn works course mode (records ++ closed ∷ []) (day.takes ++ is.worked.taken ∷ [])
+windows_more works shows course mode before after records closed day is = record {
+  count = let within = slice_get_within (script_of course).windows.items (length records) is.opens.window is.opens.at in omega (arith, within, length_more records closed);
+  legal = each_more (λ w k c. IsLegalWindow w c) course mode records closed day.played.legal (subst (λ w. IsLegalWindow w closed) (setting_played is ∙ here) is.worked.legal);
   worked = record {
-    count = omega (arith, length_more records closed, length_more day.takes is.taken, day.played.worked.count);
+    count = omega (arith, length_more records closed, length_more day.takes is.worked.taken, day.played.worked.count);
     each = λ k window c taken window_at at taken_at. each_worked k window c taken window_at at taken_at;
   };
-  ends = each_more (λ w k c. RunsHaveEnded w c) course mode records closed day.played.ends (subst (λ w. RunsHaveEnded w closed) here is.ends);
+  ends = each_more (λ w k c. RunsHaveEnded w c) course mode records closed day.played.ends (subst (λ w. RunsHaveEnded w closed) here ended);
   commits = λ served none. each_more (λ w k c. HaveCommitted w c) course mode records closed (day.played.commits served (none_before course records closed none))
-      (subst (λ w. HaveCommitted w closed) here (is.ends.commits served (none_fails works tag plan stands turns probes faults course mode before records closed day none)));
+      (subst (λ w. HaveCommitted w closed) here (ended.commits served (none_fails works shows course mode before records closed day none)));
 }
   where
     here : setting_on (script_of course) mode (length records) before ≡ setting_from course.begins mode records (length records)
     here = setting_here course mode records before day.kinds day.world
 
-    each_worked : (k : ℕ) (window : WindowText) (c : WindowRecord) (taken : ℕ → ℕ) → slice_get (script_of course).windows.items k ≡ Some window → slice_get (records ++ closed ∷ []) k ≡ Some c → slice_get (day.takes ++ is.taken ∷ []) k ≡ Some taken
+    ended : RunsHaveEnded (setting_on (script_of course) mode (length records) before) closed
+    ended = subst (λ w. RunsHaveEnded w closed) (setting_played is) is.worked.ends
+
+    each_worked : (k : ℕ) (window : WindowText) (c : WindowRecord) (taken : ℕ → ℕ) → slice_get (script_of course).windows.items k ≡ Some window → slice_get (records ++ closed ∷ []) k ≡ Some c → slice_get (day.takes ++ is.worked.taken ∷ []) k ≡ Some taken
         → works (setting_from course.begins mode (records ++ closed ∷ []) k) window c taken
     each_worked k window c taken window_at at taken_at = elim (snoc_get records closed c k at) [
       | inl old ↦ (let within = slice_get_within records k c old in
-          let taken_old : slice_get day.takes k ≡ Some taken = sym (get_front day.takes is.taken k (omega (arith, within, day.played.worked.count))) ∙ taken_at in
+          let taken_old : slice_get day.takes k ≡ Some taken = sym (get_front day.takes is.worked.taken k (omega (arith, within, day.played.worked.count))) ∙ taken_at in
           subst (λ w. works w window c taken) (sym (setting_before course mode records closed k (omega (arith, within)))) (day.played.worked.each k window c taken window_at old taken_old))
-      | inr new ↦ (let taken_last : Some is.taken ≡ Some taken = sym (get_last day.takes is.taken) ∙ ap (λ n. slice_get (day.takes ++ is.taken ∷ []) n) (day.played.worked.count ∙ sym new.0) ∙ taken_at in
-          let window_last : Some is.window ≡ Some window = sym is.at ∙ ap (λ n. slice_get (script_of course).windows.items n) (sym new.0) ∙ window_at in
-          let same_taken : is.taken ≡ taken = cc in
-          let same_window : is.window ≡ window = cc in
-          let here_too : works (setting_from course.begins mode (records ++ closed ∷ []) (length records)) is.window closed is.taken =
-          subst (λ w. works w is.window closed is.taken) (here ∙ sym (setting_before course mode records closed (length records) (omega (arith)))) is.worked in
+      | inr new ↦ (let taken_last : Some is.worked.taken ≡ Some taken = sym (get_last day.takes is.worked.taken) ∙ ap (λ n. slice_get (day.takes ++ is.worked.taken ∷ []) n) (day.played.worked.count ∙ sym new.0) ∙ taken_at in
+          let window_last : Some is.opens.window ≡ Some window = sym is.opens.at ∙ ap (λ n. slice_get (script_of course).windows.items n) (sym new.0) ∙ window_at in
+          let same_taken : is.worked.taken ≡ taken = cc in
+          let same_window : is.opens.window ≡ window = cc in
+          let here_too : works (setting_from course.begins mode (records ++ closed ∷ []) (length records)) is.opens.window closed is.worked.taken =
+          subst (λ w. works w is.opens.window closed is.worked.taken) (setting_played is ∙ here ∙ sym (setting_before course mode records closed (length records) (omega (arith)))) is.worked.way in
           let Q : ℕ × WindowText × WindowRecord × (ℕ → ℕ) → Type 0 = λ q. works (setting_from course.begins mode (records ++ closed ∷ []) q.0) q.1 q.2 q.3 in
           subst Q (λ i. (sym new.0 i, same_window i, new.1 i, same_taken i)) here_too)
     ]
 
 -- one window more
-goes_on : {D : Type 0} (works : Setting → WindowText → WindowRecord → (ℕ → ℕ) → Type 0) (tag : D → ℕ) (plan : D → Option (List (ℕ × ℕ))) (stands turns probes faults : D → ℕ) (course : DayCourse) (mode : Mode) (before after : HomeState D) (records : List WindowRecord) (closed : WindowRecord)
-    → IsUnderWayOn works tag plan stands turns probes faults course mode before records → HomeIsKept tag stands turns probes faults after
-    → IsPlayed works tag plan turns probes faults (script_of course) mode (length records) before after closed
-    → IsUnderWayOn works tag plan stands turns probes faults course mode after (records ++ closed ∷ [])
-goes_on {D = D} works tag plan stands turns probes faults course mode before after records closed day kept is = record {
-  takes = day.takes ++ is.taken ∷ [];
-  played = windows_more works tag plan stands turns probes faults course mode before after records closed day is;
+goes_on : {D : Type 0} (works : WindowWay) (shows : D → Shown) (course : DayCourse) (mode : Mode) (before after : HomeState D) (records : List WindowRecord) (closed : WindowRecord)
+    → IsUnderWayOn works shows course mode before records → HomeIsKept shows after
+    → IsPlayed works shows (script_of course) mode (length records) before after closed
+    → IsUnderWayOn works shows course mode after (records ++ closed ∷ [])
+goes_on {D = D} works shows course mode before after records closed day kept is = record {
+  takes = day.takes ++ is.worked.taken ∷ [];
+  played = windows_more works shows course mode before after records closed day is;
   left = record {
-    size = is.size ∙ day.left.size;
-    own = λ d y text at text_at. let x = device_before d y at in let on = is.devices d x.0 y x.1 at in let own = day.left.own d x.0 text x.1 text_at in
+    size = size_played is ∙ day.left.size;
+    own = λ d y text at text_at. let x = device_before d y at in let on = device_played is d x.0 y x.1 at in let own = day.left.own d x.0 text x.1 text_at in
         record { tag_is = on.same_tag ∙ own.tag_is; plan_is = λ p told. own.plan_is p (sym on.same_plan ∙ told) };
-    stand = rw (state_last course records closed, sym is.last) kept.stand;
-    turns_are = λ d y at. let x = device_before d y at in (is.devices d x.0 y x.1 at).turns_rose ∙ ap (λ n. n + slice_index_or closed.turns.items d 0) (day.left.turns_are d x.0 x.1)
+    stand = rw (state_last course records closed, sym is.worked.after.last) kept.stand;
+    turns_are = λ d y at. let x = device_before d y at in (device_played is d x.0 y x.1 at).turns_rose ∙ ap (λ n. n + slice_index_or closed.turns.items d 0) (day.left.turns_are d x.0 x.1)
         ∙ one_more_plus (course.begins.called d) (total (λ c. c.turns.items) records d) (slice_index_or closed.turns.items d 0) ∙ ap (one_more_where (course.begins.called d)) (sym (sum_more (λ c. slice_index_or c.turns.items d 0) records closed));
-    faults_are = λ d y at. let x = device_before d y at in (is.devices d x.0 y x.1 at).faults_rose ∙ ap (λ n. n + slice_index_or closed.faults.items d 0) (day.left.faults_are d x.0 x.1)
+    faults_are = λ d y at. let x = device_before d y at in (device_played is d x.0 y x.1 at).faults_rose ∙ ap (λ n. n + slice_index_or closed.faults.items d 0) (day.left.faults_are d x.0 x.1)
         ∙ one_more_plus (course.begins.failed d) (total (λ c. c.faults.items) records d) (slice_index_or closed.faults.items d 0) ∙ ap (one_more_where (course.begins.failed d)) (sym (sum_more (λ c. slice_index_or c.faults.items d 0) records closed));
   };
-  probed = λ d y at. let x = device_before d y at in (is.devices d x.0 y x.1 at).probes_rose ∙ ap (λ n. n + is.taken d) (day.probed d x.0 x.1) ∙ sym (sum_more (λ taken. taken d) day.takes is.taken);
-  kinds = is.kinds ∙ day.kinds;
-  world = is.last ∙ sym (state_last course records closed);
-  size = let homed = kept.size in let same = is.size in let all = day.left.size in omega (arith, homed, same, all);
-  up = λ none. is.up (none_fails works tag plan stands turns probes faults course mode before records closed day none);
-  opened = let n = length_more records closed in omega (arith, n, is.opened, day.opened);
+  probed = λ d y at. let x = device_before d y at in (device_played is d x.0 y x.1 at).probes_rose ∙ ap (λ n. n + is.worked.taken d) (day.probed d x.0 x.1) ∙ sym (sum_more (λ taken. taken d) day.takes is.worked.taken);
+  kinds = is.worked.after.kinds ∙ ap (λ w. w.kinds) (setting_played is) ∙ day.kinds;
+  world = is.worked.after.last ∙ sym (state_last course records closed);
+  size = let homed = kept.size in let same = size_played is in let all = day.left.size in omega (arith, homed, same, all);
+  up = λ none. is.worked.after.up (subst (λ w. NoneFails w closed.faults.items) (sym (setting_played is)) (none_fails works shows course mode before records closed day none));
+  opened = let n = length_more records closed in omega (arith, n, is.worked.after.opened, is.opens.opened.windows, day.opened);
 }
   where
     device_before : (d : ℕ) (y : D) → slice_get after.devices d ≡ Some y → (x : D) × (slice_get before.devices d ≡ Some x)
-    device_before d y at = at_place before.devices d (let within = slice_get_within after.devices d y at in omega (arith, within, is.size))
+    device_before d y at = at_place before.devices d (let within = slice_get_within after.devices d y at in omega (arith, within, size_played is))
 
 -- no window is played yet
-pub no_window : (works : Setting → WindowText → WindowRecord → (ℕ → ℕ) → Type 0) (course : DayCourse) (mode : Mode) → WindowsArePlayedOn works course mode [] []
+pub no_window : (works : WindowWay) (course : DayCourse) (mode : Mode) → WindowsArePlayedOn works course mode [] []
 no_window works course mode = record { count = omega (arith); legal = λ k c at. absurd (cc); worked = record { count = refl; each = λ k w c taken w_at at taken_at. absurd (cc) }; ends = λ k c at. absurd (cc); commits = λ served none k c at. absurd (cc) }
 
 -- where a device starts
@@ -163,11 +169,11 @@ start_at (t ∷ texts) zero text at = let same : t ≡ text = cc in ap start_sta
 start_at (t ∷ texts) (suc d) text at = start_at texts d text at
 
 -- new devices are those of a day that begins
-module _ {D : Type 0} (tag : D → ℕ) (plan : D → Option (List (ℕ × ℕ))) (stands turns probes faults : D → ℕ) (script : Script) (devices : List D) (are : AreNew tag plan stands turns probes faults script.devices.items devices) where
+module _ {D : Type 0} (shows : D → Shown) (script : Script) (devices : List D) (are : AreNew shows script.devices.items devices) where
   text_of : (d : ℕ) (device : D) → slice_get devices d ≡ Some device → (text : DeviceText) × (slice_get script.devices.items d ≡ Some text)
   text_of d device at = at_place script.devices.items d (let within = slice_get_within devices d device at in omega (arith, within, are.size))
 
-  pub new_left : AreLeftFrom tag plan stands turns faults (new_day script) [] devices
+  pub new_left : AreLeftFrom shows (new_day script) [] devices
   new_left = record {
     size = are.size;
     own = λ d device text at text_at. (are.each d device text at text_at).own;
@@ -176,16 +182,16 @@ module _ {D : Type 0} (tag : D → ℕ) (plan : D → Option (List (ℕ × ℕ))
     faults_are = λ d device at. let t = text_of d device at in (are.each d device t.0 at t.1).no_faults;
   }
 
-  pub new_unprobed : (d : ℕ) (device : D) → slice_get devices d ≡ Some device → probes device ≡ 0
+  pub new_unprobed : (d : ℕ) (device : D) → slice_get devices d ≡ Some device → (shows device).probes ≡ 0
   new_unprobed d device at = let t = text_of d device at in (are.each d device t.0 at t.1).no_probes
 
 -- a home in which a course begins has played no window
-pub starts_on : {D : Type 0} (works : Setting → WindowText → WindowRecord → (ℕ → ℕ) → Type 0) (tag : D → ℕ) (plan : D → Option (List (ℕ × ℕ))) (stands turns probes faults : D → ℕ) (course : DayCourse) (mode : Mode) (home : HomeState D)
-    → AreLeftFrom tag plan stands turns faults course.begins [] home.devices → ((d : ℕ) (device : D) → slice_get home.devices d ≡ Some device → probes device ≡ 0)
+pub starts_on : {D : Type 0} (works : WindowWay) (shows : D → Shown) (course : DayCourse) (mode : Mode) (home : HomeState D)
+    → AreLeftFrom shows course.begins [] home.devices → ((d : ℕ) (device : D) → slice_get home.devices d ≡ Some device → (shows device).probes ≡ 0)
     → home.kinds ≡ kinds_of course.begins.script → home.world ≡ course.begins.first → length home.world ≡ length course.begins.script.devices.items → home.opened ≡ 0
     → ((d : ℕ) → d < length home.world → course.down d ≡ false → (stand_at course.begins.first d).up ≡ true)
-    → IsUnderWayOn works tag plan stands turns probes faults course mode home []
-starts_on works tag plan stands turns probes faults course mode home left unprobed kinds world size opened ups = record {
+    → IsUnderWayOn works shows course mode home []
+starts_on works shows course mode home left unprobed kinds world size opened ups = record {
   takes = [];
   played = no_window works course mode;
   left = left;
@@ -198,44 +204,43 @@ starts_on works tag plan stands turns probes faults course mode home left unprob
 }
 
 -- a home of new devices has played no window
-pub starts : {D : Type 0} (works : Setting → WindowText → WindowRecord → (ℕ → ℕ) → Type 0) (tag : D → ℕ) (plan : D → Option (List (ℕ × ℕ))) (stands turns probes faults : D → ℕ) (script : Script) (mode : Mode) (home : HomeState D)
-    → AreNew tag plan stands turns probes faults script.devices.items home.devices → home.kinds ≡ kinds_of script → home.world ≡ start_home script → home.opened ≡ 0
-    → IsUnderWayOn works tag plan stands turns probes faults (new_course script) mode home []
-starts works tag plan stands turns probes faults script mode home are kinds world opened =
-    starts_on works tag plan stands turns probes faults (new_course script) mode home
-    (new_left tag plan stands turns probes faults script home.devices are) (new_unprobed tag plan stands turns probes faults script home.devices are) kinds world sized opened
+pub starts : {D : Type 0} (works : WindowWay) (shows : D → Shown) (script : Script) (mode : Mode) (home : HomeState D)
+    → AreNew shows script.devices.items home.devices → home.kinds ≡ kinds_of script → home.world ≡ start_home script → home.opened ≡ 0
+    → IsUnderWayOn works shows (new_course script) mode home []
+starts works shows script mode home are kinds world opened =
+    starts_on works shows (new_course script) mode home
+    (new_left shows script home.devices are) (new_unprobed shows script home.devices are) kinds world sized opened
     (λ d inside up. let t = at_place script.devices.items d (omega (arith, inside, sized)) in ap (λ s. s.up) (start_at script.devices.items d t.0 t.1))
   where
     sized : length home.world ≡ length script.devices.items
     sized = ap (λ w. length w) world ∙ length-map script.devices.items start_stand
 
 -- its last window left the home as it is
-pub last_state : {D : Type 0} (works : Setting → WindowText → WindowRecord → (ℕ → ℕ) → Type 0) (tag : D → ℕ) (plan : D → Option (List (ℕ × ℕ))) (stands turns probes faults : D → ℕ) (course : DayCourse) (mode : Mode) (home : HomeState D) (records more : List WindowRecord) (closed : WindowRecord)
-    → IsUnderWayOn works tag plan stands turns probes faults course mode home more → more ≡ records ++ closed ∷ [] → home.world ≡ closed.last.devices.items
-last_state works tag plan stands turns probes faults course mode home records more closed day all =
+pub last_state : {D : Type 0} (works : WindowWay) (shows : D → Shown) (course : DayCourse) (mode : Mode) (home : HomeState D) (records more : List WindowRecord) (closed : WindowRecord)
+    → IsUnderWayOn works shows course mode home more → more ≡ records ++ closed ∷ [] → home.world ≡ closed.last.devices.items
+last_state works shows course mode home records more closed day all =
     day.world ∙ ap (λ rs. state_from course.begins rs (length rs)) all ∙ state_last course records closed
 
 -- a day whose windows were all played is legal
-pub day_is_legal : {D : Type 0} (works : Setting → WindowText → WindowRecord → (ℕ → ℕ) → Type 0) (tag : D → ℕ) (plan : D → Option (List (ℕ × ℕ))) (stands turns probes faults : D → ℕ) (course : DayCourse) (mode : Mode) (home : HomeState D) (records : List WindowRecord)
-    → IsUnderWayOn works tag plan stands turns probes faults course mode home records → length records ≡ length (script_of course).windows.items
-    → IsLegalDayFrom tag plan stands turns faults course.begins mode records home.devices
-day_is_legal works tag plan stands turns probes faults course mode home records day all = record { count = all; legal = day.played.legal; left = day.left }
+pub day_is_legal : {D : Type 0} (works : WindowWay) (shows : D → Shown) (course : DayCourse) (mode : Mode) (home : HomeState D) (records : List WindowRecord)
+    → IsUnderWayOn works shows course mode home records → length records ≡ length (script_of course).windows.items
+    → IsLegalDayFrom shows course.begins mode records home.devices
+day_is_legal works shows course mode home records day all = record { count = all; legal = day.played.legal; left = day.left }
 
 -- a day that was cut short too
-pub cut_is_legal : {D : Type 0} (works : Setting → WindowText → WindowRecord → (ℕ → ℕ) → Type 0) (tag : D → ℕ) (plan : D → Option (List (ℕ × ℕ))) (stands turns probes faults : D → ℕ) (course : DayCourse) (mode : Mode) (home : HomeState D) (records : List WindowRecord)
-    → IsUnderWayOn works tag plan stands turns probes faults course mode home records → IsLegalCutDayFrom tag plan stands turns faults course.begins mode records home.devices
-cut_is_legal works tag plan stands turns probes faults course mode home records day = record { count = day.played.count; legal = day.played.legal; left = day.left }
+pub cut_is_legal : {D : Type 0} (works : WindowWay) (shows : D → Shown) (course : DayCourse) (mode : Mode) (home : HomeState D) (records : List WindowRecord)
+    → IsUnderWayOn works shows course mode home records → IsLegalCutDayFrom shows course.begins mode records home.devices
+cut_is_legal works shows course mode home records day = record { count = day.played.count; legal = day.played.legal; left = day.left }
 
 -- the windows of a day under way with one window more
-pub gone_on : {D : Type 0} (works : Setting → WindowText → WindowRecord → (ℕ → ℕ) → Type 0) (tag : D → ℕ) (plan : D → Option (List (ℕ × ℕ)))
-    (stands turns probes faults : D → ℕ) (course : DayCourse) (mode : Mode) (k : ℕ) (before after : HomeState D) (records more : List WindowRecord)
+pub gone_on : {D : Type 0} (works : WindowWay) (shows : D → Shown) (course : DayCourse) (mode : Mode) (before after : HomeState D) (records more : List WindowRecord)
     (closed : WindowRecord)
-    → IsUnderWayOn works tag plan stands turns probes faults course mode before records → HomeIsKept tag stands turns probes faults after → k ≡ length records
-    → IsPlayed works tag plan turns probes faults (script_of course) mode k before after closed → more ≡ records ++ closed ∷ []
-    → HasGoneOn works tag plan stands turns probes faults course mode records after more
-gone_on works tag plan stands turns probes faults course mode k before after records more closed day kept number is all = record {
+    → IsUnderWayOn works shows course mode before records → HomeIsKept shows after
+    → IsPlayed works shows (script_of course) mode (length records) before after closed → more ≡ records ++ closed ∷ []
+    → HasGoneOn works shows course mode records after more
+gone_on works shows course mode before after records more closed day kept is all = record {
   closed = closed;
   more = all;
-  under_way = subst (λ rs. IsUnderWayOn works tag plan stands turns probes faults course mode after rs) (sym all)
-      (goes_on works tag plan stands turns probes faults course mode before after records closed day kept (subst (λ n. IsPlayed works tag plan turns probes faults (script_of course) mode n before after closed) number is));
+  under_way = subst (λ rs. IsUnderWayOn works shows course mode after rs) (sym all)
+      (goes_on works shows course mode before after records closed day kept is);
 }

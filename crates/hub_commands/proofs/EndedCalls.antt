@@ -1,33 +1,46 @@
 -- A call that ended before its script was read.
+use Rattle.command_words.specs.declared.command_lines.CommandLine.TheVariants.{Check, Keep, Replay, Run, Trial, Watch}
 use Rattle.command_words.specs.declared.command_lines.CommandLine.{CommandLine}
-use Rattle.command_words.specs.declared.command_lines.Options.{Options}
-use Rattle.history_book.specs.Settings.{Setting}
-use Rattle.history_book.specs.declared.records.WindowRecord.{WindowRecord}
-use Rattle.hub_commands.specs.Calls.{AsksFor, CallEnds, EndsBefore}
-use Rattle.hub_commands.specs.Days.{Closing}
-use Rattle.hub_commands.specs.Finishes.{InputIsRead, IsUnwritten, Reads, Shown, Writes}
-use Rattle.hub_commands.specs.declared.faults.Fault.TheVariants.{Check, Cross, Damaged, Disk, Memory, Read, Script as Refuses, Words, Write}
+use Rattle.day_clock.specs.Sources.{TakesCount, TakesUpTo}
+use Rattle.device_states.specs.Devices.{Shown}
+use Rattle.hub_commands.specs.Calls.{CallEnds}
+use Rattle.hub_commands.specs.Checks.{CheckEnds}
+use Rattle.hub_commands.specs.Finishes.{InputIsRead, IsUnread, NoScriptIsRead, NothingIsPlayed, Reads, Writes}
+use Rattle.hub_commands.specs.Trials.{TrialEnds}
+use Rattle.hub_commands.specs.Ways.{WindowWay}
+use Rattle.hub_commands.specs.declared.faults.Fault.TheVariants.{Memory}
 use Rattle.hub_commands.specs.declared.faults.Fault.{Fault}
 use Rattle.hub_commands.specs.declared.finishes.Day.{Day}
-use Rattle.routine_reader.specs.declared.scripts.WindowText.{WindowText}
-use Rattle.std.proofs.Common.{inl, subst, sym}
-use Rattle.std.specs.Prelude.{Err, None, Option, Some, ℕ, ◌≡◌}
+use Rattle.std.proofs.Common.{arith, inl, inr, refl, subst, sym}
+use Rattle.std.specs.Prelude.{Err, List, None, Option, Some, ℕ, ◌≡◌}
 
-pub refused_call : {D : Type 0} (works : Setting → WindowText → WindowRecord → (ℕ → ℕ) → Type 0) (shown : Shown D) (closing : Closing) (line : Option CommandLine) (options : Options) (source : Reads) (sink : Writes) (day : Option (Day D)) (fault : Option Fault) (e : Fault)
-    → AsksFor closing line options → InputIsRead source (Err e) → day ≡ None → IsUnwritten sink → fault ≡ Some e → CallEnds works shown line source sink day fault
-refused_call {D = D} works shown closing line options source sink day fault e asked read no_day unwritten is =
-    subst (λ f. CallEnds works shown line source sink day f) (sym is) (by_fault e read)
+-- no byte was taken
+none_taken : (source : Reads) (n : ℕ) → IsUnread source → TakesUpTo source.left source.rest n
+none_taken source n unread = subst (λ rest. TakesUpTo source.left rest n) (sym unread.0) (0, omega arith, of_none source.left)
   where
-    before : EndsBefore line sink day
-    before = record { closing = closing; options = options; asked = asked; no_day = no_day; unwritten = unwritten }
+    of_none : (left : Option (List ℕ)) → TakesCount left left 0
+    of_none None = tt
+    of_none (Some bytes) = (omega arith, refl)
 
-    by_fault : (x : Fault) → InputIsRead source (Err x) → CallEnds works shown line source sink day (Some x)
-    by_fault (Refuses refusal) r = inl (before, r)
-    by_fault Words r = absurd r
-    by_fault Read r = inl (before, r)
-    by_fault Write r = absurd r
-    by_fault Memory r = inl (no_day, unwritten, r)
-    by_fault (Check window place name) r = absurd r
-    by_fault (Cross window run follow) r = absurd r
-    by_fault Disk r = absurd r
-    by_fault (Damaged slot) r = absurd r
+-- memory was wanted before a byte was read
+pub starved_input : (source : Reads) (fault : Option Fault) → fault ≡ Some Memory → IsUnread source → NoScriptIsRead source fault
+starved_input source fault is unread = record { why = Memory; is = is; input = (unread.1, none_taken source _ unread) }
+
+-- why no script was read
+pub no_script : (source : Reads) (fault : Option Fault) (why : Fault) → InputIsRead source (Err why) → fault ≡ Some why → NoScriptIsRead source fault
+no_script source fault why input is = record { why = why; is = is; input = input }
+
+module _ {D : Type 0} (works : WindowWay) (shows : D → Shown) (source : Reads) (sink : Writes) (day : Option (Day D)) (fault : Option Fault) where
+  -- the words are of this command, or of none that the call takes
+  pub asked_for : (line asked : Option CommandLine) → line ≡ asked → CallEnds works shows asked source sink day fault → CallEnds works shows line source sink day fault
+  asked_for line asked is ends = subst (λ l. CallEnds works shows l source sink day fault) (sym is) ends
+
+  -- memory was wanted for reading the words
+  pub starved_words : (line : Option CommandLine) → fault ≡ Some Memory → IsUnread source → NothingIsPlayed sink day → CallEnds works shows line source sink day fault
+  starved_words None is unread nothing = ((inr is, unread), nothing)
+  starved_words (Some (Replay options)) is unread nothing = inl (starved_input source fault is unread, nothing)
+  starved_words (Some (Run options)) is unread nothing = inl (starved_input source fault is unread, nothing)
+  starved_words (Some (Watch options)) is unread nothing = inl (starved_input source fault is unread, nothing)
+  starved_words (Some (Keep options)) is unread nothing = (is, unread, nothing)
+  starved_words (Some Check) is unread nothing = (nothing.0, subst (λ f. CheckEnds source sink f) (sym is) (nothing.1, (unread.1, none_taken source _ unread)))
+  starved_words (Some (Trial number)) is unread nothing = (unread, subst (λ f. TrialEnds shows number sink day f) (sym is) (nothing.1, inl nothing.0))

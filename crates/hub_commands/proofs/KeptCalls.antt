@@ -1,7 +1,6 @@
 -- A call that keeps the states of a day: how it ends, from how its parts have.
-use Rattle.command_words.specs.declared.command_lines.CommandLine.TheVariants.{Keep}
-use Rattle.command_words.specs.declared.command_lines.CommandLine.{CommandLine}
 use Rattle.command_words.specs.declared.command_lines.Options.{Options}
+use Rattle.device_states.specs.Devices.{Shown}
 use Rattle.history_book.specs.declared.records.WindowRecord.{WindowRecord}
 use Rattle.home_journal.proofs.Moments.{then_on, weaker}
 use Rattle.home_journal.specs.Disks.{LeavesThis}
@@ -13,17 +12,18 @@ use Rattle.home_types.specs.Limits.{most_windows}
 use Rattle.home_types.specs.declared.kinds.Kind.{Kind}
 use Rattle.home_types.specs.declared.worlds.Stand.{Stand}
 use Rattle.hub_commands.proofs.KeptStates.{bad_within, none_kept}
-use Rattle.hub_commands.specs.Finishes.{InputIsRead, IsRead, IsUnwritten, Reads, Shown, Writes}
-use Rattle.hub_commands.specs.KeepCalls.{DayGoesOn, DayIsKept, IsJournalOpened, IsUnkept, JournalIsOpened, KeepEnds, ScriptIsKept, opening_fault}
+use Rattle.hub_commands.specs.Finishes.{IsUnread, NoScriptIsRead, NothingIsPlayed, Reads, Writes}
+use Rattle.hub_commands.specs.KeepCalls.{DayGoesOn, IsJournalOpened, JournalIsOpened, KeepEnds, opening_fault}
 use Rattle.hub_commands.specs.KeptDays.{HasEndedBehind, IsDiskLeft, last_states, windows_of}
 use Rattle.hub_commands.specs.Ways.{IsReplayOf}
-use Rattle.hub_commands.specs.declared.faults.Fault.TheVariants.{Check, Cross, Damaged, Disk, Memory, Read, Script as Refuses, Words, Write}
 use Rattle.hub_commands.specs.declared.faults.Fault.{Fault}
 use Rattle.hub_commands.specs.declared.finishes.Day.{Day}
 use Rattle.routine_reader.specs.Rosters.{kinds_of}
 use Rattle.routine_reader.specs.declared.scripts.Script.{Script}
 use Rattle.std.proofs.Common.{ap, arith, inl, inr, refl, subst, sym, ◌∙◌}
 use Rattle.std.specs.Prelude.{Bool, Err, List, None, Ok, Option, Some, length, true, ℕ, ◌<◌, ◌≡◌, ◌≤◌, ◌⊎◌}
+use Rattle.hub_commands.proofs.EndedCalls.{starved_input}
+use Rattle.hub_commands.specs.declared.faults.Fault.TheVariants.{Memory}
 
 module _ {Q : Type 0} (told : Bool) (seen : Q → List ℕ) (images : Q → List ℕ → Type 0) (moment : Q → ℕ) (since : Q → ℕ → List ℕ → Type 0) (failures : Q → ℕ) (script : Script) (disk now : Q) where
   abbrev own_kinds : List Kind
@@ -55,30 +55,13 @@ module _ {Q : Type 0} (told : Bool) (seen : Q → List ℕ) (images : Q → List
         any_moment = any_moment;
       }
 
-module _ {D Q : Type 0} (shown : Shown D) (told : Bool) (seen : Q → List ℕ) (images : Q → List ℕ → Type 0) (moment : Q → ℕ) (since : Q → ℕ → List ℕ → Type 0) (failures : Q → ℕ) where
+module _ {D Q : Type 0} (shows : D → Shown) (told : Bool) (seen : Q → List ℕ) (images : Q → List ℕ → Type 0) (moment : Q → ℕ) (since : Q → ℕ → List ℕ → Type 0) (failures : Q → ℕ) where
   module _ (script : Script) (options : Options) (sink : Writes) (disk now : Q) (day : Option (Day D)) where
     abbrev kinds : List Kind
     kinds = kinds_of script
 
     abbrev most : ℕ
     most = length script.windows.items
-
-    -- the journal was not opened
-    pub unopened : (error : Fault) (why : Option Fault) → JournalIsOpened told seen images moment since failures script disk (Err (now, error)) → day ≡ None → IsUnwritten sink → why ≡ Some error
-        → ScriptIsKept shown told seen images moment since failures script options sink disk now day why
-    unopened error why opened no_day unwritten is =
-        subst (λ (w : Option Fault). ScriptIsKept shown told seen images moment since failures script options sink disk now day w) (sym is) (by_error error opened)
-      where
-        by_error : (e : Fault) → JournalIsOpened told seen images moment since failures script disk (Err (now, e)) → ScriptIsKept shown told seen images moment since failures script options sink disk now day (Some e)
-        by_error (Refuses fault) o = absurd o
-        by_error Words o = absurd o
-        by_error Read o = absurd o
-        by_error Write o = absurd o
-        by_error Memory o = inl (no_day, unwritten, o)
-        by_error (Check window place name) o = absurd o
-        by_error (Cross window run follow) o = absurd o
-        by_error Disk o = inl (no_day, unwritten, o)
-        by_error (Damaged slot) o = (no_day, unwritten, o)
 
     module _ (journal : JournalState Q) (opened : IsJournalOpened told seen images moment since failures script disk journal) (durable : told ≡ true → LeavesThis (seen journal.disk) (images journal.disk)) where
       -- what the disk keeps, the journal keeps
@@ -105,9 +88,10 @@ module _ {D Q : Type 0} (shown : Shown D) (told : Bool) (seen : Q → List ℕ) 
         durable = is.durable;
       }
 
-      day_goes_on : (fault : Option Fault) → HasEndedBehind IsReplayOf shown told seen images moment since failures script journal.kept journal.last options sink journal.disk now day fault
-          → DayGoesOn shown told seen images moment since failures script options sink disk now day fault
-      day_goes_on fault is = record {
+      -- the journal was opened, and the day has ended
+      pub opened_ends : (fault : Option Fault) → HasEndedBehind IsReplayOf shows told seen images moment since failures script journal.kept journal.last options sink journal.disk now day fault
+          → DayGoesOn shows told seen images moment since failures script options sink disk now day fault
+      opened_ends fault is = record {
         kept = journal.kept;
         last = journal.last;
         knows = opened.knows;
@@ -123,54 +107,11 @@ module _ {D Q : Type 0} (shown : Shown D) (told : Bool) (seen : Q → List ℕ) 
         };
       }
 
-      -- the journal was opened, and the day has ended
-      pub opened_ends : (fault : Option Fault) → HasEndedBehind IsReplayOf shown told seen images moment since failures script journal.kept journal.last options sink journal.disk now day fault
-          → ScriptIsKept shown told seen images moment since failures script options sink disk now day fault
-      opened_ends None is = day_goes_on None is
-      opened_ends (Some (Refuses fault)) is = absurd is.ended.ends
-      opened_ends (Some Words) is = absurd is.ended.ends
-      opened_ends (Some Read) is = absurd is.ended.ends
-      opened_ends (Some Write) is = day_goes_on (Some Write) is
-      opened_ends (Some Memory) is = inr (day_goes_on (Some Memory) is)
-      opened_ends (Some (Check window place name)) is = absurd is.ended.ends
-      opened_ends (Some (Cross window run follow)) is = absurd is.ended.ends
-      opened_ends (Some Disk) is = inr (day_goes_on (Some Disk) is)
-      opened_ends (Some (Damaged slot)) is = absurd is.ended.ends
+  -- no script was read, and the disk was not called
+  module _ (source : Reads) (sink : Writes) (disk now : Q) (day : Option (Day D)) (fault : Option Fault) (nothing : NothingIsPlayed sink day) (uncalled : now ≡ disk) where
+    pub starved_keep : (asked : Option Options) → fault ≡ Some Memory → IsUnread source → KeepEnds shows told seen images moment since failures asked source sink disk now day fault
+    starved_keep None is unread = ((inr is, unread), nothing, uncalled)
+    starved_keep (Some options) is unread = inl (starved_input source fault is unread, nothing, uncalled)
 
-  module _ (line : Option CommandLine) (source : Reads) (sink : Writes) (disk now : Q) (day : Option (Day D)) (options : Options) (asked : line ≡ Some (Keep options)) where
-    -- the call ended before its script was read
-    pub refused_keep : (fault : Option Fault) (error : Fault) → InputIsRead source (Err error) → day ≡ None → IsUnwritten sink → now ≡ disk → fault ≡ Some error
-        → KeepEnds shown told seen images moment since failures line source sink disk now day fault
-    refused_keep fault error read no_day unwritten uncalled is =
-        subst (λ (f : Option Fault). KeepEnds shown told seen images moment since failures line source sink disk now day f) (sym is) (by_error error read)
-      where
-        before : IsUnkept line sink disk now day
-        before = record { options = options; asked = asked; no_day = no_day; unwritten = unwritten; uncalled = uncalled }
-
-        by_error : (e : Fault) → InputIsRead source (Err e) → KeepEnds shown told seen images moment since failures line source sink disk now day (Some e)
-        by_error (Refuses refusal) r = (before, r)
-        by_error Words r = absurd r
-        by_error Read r = (before, r)
-        by_error Write r = absurd r
-        by_error Memory r = inl (no_day, unwritten, uncalled, r)
-        by_error (Check window place name) r = absurd r
-        by_error (Cross window run follow) r = absurd r
-        by_error Disk r = absurd r
-        by_error (Damaged slot) r = absurd r
-
-    -- its script was read
-    pub script_kept : (fault : Option Fault) (script : Script) → IsRead source script → ScriptIsKept shown told seen images moment since failures script options sink disk now day fault
-        → KeepEnds shown told seen images moment since failures line source sink disk now day fault
-    script_kept fault script read ends = by_fault fault (record { options = options; asked = asked; script = script; read = read; ends = ends })
-      where
-        by_fault : (f : Option Fault) → DayIsKept shown told seen images moment since failures line source sink disk now day f → KeepEnds shown told seen images moment since failures line source sink disk now day f
-        by_fault None is = is
-        by_fault (Some (Refuses refusal)) is = absurd is.ends
-        by_fault (Some Words) is = absurd is.ends
-        by_fault (Some Read) is = absurd is.ends
-        by_fault (Some Write) is = is
-        by_fault (Some Memory) is = inr is
-        by_fault (Some (Check window place name)) is = absurd is.ends
-        by_fault (Some (Cross window run follow)) is = absurd is.ends
-        by_fault (Some Disk) is = is
-        by_fault (Some (Damaged slot)) is = is
+    pub refused_keep : (asked : Option Options) (options : Options) → asked ≡ Some options → NoScriptIsRead source fault → KeepEnds shows told seen images moment since failures asked source sink disk now day fault
+    refused_keep asked options is unread = subst (λ (a : Option Options). KeepEnds shows told seen images moment since failures a source sink disk now day fault) (sym is) (inl (unread, nothing, uncalled))

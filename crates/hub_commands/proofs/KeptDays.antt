@@ -1,6 +1,6 @@
 -- A day that is kept: one window more, and how it ends.
 use Rattle.command_words.specs.declared.command_lines.Options.{Options}
-use Rattle.history_book.specs.Settings.{Setting}
+use Rattle.device_states.specs.Devices.{Shown}
 use Rattle.history_book.specs.declared.records.WindowRecord.{WindowRecord}
 use Rattle.home_journal.proofs.Moments.{then_on, weaker}
 use Rattle.home_journal.specs.Disks.{LeavesOnly, LeavesThis}
@@ -13,10 +13,11 @@ use Rattle.hub_commands.proofs.DaysUnderWay.{cut_is_legal}
 use Rattle.hub_commands.proofs.KeptStates.{all_kept, first_kept, next_kept, states_more, surely_few}
 use Rattle.hub_commands.proofs.Snocs.{length_more}
 use Rattle.hub_commands.specs.Days.{DayCourse, DevicesAreProbed, plain}
-use Rattle.hub_commands.specs.Finishes.{DayEndsOn, Shown, Writes}
+use Rattle.hub_commands.specs.Finishes.{DayEndsOn, Writes}
 use Rattle.hub_commands.specs.Going.{IsGoingOn}
 use Rattle.hub_commands.specs.KeptDays.{HandsAllBack, HasEndedKept, IsDiskLeft, IsJournalSoFar, IsUnkeptOn, KeepsAtLeast, KeptDayEnds, last_states, windows_of}
 use Rattle.hub_commands.specs.Played.{HasGoneOn}
+use Rattle.hub_commands.specs.Ways.{WindowWay}
 use Rattle.hub_commands.specs.declared.faults.Fault.TheVariants.{Check, Cross, Damaged, Disk, Memory, Read, Script as Refuses, Words, Write}
 use Rattle.hub_commands.specs.declared.faults.Fault.{Fault}
 use Rattle.hub_commands.specs.declared.finishes.Day.{Day}
@@ -24,28 +25,27 @@ use Rattle.hub_core.specs.Homes.{HomeState}
 use Rattle.legal_days.specs.LegalDays.{IsLegalCutDayFrom, windows_behind}
 use Rattle.routine_reader.specs.Rosters.{kinds_of}
 use Rattle.routine_reader.specs.declared.scripts.Script.{Script}
-use Rattle.routine_reader.specs.declared.scripts.WindowText.{WindowText}
 use Rattle.std.proofs.Common.{ap, append-nil, append_assoc, arith, inl, inr, refl, subst, sym, ◌∙◌}
 use Rattle.std.proofs.lemmas.List.{length-drop, length-map}
 use Rattle.std.specs.Prelude.{Bool, List, None, Ok, Option, Some, [], length, true, ℕ, ◌+◌, ◌++◌, ◌-◌, ◌<◌, ◌∷◌, ◌≡◌, ◌≤◌, ◌⊎◌}
 
 -- what ends without a failing disk
-pub day_kept : {D : Type 0} (works : Setting → WindowText → WindowRecord → (ℕ → ℕ) → Type 0) (shown : Shown D) (course : DayCourse) (options : Options) (sink : Writes) (day : Option (Day D)) (fault : Option Fault)
-    → DayEndsOn works shown plain course options sink day fault → KeptDayEnds works shown course options sink day fault
-day_kept works shown course options sink day None ends = ends
-day_kept works shown course options sink day (Some (Refuses fault)) ends = ends
-day_kept works shown course options sink day (Some Words) ends = ends
-day_kept works shown course options sink day (Some Read) ends = ends
-day_kept works shown course options sink day (Some Write) ends = ends
-day_kept works shown course options sink day (Some Memory) ends = ends
-day_kept works shown course options sink day (Some (Check window place name)) ends = ends
-day_kept works shown course options sink day (Some (Cross window run follow)) ends = ends
-day_kept works shown course options sink day (Some Disk) ends = absurd ends
-day_kept works shown course options sink day (Some (Damaged slot)) ends = ends
+pub day_kept : {D : Type 0} (works : WindowWay) (shows : D → Shown) (course : DayCourse) (options : Options) (sink : Writes) (day : Option (Day D)) (fault : Option Fault)
+    → DayEndsOn works shows plain course options sink day fault → KeptDayEnds works shows course options sink day fault
+day_kept works shows course options sink day None ends = ends
+day_kept works shows course options sink day (Some (Refuses fault)) ends = ends
+day_kept works shows course options sink day (Some Words) ends = ends
+day_kept works shows course options sink day (Some Read) ends = ends
+day_kept works shows course options sink day (Some Write) ends = ends
+day_kept works shows course options sink day (Some Memory) ends = ends
+day_kept works shows course options sink day (Some (Check window place name)) ends = ends
+day_kept works shows course options sink day (Some (Cross window run follow)) ends = ends
+day_kept works shows course options sink day (Some Disk) ends = absurd ends
+day_kept works shows course options sink day (Some (Damaged slot)) ends = ends
 
-no_disk : {D : Type 0} (works : Setting → WindowText → WindowRecord → (ℕ → ℕ) → Type 0) (shown : Shown D) (course : DayCourse) (options : Options) (sink : Writes) (day : Option (Day D)) (fault : Option Fault)
-    → DayEndsOn works shown plain course options sink day fault → fault ≡ Some Disk → ⊥
-no_disk works shown course options sink day fault ends is = subst (λ (w : Option Fault). DayEndsOn works shown plain course options sink day w) is ends
+no_disk : {D : Type 0} (works : WindowWay) (shows : D → Shown) (course : DayCourse) (options : Options) (sink : Writes) (day : Option (Day D)) (fault : Option Fault)
+    → DayEndsOn works shows plain course options sink day fault → fault ≡ Some Disk → ⊥
+no_disk works shows course options sink day fault ends is = subst (λ (w : Option Fault). DayEndsOn works shows plain course options sink day w) is ends
 
 -- where all windows behind so many are there
 pub behind_all : (script : Script) (before n : ℕ) → n ≡ length script.windows.items - before → n ≡ length (windows_behind before script).windows.items
@@ -161,16 +161,16 @@ module _ {Q : Type 0} (told : Bool) (seen : Q → List ℕ) (images : Q → List
             );
       }
 
-  module _ {D : Type 0} (works : Setting → WindowText → WindowRecord → (ℕ → ℕ) → Type 0) (shown : Shown D) (course : DayCourse) (options : Options) where
+  module _ {D : Type 0} (works : WindowWay) (shows : D → Shown) (course : DayCourse) (options : Options) where
     -- a day that has ended without a failing disk
     pub ended_kept : (sink : Writes) (first now : Q) (records : List WindowRecord) (journal : JournalState Q) (day : Option (Day D)) (fault : Option Fault)
         → IsJournalSoFar told seen images moment since failures script before first records journal → now ≡ journal.disk → (told ≡ true → LeavesThis (seen now) (images now))
-        → DayEndsOn works shown plain course options sink day fault → windows_of day ≡ records
-        → HasEndedKept works shown told seen images moment since failures script course options sink first now day fault
+        → DayEndsOn works shows plain course options sink day fault → windows_of day ≡ records
+        → HasEndedKept works shows told seen images moment since failures script course options sink first now day fault
     ended_kept sink first now records journal day fault so same durable ends windows = record {
-      ends = day_kept works shown course options sink day fault ends;
+      ends = day_kept works shows course options sink day fault ends;
       later = subst (λ d. failures first ≤ failures d) (sym same) so.later;
-      failed = λ is. absurd (no_disk works shown course options sink day fault ends is);
+      failed = λ is. absurd (no_disk works shows course options sink day fault ends is);
       disk = λ true_told homes kept. subst (λ rs. IsDiskLeft seen images moment since kinds most homes first now rs fault) (sym windows)
           (all_left first now records journal fault so same durable true_told homes kept);
     }
@@ -178,32 +178,32 @@ module _ {Q : Type 0} (told : Bool) (seen : Q → List ℕ) (images : Q → List
     -- a day whose last window may not be kept
     pub ended_unkept : (sink : Writes) (first now : Q) (home next : HomeState D) (records : List WindowRecord) (windows : Listed WindowRecord) (journal : JournalState Q) (day : Option (Day D)) (fault : Option Fault)
         → ((disk : Q) (t : ℕ) (c : List ℕ) → t ≤ moment disk → images disk c → since disk t c)
-        → IsGoingOn works shown course options sink home records → IsJournalSoFar told seen images moment since failures script before first records journal
-        → HasGoneOn works shown.tag shown.plan shown.stands shown.turns shown.probes shown.faults course options.mode records next windows.items
+        → IsGoingOn works shows course options sink home records → IsJournalSoFar told seen images moment since failures script before first records journal
+        → HasGoneOn works shows course options.mode records next windows.items
         → (state : List Stand) → ((closed : WindowRecord) → windows.items ≡ records ++ closed ∷ [] → state ≡ closed.last.devices.items)
         → (told ≡ true → LeavesFirst seen moment since journal now (state ∷ [])) → failures journal.disk < failures now
         → HandsAllBack next.devices windows day → fault ≡ Some Disk
-        → HasEndedKept works shown told seen images moment since failures script course options sink first now day fault
+        → HasEndedKept works shows told seen images moment since failures script course options sink first now day fault
     ended_unkept sink first now home next records windows journal day fault counts_now going so gone state last any failed back is =
-        subst (λ (f : Option Fault). HasEndedKept works shown told seen images moment since failures script course options sink first now day f) (sym is)
-        (subst (λ (o : Option (Day D)). HasEndedKept works shown told seen images moment since failures script course options sink first now o (Some Disk)) (sym back.2) (record {
+        subst (λ (f : Option Fault). HasEndedKept works shows told seen images moment since failures script course options sink first now day f) (sym is)
+        (subst (λ (o : Option (Day D)). HasEndedKept works shows told seen images moment since failures script course options sink first now o (Some Disk)) (sym back.2) (record {
           ends = unkept;
           later = let was = so.later in omega (arith, was, failed);
           failed = λ disk. let was = so.later in omega (arith, was, failed);
           disk = λ true_told homes kept. unkept_left first records journal so windows.items gone.closed gone.more state (last gone.closed gone.more) counts_now now any true_told homes kept;
         }))
       where
-        unkept : IsUnkeptOn works shown course options sink (Some (record { windows = windows; devices = Some back.0 }))
+        unkept : IsUnkeptOn works shows course options sink (Some (record { windows = windows; devices = Some back.0 }))
         unkept = record {
           day = record { windows = windows; devices = Some back.0 };
           given = refl;
           devices = back.0;
           there = refl;
-          legal = subst (λ ds. IsLegalCutDayFrom shown.tag shown.plan shown.stands shown.turns shown.faults course.begins options.mode windows.items ds) (sym back.1)
-              (cut_is_legal works shown.tag shown.plan shown.stands shown.turns shown.probes shown.faults course options.mode next windows.items gone.under_way);
+          legal = subst (λ ds. IsLegalCutDayFrom shows course.begins options.mode windows.items ds) (sym back.1)
+              (cut_is_legal works shows course options.mode next windows.items gone.under_way);
           takes = gone.under_way.takes;
           played = gone.under_way.played;
-          probed = subst (λ ds. DevicesAreProbed shown.probes gone.under_way.takes ds) (sym back.1) gone.under_way.probed;
+          probed = subst (λ ds. DevicesAreProbed shows gone.under_way.takes ds) (sym back.1) gone.under_way.probed;
           before = records;
           unkept = gone.closed;
           last = gone.more;

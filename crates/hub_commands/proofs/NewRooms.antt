@@ -1,7 +1,7 @@
 -- The home of a room, built from the room's devices alone.
+use Rattle.device_states.specs.Devices.{Shown}
 use Rattle.home_types.proofs.Snocs.{snoc_get}
 use Rattle.home_types.specs.declared.memory.NoMemory.{NoMemory}
-use Rattle.hub_commands.specs.Finishes.{Shown}
 use Rattle.hub_commands.specs.RoomGoing.{IsNewHome}
 use Rattle.hub_core.specs.Homes.{AreNew, HomeState, IsNew}
 use Rattle.legal_days.proofs.Lists.{at_place}
@@ -19,7 +19,7 @@ map_twice : {X Y Z : Type 0} (g : Y → Z) (f : X → Y) (xs : List X) → map g
 map_twice g f [] = refl
 map_twice g f (x ∷ xs) = ap (λ l. g (f x) ∷ l) (map_twice g f xs)
 
-module _ {D : Type 0} (shown : Shown D) (own texts : List DeviceText) (same : plain_devices own ≡ plain_devices texts) where
+module _ {D : Type 0} (shows : D → Shown) (own texts : List DeviceText) (same : plain_devices own ≡ plain_devices texts) where
   size : length own ≡ length texts
   size = sym (length-map own plain_device) ∙ ap (λ l. length l) same ∙ length-map texts plain_device
 
@@ -27,13 +27,13 @@ module _ {D : Type 0} (shown : Shown D) (own texts : List DeviceText) (same : pl
   seen : {X : Type 0} (f : PlainDevice → X) → map (λ d. f (plain_device d)) own ≡ map (λ d. f (plain_device d)) texts
   seen f = sym (map_twice f plain_device own) ∙ ap (map f) same ∙ map_twice f plain_device texts
 
-  are_new : (devices : List D) → AreNew shown.tag shown.plan shown.stands shown.turns shown.probes shown.faults own devices → AreNew shown.tag shown.plan shown.stands shown.turns shown.probes shown.faults texts devices
+  are_new : (devices : List D) → AreNew shows own devices → AreNew shows texts devices
   are_new devices are = record {
     size = are.size ∙ size;
     each = λ d device text at text_at. by d device text at text_at (at_place own d (let within = slice_get_within texts d text text_at in omega (arith, within, size)));
   }
     where
-      by : (d : ℕ) (device : D) (text : DeviceText) → slice_get devices d ≡ Some device → slice_get texts d ≡ Some text → (mine : DeviceText) × (slice_get own d ≡ Some mine) → IsNew shown.tag shown.plan shown.stands shown.turns shown.probes shown.faults text d device
+      by : (d : ℕ) (device : D) (text : DeviceText) → slice_get devices d ≡ Some device → slice_get texts d ≡ Some text → (mine : DeviceText) × (slice_get own d ≡ Some mine) → IsNew shows text d device
       by d device text at text_at (mine, mine_at) =
           let both : Some (plain_device mine) ≡ Some (plain_device text) = sym (slice_get-map plain_device own d ∙ ap (option_map plain_device) mine_at) ∙ ap (λ l. slice_get l d) same ∙ slice_get-map plain_device texts d ∙ ap (option_map plain_device) text_at in
           let plain : plain_device mine ≡ plain_device text = cc in
@@ -47,7 +47,7 @@ module _ {D : Type 0} (shown : Shown D) (own texts : List DeviceText) (same : pl
           }
 
   pub new_home : (result : Result (HomeState D) NoMemory) → IfOk result (λ home. home.kinds ≡ map (λ d. d.kind) own) → IfOk result (λ home. home.world ≡ map start_stand own) → IfOk result (λ home. home.opened ≡ 0)
-      → IfOk result (λ home. AreNew shown.tag shown.plan shown.stands shown.turns shown.probes shown.faults own home.devices) → IfOk result (IsNewHome shown texts)
+      → IfOk result (λ home. AreNew shows own home.devices) → IfOk result (IsNewHome shows texts)
   new_home (Err e) kinds world opened devices = tt
   new_home (Ok home) kinds world opened devices = record {
     kinds = kinds ∙ seen (λ p. p.kind);
@@ -57,10 +57,10 @@ module _ {D : Type 0} (shown : Shown D) (own texts : List DeviceText) (same : pl
   }
 
 -- one home more
-pub one_home_more : {D : Type 0} (shown : Shown D) (script : Script) (homes : List (HomeState D)) (home : HomeState D) (more : List (HomeState D)) → more ≡ homes ++ home ∷ [] → (room : ℕ) → length homes ≡ room
-    → IsNewHome shown (room_devices script room) home → ((k : ℕ) (x : HomeState D) → slice_get homes k ≡ Some x → IsNewHome shown (room_devices script k) x)
-    → (k : ℕ) (x : HomeState D) → slice_get more k ≡ Some x → IsNewHome shown (room_devices script k) x
-one_home_more {D = D} shown script homes home more is room count new each k x at = elim (snoc_get homes home x k (ap (λ l. slice_get l k) (sym is) ∙ at)) [
+pub one_home_more : {D : Type 0} (shows : D → Shown) (script : Script) (homes : List (HomeState D)) (home : HomeState D) (more : List (HomeState D)) → more ≡ homes ++ home ∷ [] → (room : ℕ) → length homes ≡ room
+    → IsNewHome shows (room_devices script room) home → ((k : ℕ) (x : HomeState D) → slice_get homes k ≡ Some x → IsNewHome shows (room_devices script k) x)
+    → (k : ℕ) (x : HomeState D) → slice_get more k ≡ Some x → IsNewHome shows (room_devices script k) x
+one_home_more {D = D} shows script homes home more is room count new each k x at = elim (snoc_get homes home x k (ap (λ l. slice_get l k) (sym is) ∙ at)) [
   | inl old ↦ each k x old
-  | inr last ↦ (let P : ℕ × HomeState D → Type 0 = λ q. IsNewHome shown (room_devices script q.0) q.1 in subst P (λ i. (sym (last.0 ∙ count) i, last.1 i)) new)
+  | inr last ↦ (let P : ℕ × HomeState D → Type 0 = λ q. IsNewHome shows (room_devices script q.0) q.1 in subst P (λ i. (sym (last.0 ∙ count) i, last.1 i)) new)
 ]

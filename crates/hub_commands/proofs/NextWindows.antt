@@ -1,14 +1,13 @@
 -- The next window of a day: opened, worked, and what came of it.
-use Rattle.history_book.specs.Settings.{Setting}
+use Rattle.device_states.specs.Devices.{Shown}
 use Rattle.history_book.specs.declared.records.WindowRecord.{WindowRecord}
 use Rattle.home_types.specs.Listed.{Listed}
 use Rattle.home_types.specs.declared.modes.Mode.{Mode}
 use Rattle.hub_commands.proofs.DaysUnderWay.{gone_on}
-use Rattle.hub_commands.proofs.PlayedWindows.{as_played}
 use Rattle.hub_commands.specs.Days.{DayCourse, IsUnderWayOn, course_behind, script_of}
-use Rattle.hub_commands.specs.Finishes.{Shown}
 use Rattle.hub_commands.specs.Going.{NextIs, PlaysOneMore}
 use Rattle.hub_commands.specs.Played.{HasGoneOn, IsWorkedAs, NextIsOpened, setting_on}
+use Rattle.hub_commands.specs.Ways.{WindowWay}
 use Rattle.hub_commands.specs.declared.plays.DayUnderWay.{DayUnderWay}
 use Rattle.hub_core.specs.HubCalls.{IsOpened}
 use Rattle.hub_core.specs.Homes.{HomeIsKept, HomeState}
@@ -20,7 +19,7 @@ use Rattle.routine_reader.specs.declared.scripts.Script.{Script}
 use Rattle.routine_reader.specs.declared.scripts.WindowText.{WindowText}
 use Rattle.run_replay.proofs.Opening.{fresh_where}
 use Rattle.std.proofs.Common.{ap, arith, refl, subst, sym, ◌∙◌}
-use Rattle.std.specs.Prelude.{Err, IfErr, IfOk, List, Ok, Option, Result, Some, [], drop, length, map, option_map, slice_get, suc, unwrap_or, zero, ℕ, ◌+◌, ◌++◌, ◌∷◌, ◌≡◌}
+use Rattle.std.specs.Prelude.{Err, IfErr, IfOk, List, Ok, Result, Some, [], drop, length, map, option_map, slice_get, suc, unwrap_or, zero, ℕ, ◌+◌, ◌++◌, ◌∷◌, ◌≡◌}
 
 get_behind : {X : Type 0} (xs : List X) (n k : ℕ) → slice_get (drop n xs) k ≡ slice_get xs (n + k)
 get_behind xs zero k = let none : k ≡ 0 + k = omega (arith) in ap (λ i. slice_get xs i) none
@@ -32,12 +31,12 @@ pub behind_at : (script : Script) (before k : ℕ) (window : WindowText) → sli
 behind_at script before k window at = get_behind script.windows.items before k ∙ at
 
 -- it is opened as that of its number in the whole script
-pub opened_behind : {D : Type 0} (tag turns probes faults : D → ℕ) (script : Script) (mode : Mode) (before k : ℕ) (home : HomeState D) (hub : OpenHub D) → NextIsOpened tag turns probes faults script mode (before + k) home hub
-    → NextIsOpened tag turns probes faults (windows_behind before script) mode k home hub
-opened_behind tag turns probes faults script mode before k home hub is = record {
+pub opened_behind : {D : Type 0} (shows : D → Shown) (script : Script) (mode : Mode) (before k : ℕ) (home : HomeState D) (hub : OpenHub D) → NextIsOpened shows script mode (before + k) home hub
+    → NextIsOpened shows (windows_behind before script) mode k home hub
+opened_behind shows script mode before k home hub is = record {
   window = is.window;
   at = behind_at script before k is.window is.at;
-  opened = subst (λ runs. IsOpened turns probes faults (record { runs = runs; mode = mode; kinds = home.kinds; first = home.world }) is.window.probes home hub) same is.opened;
+  opened = subst (λ runs. IsOpened shows (record { runs = runs; mode = mode; kinds = home.kinds; first = home.world }) is.window.probes home hub) same is.opened;
   numbered = is.numbered;
 }
   where
@@ -45,52 +44,50 @@ opened_behind tag turns probes faults script mode before k home hub is = record 
     same = ap (λ o. unwrap_or (option_map (λ (t : WindowText). map (run_of_text script) t.runs.items) o) []) (sym (get_behind script.windows.items before k))
 
 -- nothing was done in it yet
-pub next_fresh : {D : Type 0} (tag turns probes faults : D → ℕ) (script : Script) (mode : Mode) (k : ℕ) (home : HomeState D) (hub : OpenHub D) → NextIsOpened tag turns probes faults script mode k home hub
+pub next_fresh : {D : Type 0} (shows : D → Shown) (script : Script) (mode : Mode) (k : ℕ) (home : HomeState D) (hub : OpenHub D) → NextIsOpened shows script mode k home hub
     → configuration_of hub ≡ opened hub.setting hub.rounds
-next_fresh tag turns probes faults script mode k home hub is = fresh_where turns probes faults (setting_on script mode k home) is.window.probes home hub is.opened
+next_fresh shows script mode k home hub is = fresh_where shows (setting_on script mode k home) is.window.probes home hub is.opened
 
-same_window : {D : Type 0} (tag turns probes faults : D → ℕ) (script : Script) (mode : Mode) (k : ℕ) (window : WindowText) (home : HomeState D) (hub : OpenHub D) → (is : NextIsOpened tag turns probes faults script mode k home hub)
+same_window : {D : Type 0} (shows : D → Shown) (script : Script) (mode : Mode) (k : ℕ) (window : WindowText) (home : HomeState D) (hub : OpenHub D) → (is : NextIsOpened shows script mode k home hub)
     → slice_get script.windows.items k ≡ Some window → is.window ≡ window
-same_window tag turns probes faults script mode k window home hub is at = let both : Some is.window ≡ Some window = sym is.at ∙ at in cc
+same_window shows script mode k window home hub is at = let both : Some is.window ≡ Some window = sym is.at ∙ at in cc
 
 -- its rounds are those of its text
-pub next_rounds : {D : Type 0} (tag turns probes faults : D → ℕ) (script : Script) (mode : Mode) (k : ℕ) (window : WindowText) (home : HomeState D) (hub : OpenHub D) → NextIsOpened tag turns probes faults script mode k home hub
+pub next_rounds : {D : Type 0} (shows : D → Shown) (script : Script) (mode : Mode) (k : ℕ) (window : WindowText) (home : HomeState D) (hub : OpenHub D) → NextIsOpened shows script mode k home hub
     → slice_get script.windows.items k ≡ Some window → hub.rounds ≡ window.probes
-next_rounds tag turns probes faults script mode k window home hub is at = is.opened.rounds_are ∙ ap (λ v. v.probes) (same_window tag turns probes faults script mode k window home hub is at)
+next_rounds shows script mode k window home hub is at = is.opened.rounds_are ∙ ap (λ v. v.probes) (same_window shows script mode k window home hub is at)
 
 -- its home has the kinds of the one that it was opened on
-pub next_kinds : {D : Type 0} (works : Setting → WindowText → WindowRecord → (ℕ → ℕ) → Type 0) (tag : D → ℕ) (plan : D → Option (List (ℕ × ℕ)))
-    (turns probes faults : D → ℕ) (script : Script) (mode : Mode) (k : ℕ) (window : WindowText) (before after : HomeState D) (hub : OpenHub D)
+pub next_kinds : {D : Type 0} (works : WindowWay) (shows : D → Shown) (script : Script) (mode : Mode) (k : ℕ) (window : WindowText) (before after : HomeState D) (hub : OpenHub D)
     (closed : WindowRecord)
-    → NextIsOpened tag turns probes faults script mode k before hub → IsWorkedAs works tag plan turns probes faults hub window after closed → after.kinds ≡ before.kinds
-next_kinds works tag plan turns probes faults script mode k window before after hub closed is worked = worked.kinds ∙ ap (λ c. c.setting.kinds) is.opened.configuration
+    → NextIsOpened shows script mode k before hub → IsWorkedAs works shows hub window after closed → after.kinds ≡ before.kinds
+next_kinds works shows script mode k window before after hub closed is worked = worked.after.kinds ∙ ap (λ c. c.setting.kinds) is.opened.configuration
 
 -- the day has gone on by the window that was worked
-pub next_gone : {D : Type 0} (works : Setting → WindowText → WindowRecord → (ℕ → ℕ) → Type 0) (tag : D → ℕ) (plan : D → Option (List (ℕ × ℕ)))
-    (stands turns probes faults : D → ℕ) (course : DayCourse) (mode : Mode) (window : WindowText) (before after : HomeState D) (hub : OpenHub D)
+pub next_gone : {D : Type 0} (works : WindowWay) (shows : D → Shown) (course : DayCourse) (mode : Mode) (window : WindowText) (before after : HomeState D) (hub : OpenHub D)
     (records more : List WindowRecord) (closed : WindowRecord)
-    → IsUnderWayOn works tag plan stands turns probes faults course mode before records → NextIsOpened tag turns probes faults (script_of course) mode (length records) before hub
-    → slice_get (script_of course).windows.items (length records) ≡ Some window → IsWorkedAs works tag plan turns probes faults hub window after closed
-    → HomeIsKept tag stands turns probes faults after → more ≡ records ++ closed ∷ []
-    → HasGoneOn works tag plan stands turns probes faults course mode records after more
-next_gone works tag plan stands turns probes faults course mode window before after hub records more closed day is at worked kept all =
-    gone_on works tag plan stands turns probes faults course mode (length records) before after records more closed day kept refl
-    (as_played works tag plan turns probes faults (script_of course) mode (length records) window (setting_on (script_of course) mode (length records) before) before after hub closed at refl
-    (subst (λ v. IsOpened turns probes faults (setting_on (script_of course) mode (length records) before) v.probes before hub) (same_window tag turns probes faults (script_of course) mode (length records) window before hub is at) is.opened)
-    is.numbered worked)
-    all
+    → IsUnderWayOn works shows course mode before records → NextIsOpened shows (script_of course) mode (length records) before hub
+    → slice_get (script_of course).windows.items (length records) ≡ Some window → IsWorkedAs works shows hub window after closed
+    → HomeIsKept shows after → more ≡ records ++ closed ∷ []
+    → HasGoneOn works shows course mode records after more
+next_gone works shows course mode window before after hub records more closed day is at worked kept all =
+    gone_on works shows course mode before after records more closed day kept (record {
+      hub = hub;
+      opens = is;
+      worked = subst (λ v. IsWorkedAs works shows hub v after closed) (sym (same_window shows (script_of course) mode (length records) window before hub is at)) worked;
+    }) all
 
 -- what came of the next window behind so many of the script
-pub next_played : {D : Type 0} (works : Setting → WindowText → WindowRecord → (ℕ → ℕ) → Type 0) (shown : Shown D) (script : Script) (before : ℕ) (mode : Mode) (day : DayUnderWay D) (course : DayCourse) (next : Result (DayUnderWay D) (Listed WindowRecord))
-    → IsUnderWayOn works shown.tag shown.plan shown.stands shown.turns shown.probes shown.faults (course_behind script before course) mode day.home day.windows.items
-    → IfOk next (λ played. PlaysOneMore works shown.tag shown.plan shown.stands shown.turns shown.probes shown.faults script before mode day played) → IfErr next (λ windows. windows.items ≡ day.windows.items)
-    → NextIs works shown (course_behind script before course) mode day.windows.items next
-next_played works shown script before mode day course (Ok next) under played same = played course under
-next_played works shown script before mode day course (Err windows) under played same = same
+pub next_played : {D : Type 0} (works : WindowWay) (shows : D → Shown) (script : Script) (before : ℕ) (mode : Mode) (day : DayUnderWay D) (course : DayCourse) (next : Result (DayUnderWay D) (Listed WindowRecord))
+    → IsUnderWayOn works shows (course_behind script before course) mode day.home day.windows.items
+    → IfOk next (λ played. PlaysOneMore works shows script before mode day played) → IfErr next (λ windows. windows.items ≡ day.windows.items)
+    → NextIs works shows (course_behind script before course) mode day.windows.items next
+next_played works shows script before mode day course (Ok next) under played same = played course under
+next_played works shows script before mode day course (Err windows) under played same = same
 
 -- what came of it
-pub next_is : {D : Type 0} (works : Setting → WindowText → WindowRecord → (ℕ → ℕ) → Type 0) (shown : Shown D) (course : DayCourse) (mode : Mode) (records : List WindowRecord) (next : Result (DayUnderWay D) (Listed WindowRecord))
-    → IfOk next (λ day. HasGoneOn works shown.tag shown.plan shown.stands shown.turns shown.probes shown.faults course mode records day.home day.windows.items) → IfErr next (λ windows. windows.items ≡ records)
-    → NextIs works shown course mode records next
-next_is works shown course mode records (Ok day) gone same = gone
-next_is works shown course mode records (Err windows) gone same = same
+pub next_is : {D : Type 0} (works : WindowWay) (shows : D → Shown) (course : DayCourse) (mode : Mode) (records : List WindowRecord) (next : Result (DayUnderWay D) (Listed WindowRecord))
+    → IfOk next (λ day. HasGoneOn works shows course mode records day.home day.windows.items) → IfErr next (λ windows. windows.items ≡ records)
+    → NextIs works shows course mode records next
+next_is works shows course mode records (Ok day) gone same = gone
+next_is works shows course mode records (Err windows) gone same = same

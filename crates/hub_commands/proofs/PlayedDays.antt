@@ -1,7 +1,7 @@
 -- The day of a script: what holds before each window, and how it ends.
 use Rattle.day_report.specs.Days.{head_text, total_text, window_text}
 use Rattle.command_words.specs.declared.command_lines.Options.{Options}
-use Rattle.history_book.specs.Settings.{Setting}
+use Rattle.device_states.specs.Devices.{Shown}
 use Rattle.history_book.specs.declared.records.WindowRecord.{WindowRecord}
 use Rattle.day_clock.specs.Sinks.{AppendsPart}
 use Rattle.home_types.specs.Listed.{Listed}
@@ -12,16 +12,16 @@ use Rattle.hub_commands.proofs.DaysUnderWay.{cut_is_legal, day_is_legal, no_wind
 use Rattle.hub_commands.proofs.Snocs.{no_snoc, snoc_front}
 use Rattle.hub_commands.proofs.Texts.{appends_keeps, appends_more, due_whole, keeps_appends, part_more, part_wider, text_more, text_starts, text_whole, whole_first}
 use Rattle.hub_commands.specs.Days.{DayCourse, DevicesAreProbed, IsUnderWayOn, WindowsArePlayedOn, plain, script_of, text_due_on, text_on}
-use Rattle.hub_commands.specs.Finishes.{AppendsFirst, DayEndsOn, IsCutOn, IsStarvedOn, IsWholeOn, IsWrittenAsClosedOn, Shown, written}
+use Rattle.hub_commands.specs.Finishes.{AppendsFirst, DayEndsOn, IsCutOn, IsStarvedOn, IsWholeOn, IsWrittenAsClosedOn, written}
 use Rattle.hub_commands.specs.Going.{IsGoingOn}
 use Rattle.hub_commands.specs.Pieces.{PieceEnds, StopEnds}
 use Rattle.hub_commands.specs.Played.{HasGoneOn}
+use Rattle.hub_commands.specs.Ways.{WindowWay}
 use Rattle.hub_commands.specs.declared.faults.Fault.TheVariants.{Memory as WantsMemory}
 use Rattle.hub_commands.specs.declared.faults.Fault.{Fault}
 use Rattle.hub_commands.specs.declared.finishes.Day.{Day}
 use Rattle.hub_commands.specs.declared.pieces.PieceFault.TheVariants.{Memory, Sink}
 use Rattle.hub_commands.specs.declared.pieces.PieceFault.{PieceFault}
-use Rattle.routine_reader.specs.declared.scripts.WindowText.{WindowText}
 use Rattle.std.proofs.Common.{ap, append-nil, append_assoc, arith, refl, subst, sym, ◌∙◌}
 use Rattle.std.specs.Io.KnownBytes.{Appends, Keeps}
 use Rattle.std.specs.Prelude.{Err, IfOk, List, None, Ok, Option, Result, Some, [], if◌then◌else◌, length, take, ℕ, ◌+◌, ◌++◌, ◌==◌, ◌∷◌, ◌≡◌}
@@ -76,33 +76,33 @@ lead_whole course options held holds f f_after records bytes leads got =
     lead_written course options held holds f f_after records bytes [] leads (subst (λ t. Appends held holds t) (sym (append-nil bytes)) got)
 
 -- a piece was not written: the sink has all before it, and a first part of it
-stopped : {D M : Type 0} (works : Setting → WindowText → WindowRecord → (ℕ → ℕ) → Type 0) (shown : Shown D) (course : DayCourse) (options : Options)
+stopped : {D M : Type 0} (works : WindowWay) (shows : D → Shown) (course : DayCourse) (options : Options)
     (held mid holds : Option (List ℕ)) (f f_mid f_after : ℕ) (home : HomeState D) (windows : Listed WindowRecord) (before : List ℕ) (piece : Result (List ℕ) M)
     (fault : PieceFault) (day : Option (Day D)) (why : Option Fault)
-    → IsUnderWayOn works shown.tag shown.plan shown.stands shown.turns shown.probes shown.faults course options.mode home windows.items
+    → IsUnderWayOn works shows course options.mode home windows.items
     → Appends held mid before → LeadWith course options windows.items before → f_mid ≡ f
     → PieceEnds (written mid holds f_mid f_after) piece (Err fault) → StopEnds windows home.devices fault day why
     → (tail : List ℕ) × (text_due_on plain course options.mode options.trace windows.items ≡ before ++ tail)
     → ((bytes : List ℕ) → piece ≡ Ok bytes → (rest : List ℕ) × (text_due_on plain course options.mode options.trace windows.items ≡ (before ++ bytes) ++ rest))
-    → DayEndsOn works shown plain course options (written held holds f f_after) day why
-stopped works shown course options held mid holds f f_mid f_after home windows before piece Sink day why under first leads calm ended stop tail due =
+    → DayEndsOn works shows plain course options (written held holds f f_after) day why
+stopped works shows course options held mid holds f f_mid f_after home windows before piece Sink day why under first leads calm ended stop tail due =
     let rest = due ended.0 ended.1 in
-    let cut : IsCutOn works shown plain course options (written held holds f f_after) day = record {
+    let cut : IsCutOn works shows plain course options (written held holds f f_after) day = record {
       day = record { windows = windows; devices = Some stop.0 };
       given = stop.2;
       devices = stop.0;
       there = refl;
-      legal = subst (λ ds. IsLegalCutDayFrom shown.tag shown.plan shown.stands shown.turns shown.faults course.begins options.mode windows.items ds) (sym stop.1)
-          (cut_is_legal works shown.tag shown.plan shown.stands shown.turns shown.probes shown.faults course options.mode home windows.items under);
+      legal = subst (λ ds. IsLegalCutDayFrom shows course.begins options.mode windows.items ds) (sym stop.1)
+          (cut_is_legal works shows course options.mode home windows.items under);
       takes = under.takes;
       played = under.played;
-      probed = subst (λ ds. DevicesAreProbed shown.probes under.takes ds) (sym stop.1) under.probed;
+      probed = subst (λ ds. DevicesAreProbed shows under.takes ds) (sym stop.1) under.probed;
       text = subst (λ t. AppendsPart held holds t) (sym rest.1) (part_wider held holds (before ++ ended.0) rest.0 (part_more held mid holds before ended.0 first ended.2));
       as_closed = lead_written course options held holds f f_after windows.items before (take ended.2.0 ended.0) leads (appends_more held mid holds before (take ended.2.0 ended.0) first ended.2.2);
       failed = let late = ended.3 in omega (arith, late, calm);
     } in
-    subst (λ (w : Option Fault). DayEndsOn works shown plain course options (written held holds f f_after) day w) (sym stop.3) cut
-stopped works shown course options held mid holds f f_mid f_after home windows before piece Memory day why under first leads calm ended stop tail due =
+    subst (λ (w : Option Fault). DayEndsOn works shows plain course options (written held holds f f_after) day w) (sym stop.3) cut
+stopped works shows course options held mid holds f f_mid f_after home windows before piece Memory day why under first leads calm ended stop tail due =
     let starved : IsStarvedOn works plain course options (written held holds f f_after) day = record {
       day = record { windows = windows; devices = None };
       given = stop.0;
@@ -113,22 +113,22 @@ stopped works shown course options held mid holds f f_mid f_after home windows b
       as_closed = lead_whole course options held holds f f_after windows.items before leads (appends_keeps held mid holds before first ended.0);
       calm = ended.1 ∙ calm;
     } in
-    subst (λ (w : Option Fault). DayEndsOn works shown plain course options (written held holds f f_after) day w) (sym stop.1) starved
+    subst (λ (w : Option Fault). DayEndsOn works shows plain course options (written held holds f f_after) day w) (sym stop.1) starved
 
 -- the home before its first window
-home_starts : {D : Type 0} (works : Setting → WindowText → WindowRecord → (ℕ → ℕ) → Type 0) (shown : Shown D) (course : DayCourse) (mode : Mode) (home : HomeState D) (records : List WindowRecord)
-    → IsUnderWayOn works shown.tag shown.plan shown.stands shown.turns shown.probes shown.faults course mode home [] → records ≡ []
-    → IsUnderWayOn works shown.tag shown.plan shown.stands shown.turns shown.probes shown.faults course mode home records
-home_starts works shown course mode home records starts none =
-    subst (λ rs. IsUnderWayOn works shown.tag shown.plan shown.stands shown.turns shown.probes shown.faults course mode home rs) (sym none) starts
+home_starts : {D : Type 0} (works : WindowWay) (shows : D → Shown) (course : DayCourse) (mode : Mode) (home : HomeState D) (records : List WindowRecord)
+    → IsUnderWayOn works shows course mode home [] → records ≡ []
+    → IsUnderWayOn works shows course mode home records
+home_starts works shows course mode home records starts none =
+    subst (λ rs. IsUnderWayOn works shows course mode home rs) (sym none) starts
 
 -- the head is written, with the lines below it
-pub begun : {D M : Type 0} (works : Setting → WindowText → WindowRecord → (ℕ → ℕ) → Type 0) (shown : Shown D) (course : DayCourse) (options : Options) (held holds : Option (List ℕ)) (f f_after : ℕ) (home : HomeState D) (records : List WindowRecord) (piece : Result (List ℕ) M)
-    → IsUnderWayOn works shown.tag shown.plan shown.stands shown.turns shown.probes shown.faults course options.mode home [] → records ≡ []
+pub begun : {D M : Type 0} (works : WindowWay) (shows : D → Shown) (course : DayCourse) (options : Options) (held holds : Option (List ℕ)) (f f_after : ℕ) (home : HomeState D) (records : List WindowRecord) (piece : Result (List ℕ) M)
+    → IsUnderWayOn works shows course options.mode home [] → records ≡ []
     → IfOk piece (λ b. b ≡ head_text options.mode ++ course.above) → PieceEnds (written held holds f f_after) piece (Ok tt)
-    → IsGoingOn works shown course options (written held holds f f_after) home records
-begun works shown course options held holds f f_after home records piece starts none ok ended = record {
-  under_way = home_starts works shown course options.mode home records starts none;
+    → IsGoingOn works shows course options (written held holds f f_after) home records
+begun works shows course options held holds f f_after home records piece starts none ok ended = record {
+  under_way = home_starts works shows course options.mode home records starts none;
   text = subst (λ t. Appends held holds t)
       (said piece (head_text options.mode ++ course.above) ended.0 ok ended.1 ∙ sym (text_starts course options.mode options.trace) ∙ ap (λ rs. text_on course options.mode options.trace rs) (sym none)) ended.2;
   calm = ended.3;
@@ -140,15 +140,15 @@ head_alone (Ok bytes) mode is = is ∙ sym (append-nil (head_text mode))
 head_alone (Err e) mode is = tt
 
 -- the head is not written
-pub head_stopped : {D M : Type 0} (works : Setting → WindowText → WindowRecord → (ℕ → ℕ) → Type 0) (shown : Shown D) (course : DayCourse) (options : Options)
+pub head_stopped : {D M : Type 0} (works : WindowWay) (shows : D → Shown) (course : DayCourse) (options : Options)
     (held holds : Option (List ℕ)) (f f_after : ℕ) (home : HomeState D) (windows : Listed WindowRecord) (piece : Result (List ℕ) M) (fault : PieceFault)
     (day : Option (Day D)) (why : Option Fault)
-    → IsUnderWayOn works shown.tag shown.plan shown.stands shown.turns shown.probes shown.faults course options.mode home [] → windows.items ≡ []
+    → IsUnderWayOn works shows course options.mode home [] → windows.items ≡ []
     → IfOk piece (λ b. b ≡ head_text options.mode ++ course.above) → PieceEnds (written held holds f f_after) piece (Err fault) → StopEnds windows home.devices fault day why
-    → DayEndsOn works shown plain course options (written held holds f f_after) day why
-head_stopped works shown course options held holds f f_after home windows piece fault day why starts none ok ended stop =
-    stopped works shown course options held held holds f f f_after home windows [] piece fault day why
-    (home_starts works shown course options.mode home windows.items starts none)
+    → DayEndsOn works shows plain course options (written held holds f f_after) day why
+head_stopped works shows course options held holds f f_after home windows piece fault day why starts none ok ended stop =
+    stopped works shows course options held held holds f f f_after home windows [] piece fault day why
+    (home_starts works shows course options.mode home windows.items starts none)
     (keeps_appends held held (keeps_same held)) (none_leads course options windows.items [] none) refl ended stop
     (text_due_on plain course options.mode options.trace windows.items, refl)
     (λ bytes is. (
@@ -158,13 +158,13 @@ head_stopped works shown course options held holds f f_after home windows piece 
     ))
 
 -- a window was played, and its lines are written
-pub goes_on : {D M : Type 0} (works : Setting → WindowText → WindowRecord → (ℕ → ℕ) → Type 0) (shown : Shown D) (course : DayCourse) (options : Options) (held mid holds : Option (List ℕ)) (f f_mid f_after : ℕ) (home next : HomeState D) (records more : List WindowRecord) (piece : Result (List ℕ) M)
-    → IsGoingOn works shown course options (written held mid f f_mid) home records
-    → HasGoneOn works shown.tag shown.plan shown.stands shown.turns shown.probes shown.faults course options.mode records next more
+pub goes_on : {D M : Type 0} (works : WindowWay) (shows : D → Shown) (course : DayCourse) (options : Options) (held mid holds : Option (List ℕ)) (f f_mid f_after : ℕ) (home next : HomeState D) (records more : List WindowRecord) (piece : Result (List ℕ) M)
+    → IsGoingOn works shows course options (written held mid f f_mid) home records
+    → HasGoneOn works shows course options.mode records next more
     → ((before : List WindowRecord) (closed : WindowRecord) → more ≡ before ++ closed ∷ [] → IfOk piece (λ lines. lines ≡ window_text course.begins.script (course.begins.before + length before) closed options.mode options.trace))
     → PieceEnds (written mid holds f_mid f_after) piece (Ok tt)
-    → IsGoingOn works shown course options (written held holds f f_after) next more
-goes_on works shown course options held mid holds f f_mid f_after home next records more piece day gone lines ended =
+    → IsGoingOn works shows course options (written held holds f f_after) next more
+goes_on works shows course options held mid holds f f_mid f_after home next records more piece day gone lines ended =
     let own = said piece (window_text course.begins.script (course.begins.before + length records) gone.closed options.mode options.trace) ended.0 (lines records gone.closed gone.more) ended.1 in
     record {
       under_way = gone.under_way;
@@ -175,16 +175,16 @@ goes_on works shown course options held mid holds f f_mid f_after home next reco
     }
 
 -- its lines are not written
-pub lines_stopped : {D M : Type 0} (works : Setting → WindowText → WindowRecord → (ℕ → ℕ) → Type 0) (shown : Shown D) (course : DayCourse) (options : Options)
+pub lines_stopped : {D M : Type 0} (works : WindowWay) (shows : D → Shown) (course : DayCourse) (options : Options)
     (held mid holds : Option (List ℕ)) (f f_mid f_after : ℕ) (home next : HomeState D) (records : List WindowRecord) (windows : Listed WindowRecord)
     (piece : Result (List ℕ) M) (fault : PieceFault) (day : Option (Day D)) (why : Option Fault)
-    → IsGoingOn works shown course options (written held mid f f_mid) home records
-    → HasGoneOn works shown.tag shown.plan shown.stands shown.turns shown.probes shown.faults course options.mode records next windows.items
+    → IsGoingOn works shows course options (written held mid f f_mid) home records
+    → HasGoneOn works shows course options.mode records next windows.items
     → ((before : List WindowRecord) (closed : WindowRecord) → windows.items ≡ before ++ closed ∷ [] → IfOk piece (λ lines. lines ≡ window_text course.begins.script (course.begins.before + length before) closed options.mode options.trace))
     → PieceEnds (written mid holds f_mid f_after) piece (Err fault) → StopEnds windows next.devices fault day why
-    → DayEndsOn works shown plain course options (written held holds f f_after) day why
-lines_stopped works shown course options held mid holds f f_mid f_after home next records windows piece fault day why under gone lines ended stop =
-    stopped works shown course options held mid holds f f_mid f_after next windows (text_on course options.mode options.trace records) piece fault day why
+    → DayEndsOn works shows plain course options (written held holds f f_after) day why
+lines_stopped works shows course options held mid holds f f_mid f_after home next records windows piece fault day why under gone lines ended stop =
+    stopped works shows course options held mid holds f f_mid f_after next windows (text_on course options.mode options.trace records) piece fault day why
     gone.under_way under.text (rest_lead course options records gone.closed windows.items gone.more) under.calm ended stop
     (own ++ after_texts course windows.items, due ∙ append_assoc (text_on course options.mode options.trace records) own (after_texts course windows.items))
     (λ bytes is. (
@@ -201,16 +201,16 @@ lines_stopped works shown course options held mid holds f f_mid f_after home nex
         (ap (λ rs. text_on course options.mode options.trace rs) gone.more ∙ text_more course options.mode options.trace records gone.closed)
 
 -- the total is not written
-pub total_stopped : {D M : Type 0} (works : Setting → WindowText → WindowRecord → (ℕ → ℕ) → Type 0) (shown : Shown D) (course : DayCourse) (options : Options)
+pub total_stopped : {D M : Type 0} (works : WindowWay) (shows : D → Shown) (course : DayCourse) (options : Options)
     (held mid holds : Option (List ℕ)) (f f_mid f_after : ℕ) (home : HomeState D) (windows : Listed WindowRecord) (piece : Result (List ℕ) M)
     (fault : PieceFault) (day : Option (Day D)) (why : Option Fault)
-    → IsGoingOn works shown course options (written held mid f f_mid) home windows.items
+    → IsGoingOn works shows course options (written held mid f f_mid) home windows.items
     → length windows.items ≡ length (script_of course).windows.items
     → IfOk piece (λ b. b ≡ total_text windows.items)
     → PieceEnds (written mid holds f_mid f_after) piece (Err fault) → StopEnds windows home.devices fault day why
-    → DayEndsOn works shown plain course options (written held holds f f_after) day why
-total_stopped works shown course options held mid holds f f_mid f_after home windows piece fault day why under all ok ended stop =
-    stopped works shown course options held mid holds f f_mid f_after home windows (text_on course options.mode options.trace windows.items) piece fault day why
+    → DayEndsOn works shows plain course options (written held holds f f_after) day why
+total_stopped works shows course options held mid holds f f_mid f_after home windows piece fault day why under all ok ended stop =
+    stopped works shows course options held mid holds f f_mid f_after home windows (text_on course options.mode options.trace windows.items) piece fault day why
     under.under_way under.text (all_lead course options windows.items) under.calm ended stop
     (after_texts course windows.items, refl)
     (λ bytes is. (
@@ -221,24 +221,24 @@ total_stopped works shown course options held mid holds f f_mid f_after home win
     ))
 
 -- all is written
-pub finished : {D M : Type 0} (works : Setting → WindowText → WindowRecord → (ℕ → ℕ) → Type 0) (shown : Shown D) (course : DayCourse) (options : Options)
+pub finished : {D M : Type 0} (works : WindowWay) (shows : D → Shown) (course : DayCourse) (options : Options)
     (held mid holds : Option (List ℕ)) (f f_mid f_after : ℕ) (home : HomeState D) (windows : Listed WindowRecord) (devices : Listed D)
     (piece : Result (List ℕ) M)
-    → IsGoingOn works shown course options (written held mid f f_mid) home windows.items
+    → IsGoingOn works shows course options (written held mid f f_mid) home windows.items
     → length windows.items ≡ length (script_of course).windows.items
     → IfOk piece (λ b. b ≡ total_text windows.items)
     → PieceEnds (written mid holds f_mid f_after) piece (Ok tt) → devices.items ≡ home.devices
-    → IsWholeOn works shown plain course options (written held holds f f_after) (Some (record { windows = windows; devices = Some devices }))
-finished works shown course options held mid holds f f_mid f_after home windows devices piece day all ok ended same = record {
+    → IsWholeOn works shows plain course options (written held holds f f_after) (Some (record { windows = windows; devices = Some devices }))
+finished works shows course options held mid holds f f_mid f_after home windows devices piece day all ok ended same = record {
   day = record { windows = windows; devices = Some devices };
   given = refl;
   devices = devices;
   there = refl;
-  legal = subst (λ ds. IsLegalDayFrom shown.tag shown.plan shown.stands shown.turns shown.faults course.begins options.mode windows.items ds) (sym same)
-      (day_is_legal works shown.tag shown.plan shown.stands shown.turns shown.probes shown.faults course options.mode home windows.items day.under_way all);
+  legal = subst (λ ds. IsLegalDayFrom shows course.begins options.mode windows.items ds) (sym same)
+      (day_is_legal works shows course options.mode home windows.items day.under_way all);
   takes = day.under_way.takes;
   played = day.under_way.played;
-  probed = subst (λ ds. DevicesAreProbed shown.probes day.under_way.takes ds) (sym same) day.under_way.probed;
+  probed = subst (λ ds. DevicesAreProbed shows day.under_way.takes ds) (sym same) day.under_way.probed;
   text = subst (λ t. Appends held holds t)
       (ap (λ t. text_on course options.mode options.trace windows.items ++ t) (said piece (total_text windows.items) ended.0 ok ended.1) ∙ text_whole course options.mode options.trace windows.items)
       (appends_more held mid holds (text_on course options.mode options.trace windows.items) ended.0 day.text ended.2);
@@ -246,13 +246,13 @@ finished works shown course options held mid holds f f_mid f_after home windows 
 }
 
 -- no memory for the next window
-pub starved : {D : Type 0} (works : Setting → WindowText → WindowRecord → (ℕ → ℕ) → Type 0) (shown : Shown D) (course : DayCourse) (options : Options)
+pub starved : {D : Type 0} (works : WindowWay) (shows : D → Shown) (course : DayCourse) (options : Options)
     (held holds : Option (List ℕ)) (f f_after : ℕ) (home : HomeState D) (records : List WindowRecord) (windows : Listed WindowRecord) (day : Option (Day D))
     (why : Option Fault)
-    → IsGoingOn works shown course options (written held holds f f_after) home records → windows.items ≡ records
+    → IsGoingOn works shows course options (written held holds f f_after) home records → windows.items ≡ records
     → day ≡ Some (record { windows = windows; devices = None }) → why ≡ Some WantsMemory
-    → DayEndsOn works shown plain course options (written held holds f f_after) day why
-starved works shown course options held holds f f_after home records windows day why under same given because =
+    → DayEndsOn works shows plain course options (written held holds f f_after) day why
+starved works shows course options held holds f f_after home records windows day why under same given because =
     let ends : IsStarvedOn works plain course options (written held holds f f_after) day = record {
       day = record { windows = windows; devices = None };
       given = given;
@@ -265,13 +265,13 @@ starved works shown course options held holds f f_after home records windows day
           (lead_whole course options held holds f f_after records (text_on course options.mode options.trace records) (all_lead course options records) under.text);
       calm = under.calm;
     } in
-    subst (λ (w : Option Fault). DayEndsOn works shown plain course options (written held holds f f_after) day w) (sym because) ends
+    subst (λ (w : Option Fault). DayEndsOn works shows plain course options (written held holds f f_after) day w) (sym because) ends
 
 -- no memory for the home
-pub unbuilt : {D : Type 0} (works : Setting → WindowText → WindowRecord → (ℕ → ℕ) → Type 0) (shown : Shown D) (course : DayCourse) (options : Options) (held : Option (List ℕ)) (f : ℕ) (windows : Listed WindowRecord) (day : Option (Day D)) (why : Option Fault)
+pub unbuilt : {D : Type 0} (works : WindowWay) (shows : D → Shown) (course : DayCourse) (options : Options) (held : Option (List ℕ)) (f : ℕ) (windows : Listed WindowRecord) (day : Option (Day D)) (why : Option Fault)
     → windows.items ≡ [] → day ≡ Some (record { windows = windows; devices = None }) → why ≡ Some WantsMemory
-    → DayEndsOn works shown plain course options (written held held f f) day why
-unbuilt works shown course options held f windows day why none given because =
+    → DayEndsOn works shows plain course options (written held held f f) day why
+unbuilt works shows course options held f windows day why none given because =
     let ends : IsStarvedOn works plain course options (written held held f f) day = record {
       day = record { windows = windows; devices = None };
       given = given;
@@ -282,4 +282,4 @@ unbuilt works shown course options held f windows day why none given because =
       as_closed = lead_whole course options held held f f windows.items [] (none_leads course options windows.items [] none) (keeps_appends held held (keeps_same held));
       calm = refl;
     } in
-    subst (λ (w : Option Fault). DayEndsOn works shown plain course options (written held held f f) day w) (sym because) ends
+    subst (λ (w : Option Fault). DayEndsOn works shows plain course options (written held held f f) day w) (sym because) ends

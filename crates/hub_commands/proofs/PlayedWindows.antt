@@ -1,55 +1,46 @@
--- A window that was opened on a home and worked is played.
-use Rattle.device_gate.specs.Places.{AreNumbered}
+-- A window of the script that was opened on a home and worked: what it leaves.
+use Rattle.device_gate.proofs.Places.{home_at}
 use Rattle.device_gate.specs.declared.gates.Place.TheVariants.{Home}
-use Rattle.device_gate.specs.declared.gates.Place.{Place}
-use Rattle.history_book.specs.Settings.{Setting}
+use Rattle.device_states.specs.Devices.{Shown}
 use Rattle.history_book.specs.declared.records.WindowRecord.{WindowRecord}
 use Rattle.home_types.specs.declared.modes.Mode.{Mode}
+use Rattle.hub_commands.specs.Played.{IsWorkedAs, NextIsOpened, setting_on}
+use Rattle.hub_commands.specs.Ways.{WindowWay}
 use Rattle.hub_core.specs.Homes.{HomeState}
-use Rattle.hub_core.specs.HubCalls.{IsOpened, NoneFails, RunsHaveEnded}
-use Rattle.legal_days.specs.LegalWindows.{IsLegalWindow}
 use Rattle.hub_core.specs.OpenHubs.{OpenHub}
-use Rattle.hub_commands.specs.Played.{IsPlayed, IsWorkedAs, setting_on}
 use Rattle.routine_reader.specs.declared.scripts.Script.{Script}
-use Rattle.routine_reader.specs.declared.scripts.WindowText.{WindowText}
-use Rattle.std.proofs.Common.{ap, subst, sym, ◌∙◌}
+use Rattle.std.proofs.Common.{ap, sym, ◌∙◌}
 use Rattle.std.proofs.lemmas.List.{length-map}
-use Rattle.std.proofs.lemmas.Option.{slice_get-map}
-use Rattle.std.specs.Prelude.{List, Option, Some, length, option_map, slice_get, slice_index_or, ℕ, ◌+◌, ◌≡◌}
+use Rattle.std.specs.Prelude.{Some, length, slice_get, slice_index_or, ℕ, ◌+◌, ◌≡◌}
 
--- the hub was opened for this window of the script on this home
-pub as_played : {D : Type 0} (works : Setting → WindowText → WindowRecord → (ℕ → ℕ) → Type 0) (tag : D → ℕ) (plan : D → Option (List (ℕ × ℕ)))
-    (turns probes faults : D → ℕ) (script : Script) (mode : Mode) (k : ℕ) (window : WindowText) (w : Setting) (home after : HomeState D) (hub : OpenHub D)
-    (closed : WindowRecord)
-    → slice_get script.windows.items k ≡ Some window → w ≡ setting_on script mode k home
-    → IsOpened turns probes faults w window.probes home hub → AreNumbered tag home.devices → IsWorkedAs works tag plan turns probes faults hub window after closed
-    → IsPlayed works tag plan turns probes faults script mode k home after closed
-as_played {D = D} works tag plan turns probes faults script mode k window w home after hub closed at setting opened numbered is = record {
-  window = window;
-  at = at;
-  taken = is.taken;
-  worked = subst (λ v. works v window closed is.taken) here is.worked;
-  legal = subst (λ v. IsLegalWindow v closed) here is.legal;
-  ends = subst (λ v. RunsHaveEnded v closed) here is.ends;
-  kinds = is.kinds ∙ ap (λ v. v.kinds) here;
-  last = is.last;
-  opened = is.opened ∙ ap (λ n. n + 1) opened.windows;
-  up = λ calm. is.up (subst (λ v. NoneFails v closed.faults.items) (sym here) calm);
-  size = is.size ∙ ap (λ ps. length ps) opened.places ∙ length-map home.devices (λ device. Home device);
-  devices = λ d x y x_at y_at. let out = placed d x x_at in record {
-    same_tag = is.numbered d y y_at ∙ sym (numbered d x x_at);
-    same_plan = is.plans d x y out y_at;
-    turns_rose = is.turns_rose d y y_at ∙ ap (λ n. n + slice_index_or closed.turns.items d 0) (opened.turns_then d x x_at);
-    faults_rose = is.faults_rose d y y_at ∙ ap (λ n. n + slice_index_or closed.faults.items d 0) (opened.faults_then d x x_at);
-    probes_rose = is.probes_rose d y y_at ∙ ap (λ n. n + is.taken d) (opened.probes_then d x x_at);
-  };
-}
-  where
-    here : hub.setting ≡ setting_on script mode k home
-    here = ap (λ c. c.setting) opened.configuration ∙ setting
+-- the script's window of this number was opened on the home, was worked in this way, and left another home with this record
+pub record IsPlayed {D : Type 0} (works : WindowWay) (shows : D → Shown) (script : Script) (mode : Mode)
+    (k : ℕ) (before after : HomeState D) (closed : WindowRecord) : Type 0 where
+  pub hub : OpenHub D
+  pub opens : NextIsOpened shows script mode k before hub
+  pub worked : IsWorkedAs works shows hub opens.window after closed
 
-    home_at : D → Place D
-    home_at device = Home device
+-- the device after a window: the same one, whose calls rose as the record says, and its probes by those that were taken
+pub record IsPlayedOn {D : Type 0} (shows : D → Shown) (called failed probed : ℕ) (before after : D) : Type 0 where
+  pub same_tag : (shows after).tag ≡ (shows before).tag
+  pub same_plan : (shows after).plan ≡ (shows before).plan
+  pub turns_rose : (shows after).turns ≡ (shows before).turns + called
+  pub faults_rose : (shows after).faults ≡ (shows before).faults + failed
+  pub probes_rose : (shows after).probes ≡ (shows before).probes + probed
 
-    placed : (d : ℕ) (x : D) → slice_get home.devices d ≡ Some x → slice_get hub.places d ≡ Some (Home x)
-    placed d x x_at = ap (λ ps. slice_get ps d) opened.places ∙ slice_get-map home_at home.devices d ∙ ap (λ o. option_map home_at o) x_at
+module _ {D : Type 0} {works : WindowWay} {shows : D → Shown} {script : Script} {mode : Mode} {k : ℕ} {before after : HomeState D} {closed : WindowRecord} where
+  pub setting_played : (is : IsPlayed works shows script mode k before after closed) → is.hub.setting ≡ setting_on script mode k before
+  setting_played is = ap (λ c. c.setting) is.opens.opened.configuration
+
+  pub size_played : IsPlayed works shows script mode k before after closed → length after.devices ≡ length before.devices
+  size_played is = is.worked.size ∙ ap (λ ps. length ps) is.opens.opened.places ∙ length-map before.devices (λ device. Home device)
+
+  pub device_played : (is : IsPlayed works shows script mode k before after closed) (d : ℕ) (x y : D) → slice_get before.devices d ≡ Some x → slice_get after.devices d ≡ Some y
+      → IsPlayedOn shows (slice_index_or closed.turns.items d 0) (slice_index_or closed.faults.items d 0) (is.worked.taken d) x y
+  device_played is d x y x_at y_at = record {
+    same_tag = is.worked.numbered d y y_at ∙ sym (is.opens.numbered d x x_at);
+    same_plan = is.worked.plans d x y (ap (λ ps. slice_get ps d) is.opens.opened.places ∙ home_at before.devices d x x_at) y_at;
+    turns_rose = is.worked.after.turns_rose d y y_at ∙ ap (λ n. n + slice_index_or closed.turns.items d 0) (is.opens.opened.turns_then d x x_at);
+    faults_rose = is.worked.after.faults_rose d y y_at ∙ ap (λ n. n + slice_index_or closed.faults.items d 0) (is.opens.opened.faults_then d x x_at);
+    probes_rose = is.worked.after.probes_rose d y y_at ∙ ap (λ n. n + is.worked.taken d) (is.opens.opened.probes_then d x x_at);
+  }

@@ -1,8 +1,9 @@
 -- A day that was run: its devices were probed as often as its windows say.
 use Rattle.command_words.specs.declared.command_lines.Options.{Options}
+use Rattle.device_states.specs.Devices.{Shown}
 use Rattle.hub_commands.specs.Calls.{IsProbedInAll}
 use Rattle.hub_commands.specs.Days.{Closing}
-use Rattle.hub_commands.specs.Finishes.{DayEnds, DayIsWhole, IsRead, Reads, Shown, Writes}
+use Rattle.hub_commands.specs.Finishes.{DayEnds, DayIsWhole, IsRead, Reads, Writes}
 use Rattle.hub_commands.specs.Ways.{IsRunWithin}
 use Rattle.hub_commands.specs.declared.faults.Fault.{Fault}
 use Rattle.hub_commands.specs.declared.finishes.Day.{Day}
@@ -23,9 +24,9 @@ same_folds (t ∷ takes) (w ∷ windows) d n same each =
     same_folds takes windows d (n + t d) (omega (arith, same)) (λ k window taken window_at taken_at. each (suc k) window taken window_at taken_at)
     ∙ ap (λ m. fold (λ a window. a + window.probes) (n + m) windows) (each zero w t refl refl)
 
-in_all : {D : Type 0} (earliest latest : ℕ) (shown : Shown D) (closing : Closing) (script : Script) (options : Options) (source : Reads) (sink : Writes) (day : Option (Day D))
-    → IsRead source script → DayIsWhole (IsRunWithin earliest latest) shown closing script options sink day → IsProbedInAll shown.probes source day
-in_all earliest latest shown closing script options source sink day read whole = record {
+in_all : {D : Type 0} (earliest latest : ℕ) (shows : D → Shown) (closing : Closing) (script : Script) (options : Options) (source : Reads) (sink : Writes) (day : Option (Day D))
+    → IsRead source script → DayIsWhole (IsRunWithin earliest latest) shows closing script options sink day → IsProbedInAll shows source day
+in_all earliest latest shows closing script options source sink day read whole = record {
   script = script;
   read = read;
   day = whole.day;
@@ -35,10 +36,10 @@ in_all earliest latest shown closing script options source sink day read whole =
   probed = λ d device at. whole.probed d device at ∙ same_folds whole.takes script.windows.items d 0 (whole.played.worked.count ∙ whole.legal.count)
       (λ k window taken window_at taken_at.
       let closed = at_place whole.day.windows.items k (let within = slice_get_within whole.takes k taken taken_at in let count = whole.played.worked.count in omega (arith, within, count)) in
-      (whole.played.worked.each k window closed.0 taken window_at closed.1 taken_at).probes d);
+      (whole.played.worked.each k window closed.0 taken window_at closed.1 taken_at).took d);
 }
 
-pub probed_in_all : {D : Type 0} (earliest latest : ℕ) (shown : Shown D) (closing : Closing) (script : Script) (options : Options) (source : Reads) (sink : Writes) (day : Option (Day D)) (fault : Option Fault)
-    → IsRead source script → DayEnds (IsRunWithin earliest latest) shown closing script options sink day fault → fault ≡ None → IsProbedInAll shown.probes source day
-probed_in_all earliest latest shown closing script options source sink day None read ends none = in_all earliest latest shown closing script options source sink day read ends
-probed_in_all earliest latest shown closing script options source sink day (Some why) read ends none = absurd (cc)
+pub probed_in_all : {D : Type 0} (earliest latest : ℕ) (shows : D → Shown) (closing : Closing) (script : Script) (options : Options) (source : Reads) (sink : Writes) (day : Option (Day D)) (fault : Option Fault)
+    → IsRead source script → DayEnds (IsRunWithin earliest latest) shows closing script options sink day fault → fault ≡ None → IsProbedInAll shows source day
+probed_in_all earliest latest shows closing script options source sink day None read ends none = in_all earliest latest shows closing script options source sink day read ends
+probed_in_all earliest latest shows closing script options source sink day (Some why) read ends none = absurd (cc)

@@ -1,5 +1,6 @@
 -- A day of rooms that begins, goes on and ends, as its calls see it.
 use Rattle.day_report.specs.Days.{head_text, total_text, window_text}
+use Rattle.device_states.specs.Devices.{Shown}
 use Rattle.history_book.specs.Settings.{is_weak}
 use Rattle.history_book.specs.declared.records.WindowRecord.{WindowRecord}
 use Rattle.home_types.specs.Limits.{most_devices}
@@ -10,7 +11,7 @@ use Rattle.hub_commands.proofs.RoomsUnderWay.{rooms_gone_on}
 use Rattle.hub_commands.proofs.RoomTexts.{lines_are, room_begun, room_finished, room_goes_on, room_head_stopped, room_lines_stopped, room_starved, room_total_stopped, rooms_unbuilt, told_more}
 use Rattle.hub_commands.proofs.RoomedDevices.{are_roomed}
 use Rattle.hub_commands.proofs.Snocs.{length_more}
-use Rattle.hub_commands.specs.Finishes.{Shown, written}
+use Rattle.hub_commands.specs.Finishes.{written}
 use Rattle.hub_commands.specs.Pieces.{PieceEnds}
 use Rattle.hub_commands.specs.RoomCalls.{RoomDayEnds}
 use Rattle.hub_commands.specs.RoomDays.{RoomsAreLeft, RoomsAreUnderWay, Windows, room_count, told_records}
@@ -38,7 +39,7 @@ use Rattle.std.proofs.Common.{All, List, None, Option, Some, [], ap, arith, fals
 use Rattle.std.proofs.lemmas.List.{length-map}
 use Rattle.std.specs.Prelude.{Err, IfOk, Ok, Result, slice_get}
 
-module _ {D : Type 0} (earliest latest : ℕ) (shown : Shown D) (script : Script) (sound : IsSound (plain_script script)) (mode : Mode) (strong : is_weak mode ≡ false) (rooms : Rooms) (are : plain_rooms rooms ≡ rooms_of script) where
+module _ {D : Type 0} (earliest latest : ℕ) (shows : D → Shown) (script : Script) (sound : IsSound (plain_script script)) (mode : Mode) (strong : is_weak mode ≡ false) (rooms : Rooms) (are : plain_rooms rooms ≡ rooms_of script) where
   same_rooms : rooms.room_of.items ≡ (rooms_of script).room_of
   same_rooms = ap (λ r. r.room_of) are
 
@@ -48,35 +49,35 @@ module _ {D : Type 0} (earliest latest : ℕ) (shown : Shown D) (script : Script
       let P : List ℕ × ℕ → Type 0 = λ q. IsRoomed q.0 q.1 in
       subst P (λ i. (sym same_rooms i, sym count i)) (are_roomed script)
 
-  module _ (day : RoomDay D) (before : Windows) (is : IsRoomDay earliest latest shown script mode before day) where
+  module _ (day : RoomDay D) (before : Windows) (is : IsRoomDay earliest latest shows script mode before day) where
     pub day_roomed : IsRoomed rooms.room_of.items (length day.homes.items)
     day_roomed = homes_roomed day.homes.items is.under_way.homed
 
     pub day_devices : HasDevicesOf rooms.room_of.items day.homes.items
-    day_devices = subst (λ l. HasDevicesOf l day.homes.items) (sym same_rooms) (has_devices earliest latest shown script sound mode strong day.homes.items day.windows.items is.under_way)
+    day_devices = subst (λ l. HasDevicesOf l day.homes.items) (sym same_rooms) (has_devices earliest latest shows script sound mode strong day.homes.items day.windows.items is.under_way)
 
     -- the devices that are handed back, in the order of the script
-    pub day_left : (devices : List D) → length devices ≡ length rooms.room_of.items → AreAllPlaced rooms.room_of.items day.homes.items devices → RoomsAreLeft earliest latest shown script mode day.windows.items devices
-    day_left devices size placed = rooms_left earliest latest shown script sound mode strong day.homes.items day.windows.items is.under_way devices
+    pub day_left : (devices : List D) → length devices ≡ length rooms.room_of.items → AreAllPlaced rooms.room_of.items day.homes.items devices → RoomsAreLeft earliest latest shows script mode day.windows.items devices
+    day_left devices size placed = rooms_left earliest latest shows script sound mode strong day.homes.items day.windows.items is.under_way devices
         (size ∙ ap (λ l. length l) same_rooms) (subst (λ l. AreAllPlaced l day.homes.items devices) same_rooms placed)
 
-    left_of : (devices : List D) → length devices ≡ length (rooms_of script).room_of → AreAllPlaced (rooms_of script).room_of day.homes.items devices → RoomsAreLeft earliest latest shown script mode day.windows.items devices
-    left_of = rooms_left earliest latest shown script sound mode strong day.homes.items day.windows.items is.under_way
+    left_of : (devices : List D) → length devices ≡ length (rooms_of script).room_of → AreAllPlaced (rooms_of script).room_of day.homes.items devices → RoomsAreLeft earliest latest shows script mode day.windows.items devices
+    left_of = rooms_left earliest latest shows script sound mode strong day.homes.items day.windows.items is.under_way
 
     -- each room's windows name their own runs and devices
     pub day_own : All (λ (ws : Listed RoomWindow). All (λ window. HasOwnOrder (room_order window)) ws.items) day.windows.items
-    day_own = own_orders earliest latest shown script sound mode strong day.homes.items day.windows.items is.under_way
+    day_own = own_orders earliest latest shows script sound mode strong day.homes.items day.windows.items is.under_way
 
     -- the total is not written
     pub end_stopped : {M : Type 0} (held mid holds : Option (List ℕ)) (f f_mid f_after : ℕ) (piece : Result (List ℕ) M) (fault : PieceFault) (finish : RoomFinish D) → before ≡ day.windows.items
         → IsWrittenSoFar script mode (written held mid f f_mid) day.windows.items → length day.windows.items ≡ length script.windows.items
         → IfOk piece (λ b. b ≡ total_text day.told.items) → PieceEnds (written mid holds f_mid f_after) piece (Err fault)
         → finish.windows ≡ day.windows → RoomStopEnds rooms.room_of.items day.homes.items fault finish.devices finish.fault
-        → RoomDayEnds earliest latest shown script mode (written held holds f f_after) finish.windows.items finish.devices finish.fault
+        → RoomDayEnds earliest latest shows script mode (written held holds f f_after) finish.windows.items finish.devices finish.fault
     end_stopped held mid holds f f_mid f_after piece fault finish all_told so_far all ok ended windows stop =
-        subst (λ (ws : Listed (Listed RoomWindow)). RoomDayEnds earliest latest shown script mode (written held holds f f_after) ws.items finish.devices finish.fault) (sym windows)
-        (room_total_stopped script mode earliest latest shown held mid holds f f_mid f_after day.homes.items day.windows.items day.told.items piece fault finish.devices finish.fault
-        (rooms_played earliest latest shown script sound mode strong day.homes.items day.windows.items is.under_way) left_of so_far all (subst (λ ws. AreTold script mode ws day.told.items) all_told is.told_are) ok ended
+        subst (λ (ws : Listed (Listed RoomWindow)). RoomDayEnds earliest latest shows script mode (written held holds f f_after) ws.items finish.devices finish.fault) (sym windows)
+        (room_total_stopped script mode earliest latest shows held mid holds f f_mid f_after day.homes.items day.windows.items day.told.items piece fault finish.devices finish.fault
+        (rooms_played earliest latest shows script sound mode strong day.homes.items day.windows.items is.under_way) left_of so_far all (subst (λ ws. AreTold script mode ws day.told.items) all_told is.told_are) ok ended
         (subst (λ l. RoomStopEnds l day.homes.items fault finish.devices finish.fault) same_rooms stop))
 
     -- all is written
@@ -84,16 +85,16 @@ module _ {D : Type 0} (earliest latest : ℕ) (shown : Shown D) (script : Script
         → IsWrittenSoFar script mode (written held mid f f_mid) day.windows.items → length day.windows.items ≡ length script.windows.items
         → IfOk piece (λ b. b ≡ total_text day.told.items) → PieceEnds (written mid holds f_mid f_after) piece (Ok tt)
         → length devices.items ≡ length rooms.room_of.items → AreAllPlaced rooms.room_of.items day.homes.items devices.items
-        → RoomDayEnds earliest latest shown script mode (written held holds f f_after) day.windows.items (Some devices) None
+        → RoomDayEnds earliest latest shows script mode (written held holds f f_after) day.windows.items (Some devices) None
     end_finished held mid holds f f_mid f_after piece devices all_told so_far all ok ended size placed =
-        room_finished script mode earliest latest shown held mid holds f f_mid f_after day.windows.items devices day.told.items piece (day_left devices.items size placed) so_far all
+        room_finished script mode earliest latest shows held mid holds f f_mid f_after day.windows.items devices day.told.items piece (day_left devices.items size placed) so_far all
         (subst (λ ws. AreTold script mode ws day.told.items) all_told is.told_are) ok ended
 
   -- ---- the beginning
 
-  pub first_is_day : (day : RoomDay D) → IsFirstDay shown script day → IsRoomDay earliest latest shown script mode day.windows.items day
+  pub first_is_day : (day : RoomDay D) → IsFirstDay shows script day → IsRoomDay earliest latest shows script mode day.windows.items day
   first_is_day day first = record {
-    under_way = subst (λ ws. RoomsAreUnderWay earliest latest shown script mode day.homes.items ws) (sym first.no_windows) (rooms_begun earliest latest shown script mode day.homes.items first.homes);
+    under_way = subst (λ ws. RoomsAreUnderWay earliest latest shows script mode day.homes.items ws) (sym first.no_windows) (rooms_begun earliest latest shows script mode day.homes.items first.homes);
     told_are = ap (map lines_from) first.none_told ∙ sym (ap (λ ws. map lines_from (told_records script mode ws)) first.no_windows);
     room = subst (λ n. HasRoomFor n (length (rooms_of script).room_of) day.room) (sym first.homes.count) first.room;
     windows_room = first.windows_room;
@@ -101,30 +102,30 @@ module _ {D : Type 0} (earliest latest : ℕ) (shown : Shown D) (script : Script
 
   -- no memory for the homes
   pub begin_unbuilt : (held : Option (List ℕ)) (f : ℕ) (finish : RoomFinish D) → finish.status ≡ status_for_fault finish.fault → finish.windows.items ≡ [] → finish.devices ≡ None → finish.fault ≡ Some WantsMemory
-      → RoomGoesOn earliest latest shown script mode (written held held f f) 0 (Err finish)
+      → RoomGoesOn earliest latest shows script mode (written held held f f) 0 (Err finish)
   begin_unbuilt held f finish status windows devices fault = (
     status,
-    subst (λ ws. RoomDayEnds earliest latest shown script mode (written held held f f) ws finish.devices finish.fault) (sym windows)
-        (rooms_unbuilt script mode earliest latest shown held f finish.devices finish.fault (none_played earliest latest script mode) devices fault),
+    subst (λ ws. RoomDayEnds earliest latest shows script mode (written held held f f) ws finish.devices finish.fault) (sym windows)
+        (rooms_unbuilt script mode earliest latest shows held f finish.devices finish.fault (none_played earliest latest script mode) devices fault),
   )
 
-  pub begin_written : {M : Type 0} (held holds : Option (List ℕ)) (f f_after : ℕ) (piece : Result (List ℕ) M) (day : RoomDay D) → IsFirstDay shown script day
-      → IfOk piece (λ b. b ≡ head_text mode) → PieceEnds (written held holds f f_after) piece (Ok tt) → RoomGoesOn earliest latest shown script mode (written held holds f f_after) 0 (Ok day)
+  pub begin_written : {M : Type 0} (held holds : Option (List ℕ)) (f f_after : ℕ) (piece : Result (List ℕ) M) (day : RoomDay D) → IsFirstDay shows script day
+      → IfOk piece (λ b. b ≡ head_text mode) → PieceEnds (written held holds f f_after) piece (Ok tt) → RoomGoesOn earliest latest shows script mode (written held holds f f_after) 0 (Ok day)
   begin_written held holds f f_after piece day first ok ended = (
     ap (λ ws. length ws) first.no_windows,
     first_is_day day first,
     subst (λ ws. IsWrittenSoFar script mode (written held holds f f_after) ws) (sym first.no_windows) (room_begun script mode held holds f f_after piece ok ended),
   )
 
-  pub begin_stopped : {M : Type 0} (held holds : Option (List ℕ)) (f f_after : ℕ) (piece : Result (List ℕ) M) (fault : PieceFault) (day : RoomDay D) (finish : RoomFinish D) → IsFirstDay shown script day
+  pub begin_stopped : {M : Type 0} (held holds : Option (List ℕ)) (f f_after : ℕ) (piece : Result (List ℕ) M) (fault : PieceFault) (day : RoomDay D) (finish : RoomFinish D) → IsFirstDay shows script day
       → IfOk piece (λ b. b ≡ head_text mode) → PieceEnds (written held holds f f_after) piece (Err fault)
       → finish.status ≡ status_for_fault finish.fault → finish.windows ≡ day.windows → RoomStopEnds rooms.room_of.items day.homes.items fault finish.devices finish.fault
-      → RoomGoesOn earliest latest shown script mode (written held holds f f_after) 0 (Err finish)
+      → RoomGoesOn earliest latest shows script mode (written held holds f f_after) 0 (Err finish)
   begin_stopped held holds f f_after piece fault day finish first ok ended status windows stop = (
     status,
-    subst (λ ws. RoomDayEnds earliest latest shown script mode (written held holds f f_after) ws finish.devices finish.fault) (sym (ap (λ (l : Listed (Listed RoomWindow)). l.items) windows ∙ first.no_windows))
-        (room_head_stopped script mode earliest latest shown held holds f f_after day.homes.items piece fault finish.devices finish.fault (none_played earliest latest script mode)
-        (rooms_left earliest latest shown script sound mode strong day.homes.items [] (rooms_begun earliest latest shown script mode day.homes.items first.homes)) ok ended
+    subst (λ ws. RoomDayEnds earliest latest shows script mode (written held holds f f_after) ws finish.devices finish.fault) (sym (ap (λ (l : Listed (Listed RoomWindow)). l.items) windows ∙ first.no_windows))
+        (room_head_stopped script mode earliest latest shows held holds f f_after day.homes.items piece fault finish.devices finish.fault (none_played earliest latest script mode)
+        (rooms_left earliest latest shows script sound mode strong day.homes.items [] (rooms_begun earliest latest shows script mode day.homes.items first.homes)) ok ended
         (subst (λ l. RoomStopEnds l day.homes.items fault finish.devices finish.fault) same_rooms stop)),
   )
 
@@ -132,19 +133,19 @@ module _ {D : Type 0} (earliest latest : ℕ) (shown : Shown D) (script : Script
 
   -- it was worked in every room
   pub next_day : (day : RoomDay D) (number : ℕ) (homes : Listed (HomeState D)) (closed : Listed RoomWindow) (more : Listed (Listed RoomWindow))
-      → IsRoomDay earliest latest shown script mode day.windows.items day → number ≡ length day.windows.items → length day.windows.items < length script.windows.items
-      → ((window : WindowText) → slice_get script.windows.items number ≡ Some window → RoomsWent shown earliest latest script mode number window.probes day.homes.items homes.items closed.items)
+      → IsRoomDay earliest latest shows script mode day.windows.items day → number ≡ length day.windows.items → length day.windows.items < length script.windows.items
+      → ((window : WindowText) → slice_get script.windows.items number ≡ Some window → RoomsWent shows earliest latest script mode number window.probes day.homes.items homes.items closed.items)
       → more.items ≡ day.windows.items ++ closed ∷ [] → (0 < day.windows.spare → more.spare + 1 ≡ day.windows.spare)
-      → RoomNextIs earliest latest shown script mode day.windows.items (Ok (record { homes = homes; windows = more; told = day.told; room = day.room }))
+      → RoomNextIs earliest latest shows script mode day.windows.items (Ok (record { homes = homes; windows = more; told = day.told; room = day.room }))
   next_day day number homes closed more is count next went more_is used = by (at_place script.windows.items number (omega (arith, count, next)))
     where
-      by : (window : WindowText) × (slice_get script.windows.items number ≡ Some window) → RoomNextIs earliest latest shown script mode day.windows.items (Ok (record { homes = homes; windows = more; told = day.told; room = day.room }))
+      by : (window : WindowText) × (slice_get script.windows.items number ≡ Some window) → RoomNextIs earliest latest shows script mode day.windows.items (Ok (record { homes = homes; windows = more; told = day.told; room = day.room }))
       by (window, at) = (
         closed,
         more_is,
         record {
-          under_way = subst (λ ws. RoomsAreUnderWay earliest latest shown script mode homes.items ws) (sym more_is)
-              (rooms_gone_on earliest latest shown script mode number window day.homes.items homes.items day.windows.items closed at (sym count) is.under_way (went window at));
+          under_way = subst (λ ws. RoomsAreUnderWay earliest latest shows script mode homes.items ws) (sym more_is)
+              (rooms_gone_on earliest latest shows script mode number window day.homes.items homes.items day.windows.items closed at (sym count) is.under_way (went window at));
           told_are = is.told_are;
           room = subst (λ n. HasRoomFor n (length (rooms_of script).room_of) day.room) (sym (went window at).homed) is.room;
           windows_room = let n = ap (λ ws. length ws) more_is in let room = is.windows_room in let less = used (omega (arith, room, next)) in
@@ -154,16 +155,16 @@ module _ {D : Type 0} (earliest latest : ℕ) (shown : Shown D) (script : Script
 
   -- no memory for it
   pub next_starved : (held holds : Option (List ℕ)) (f f_after : ℕ) (before : Windows) (windows : Listed (Listed RoomWindow)) (finish : RoomFinish D)
-      → IsWrittenSoFar script mode (written held holds f f_after) before → RoomNextIs earliest latest shown script mode before (Err windows)
+      → IsWrittenSoFar script mode (written held holds f f_after) before → RoomNextIs earliest latest shows script mode before (Err windows)
       → finish.status ≡ status_for_fault finish.fault → finish.windows ≡ windows → finish.devices ≡ None → finish.fault ≡ Some WantsMemory
-      → RoomGoesOn earliest latest shown script mode (written held holds f f_after) (suc (length before)) (Err finish)
+      → RoomGoesOn earliest latest shows script mode (written held holds f f_after) (suc (length before)) (Err finish)
   next_starved held holds f f_after before windows finish so_far missed status same devices fault = (
     status,
-    subst (λ ws. RoomDayEnds earliest latest shown script mode (written held holds f f_after) ws finish.devices finish.fault) (sym (ap (λ (l : Listed (Listed RoomWindow)). l.items) same ∙ missed.0))
-        (room_starved script mode earliest latest shown held holds f f_after before finish.devices finish.fault missed.1 so_far devices fault),
+    subst (λ ws. RoomDayEnds earliest latest shows script mode (written held holds f f_after) ws finish.devices finish.fault) (sym (ap (λ (l : Listed (Listed RoomWindow)). l.items) same ∙ missed.0))
+        (room_starved script mode earliest latest shows held holds f f_after before finish.devices finish.fault missed.1 so_far devices fault),
   )
 
-  module _ (day : RoomDay D) (before : Windows) (next : RoomNextIs earliest latest shown script mode before (Ok day)) where
+  module _ (day : RoomDay D) (before : Windows) (next : RoomNextIs earliest latest shows script mode before (Ok day)) where
     pub few_devices : length rooms.room_of.items ≤ most_devices
     few_devices = let n = ap (λ l. length l) same_rooms in omega (arith, n, sound.few_devices, rooms_size script, length-map script.devices.items plain_device)
 
@@ -181,7 +182,7 @@ module _ {D : Type 0} (earliest latest : ℕ) (shown : Shown D) (script : Script
           (subst (λ (p : Result (List ℕ) M). IfOk p (λ l. l ≡ window_text script (length day.told.items) t.last mode false)) (sym is) t.lines_are) is
 
       pub next_written : PieceEnds (written mid holds f_mid f_after) piece (Ok tt)
-          → RoomGoesOn earliest latest shown script mode (written held holds f f_after) (suc (length before)) (Ok (record { homes = day.homes; windows = day.windows; told = told; room = day.room }))
+          → RoomGoesOn earliest latest shows script mode (written held holds f f_after) (suc (length before)) (Ok (record { homes = day.homes; windows = day.windows; told = told; room = day.room }))
       next_written ended =
           let t = told_lines ended.0 ended.1 in (
             ap (λ ws. length ws) next.1 ∙ length_more before next.0,
@@ -197,13 +198,13 @@ module _ {D : Type 0} (earliest latest : ℕ) (shown : Shown D) (script : Script
 
       pub next_stopped : (fault : PieceFault) (finish : RoomFinish D) → PieceEnds (written mid holds f_mid f_after) piece (Err fault)
           → finish.status ≡ status_for_fault finish.fault → finish.windows ≡ day.windows → RoomStopEnds rooms.room_of.items day.homes.items fault finish.devices finish.fault
-          → RoomGoesOn earliest latest shown script mode (written held holds f f_after) (suc (length before)) (Err finish)
+          → RoomGoesOn earliest latest shows script mode (written held holds f f_after) (suc (length before)) (Err finish)
       next_stopped fault finish ended status windows stop =
-          let under_way = subst (λ ws. RoomsAreUnderWay earliest latest shown script mode day.homes.items ws) next.1 next.2.under_way in (
+          let under_way = subst (λ ws. RoomsAreUnderWay earliest latest shows script mode day.homes.items ws) next.1 next.2.under_way in (
             status,
-            subst (λ ws. RoomDayEnds earliest latest shown script mode (written held holds f f_after) ws finish.devices finish.fault) (sym (ap (λ (l : Listed (Listed RoomWindow)). l.items) windows ∙ next.1))
-                (room_lines_stopped script mode earliest latest shown held mid holds f f_mid f_after day.homes.items before next.0 piece fault finish.devices finish.fault
-                (rooms_played earliest latest shown script sound mode strong day.homes.items (before ++ next.0 ∷ []) under_way)
-                (rooms_left earliest latest shown script sound mode strong day.homes.items (before ++ next.0 ∷ []) under_way)
+            subst (λ ws. RoomDayEnds earliest latest shows script mode (written held holds f f_after) ws finish.devices finish.fault) (sym (ap (λ (l : Listed (Listed RoomWindow)). l.items) windows ∙ next.1))
+                (room_lines_stopped script mode earliest latest shows held mid holds f f_mid f_after day.homes.items before next.0 piece fault finish.devices finish.fault
+                (rooms_played earliest latest shows script sound mode strong day.homes.items (before ++ next.0 ∷ []) under_way)
+                (rooms_left earliest latest shows script sound mode strong day.homes.items (before ++ next.0 ∷ []) under_way)
                 so_far lines ended (subst (λ l. RoomStopEnds l day.homes.items fault finish.devices finish.fault) same_rooms stop)),
           )

@@ -1,11 +1,11 @@
 -- What a day of rooms is, from the homes of the rooms.
+use Rattle.device_states.specs.Devices.{Shown}
 use Rattle.home_types.specs.Listed.{Listed}
 use Rattle.home_types.specs.declared.modes.Mode.{Mode}
 use Rattle.history_book.specs.Settings.{is_weak}
 use Rattle.hub_commands.proofs.DaysUnderWay.{no_window, starts}
 use Rattle.hub_commands.proofs.RoomOrders.{each_order_agrees, own_windows}
 use Rattle.hub_commands.specs.Days.{new_course}
-use Rattle.hub_commands.specs.Finishes.{Shown}
 use Rattle.hub_commands.specs.RoomDays.{RoomsAreLeft, RoomsArePlayed, RoomsAreUnderWay, Windows, records_of, room_count}
 use Rattle.hub_commands.specs.RoomDevices.{AreAllPlaced, HasDevicesOf}
 use Rattle.hub_commands.specs.RoomGoing.{AreNewHomes}
@@ -27,8 +27,8 @@ use Rattle.std.proofs.lemmas.List.{length-map}
 use Rattle.std.proofs.lemmas.Option.{slice_get-get_or}
 use Rattle.std.specs.Prelude.{slice_get}
 
-module _ {D : Type 0} (earliest latest : ℕ) (shown : Shown D) (script : Script) (sound : IsSound (plain_script script)) (mode : Mode) (strong : is_weak mode ≡ false) (homes : List (HomeState D)) (windows : Windows)
-    (day : RoomsAreUnderWay earliest latest shown script mode homes windows) where
+module _ {D : Type 0} (earliest latest : ℕ) (shows : D → Shown) (script : Script) (sound : IsSound (plain_script script)) (mode : Mode) (strong : is_weak mode ≡ false) (homes : List (HomeState D)) (windows : Windows)
+    (day : RoomsAreUnderWay earliest latest shows script mode homes windows) where
   -- the home of a room
   home_there : (k : ℕ) → k < room_count script → (home : HomeState D) × (slice_get homes k ≡ Some home)
   home_there k within = at_place homes k (let n = day.homed in omega (arith, within, n))
@@ -44,7 +44,7 @@ module _ {D : Type 0} (earliest latest : ℕ) (shown : Shown D) (script : Script
     orders = each_order_agrees script sound mode strong windows day.split legal;
   }
 
-  pub rooms_left : (devices : List D) → length devices ≡ length (rooms_of script).room_of → AreAllPlaced (rooms_of script).room_of homes devices → RoomsAreLeft earliest latest shown script mode windows devices
+  pub rooms_left : (devices : List D) → length devices ≡ length (rooms_of script).room_of → AreAllPlaced (rooms_of script).room_of homes devices → RoomsAreLeft earliest latest shows script mode windows devices
   rooms_left devices size placed = record {
     played = rooms_played;
     size = size ∙ rooms_size script;
@@ -69,13 +69,13 @@ module _ {D : Type 0} (earliest latest : ℕ) (shown : Shown D) (script : Script
   has_devices k home at = (day.each k home at).left.size ∙ length-map (devices_in (rooms_of script).room_of k) _
 
 -- the day before its first window
-pub rooms_begun : {D : Type 0} (earliest latest : ℕ) (shown : Shown D) (script : Script) (mode : Mode) (homes : List (HomeState D)) → AreNewHomes shown script homes → RoomsAreUnderWay earliest latest shown script mode homes []
-rooms_begun {D = D} earliest latest shown script mode homes are = record {
+pub rooms_begun : {D : Type 0} (earliest latest : ℕ) (shows : D → Shown) (script : Script) (mode : Mode) (homes : List (HomeState D)) → AreNewHomes shows script homes → RoomsAreUnderWay earliest latest shows script mode homes []
+rooms_begun {D = D} earliest latest shows script mode homes are = record {
   count = omega arith;
   homed = are.count;
   split = λ w ws at. absurd (cc);
   each = λ k home at. let new = are.each k home at in
-      starts (IsRunWithin earliest latest) shown.tag shown.plan shown.stands shown.turns shown.probes shown.faults (own_script script k) mode home new.devices new.kinds new.world new.opened;
+      starts (IsRunWithin earliest latest) shows (own_script script k) mode home new.devices new.kinds new.world new.opened;
 }
 
 -- no window of it is worked

@@ -3,6 +3,7 @@ use Rattle.command_words.specs.declared.command_lines.Options.{Options}
 use Rattle.day_clock.specs.Sinks.{AppendsPart}
 use Rattle.day_report.specs.Days.{abort_count, commit_count, counts_line, head_text, is_abort, is_commit, total_text, window_lines, window_text}
 use Rattle.day_report.specs.Lines.{home_line, order_line, run_lines, window_line}
+use Rattle.device_states.specs.Devices.{Shown}
 use Rattle.history_book.specs.declared.entries.Entry.{Entry}
 use Rattle.history_book.specs.declared.entries.Kept.{Kept}
 use Rattle.history_book.specs.declared.records.WindowRecord.{WindowRecord}
@@ -11,7 +12,7 @@ use Rattle.home_types.specs.declared.modes.Mode.{Mode}
 use Rattle.hub_commands.proofs.PlayedDays.{LeadWith, all_lead, keeps_same, lead_whole, lead_written, none_leads, rest_lead, said}
 use Rattle.hub_commands.proofs.Texts.{appends_keeps, appends_more, due_whole, keeps_appends, part_more, part_wider, text_more, text_starts, text_whole, whole_first}
 use Rattle.hub_commands.specs.Days.{new_course, plain, text_due, text_so_far}
-use Rattle.hub_commands.specs.Finishes.{AppendsFirst, IsWrittenAsClosed, Shown, written}
+use Rattle.hub_commands.specs.Finishes.{AppendsFirst, IsWrittenAsClosed, written}
 use Rattle.hub_commands.specs.Pieces.{PieceEnds}
 use Rattle.hub_commands.specs.RoomCalls.{RoomDayEnds, RoomDayIsCut, RoomDayIsStarved, RoomDayIsWhole, RoomsAreWrittenAsClosed}
 use Rattle.hub_commands.specs.RoomDays.{RoomsAreLeft, RoomsArePlayed, Windows, told_records}
@@ -138,19 +139,19 @@ module _ (script : Script) (mode : Mode) where
   closed_windows : (held holds : Option (List ℕ)) (f f_after : ℕ) (windows : Windows) → IsWrittenAsClosed script (untraced mode) (written held holds f f_after) (Told windows) → RoomsAreWrittenAsClosed script mode (written held holds f f_after) windows
   closed_windows held holds f f_after windows is before closed all = is (Told before) (One closed) (ap (λ ws. Told ws) all ∙ told_snoc script mode before closed)
 
-  module _ {D : Type 0} (earliest latest : ℕ) (shown : Shown D) where
+  module _ {D : Type 0} (earliest latest : ℕ) (shows : D → Shown) where
     -- a piece was not written: the sink has all before it, and a first part of it
     room_stopped : {M : Type 0} (held mid holds : Option (List ℕ)) (f f_mid f_after : ℕ) (homes : List (HomeState D)) (windows : Windows) (before : List ℕ) (piece : Result (List ℕ) M) (fault : PieceFault) (given : Option (Listed D)) (why : Option Fault)
         → RoomsArePlayed earliest latest script mode windows
-        → ((devices : List D) → length devices ≡ length (rooms_of script).room_of → AreAllPlaced (rooms_of script).room_of homes devices → RoomsAreLeft earliest latest shown script mode windows devices)
+        → ((devices : List D) → length devices ≡ length (rooms_of script).room_of → AreAllPlaced (rooms_of script).room_of homes devices → RoomsAreLeft earliest latest shows script mode windows devices)
         → Appends held mid before → LeadWith (new_course script) (untraced mode) (Told windows) before → f_mid ≡ f
         → PieceEnds (written mid holds f_mid f_after) piece (Err fault) → RoomStopEnds (rooms_of script).room_of homes fault given why
         → (tail : List ℕ) × (Due windows ≡ before ++ tail)
         → ((bytes : List ℕ) → piece ≡ Ok bytes → (rest : List ℕ) × (Due windows ≡ (before ++ bytes) ++ rest))
-        → RoomDayEnds earliest latest shown script mode (written held holds f f_after) windows given why
+        → RoomDayEnds earliest latest shows script mode (written held holds f f_after) windows given why
     room_stopped held mid holds f f_mid f_after homes windows before piece Sink given why played left first leads calm ended stop tail due =
         let rest = due ended.0 ended.1 in
-        let cut : RoomDayIsCut earliest latest shown script mode (written held holds f f_after) windows given = record {
+        let cut : RoomDayIsCut earliest latest shows script mode (written held holds f f_after) windows given = record {
           devices = stop.0;
           there = stop.1;
           left = left stop.0.items stop.2 stop.3;
@@ -159,7 +160,7 @@ module _ (script : Script) (mode : Mode) where
               (lead_written (new_course script) (untraced mode) held holds f f_after (Told windows) before (take ended.2.0 ended.0) leads (appends_more held mid holds before (take ended.2.0 ended.0) first ended.2.2));
           failed = let late = ended.3 in omega (arith, late, calm);
         } in
-        subst (λ (w : Option Fault). RoomDayEnds earliest latest shown script mode (written held holds f f_after) windows given w) (sym stop.4) cut
+        subst (λ (w : Option Fault). RoomDayEnds earliest latest shows script mode (written held holds f f_after) windows given w) (sym stop.4) cut
     room_stopped held mid holds f f_mid f_after homes windows before piece Memory given why played left first leads calm ended stop tail due =
         let starved : RoomDayIsStarved earliest latest script mode (written held holds f f_after) windows given = record {
           no_devices = stop.0;
@@ -168,14 +169,14 @@ module _ (script : Script) (mode : Mode) where
           as_closed = closed_windows held holds f f_after windows (lead_whole (new_course script) (untraced mode) held holds f f_after (Told windows) before leads (appends_keeps held mid holds before first ended.0));
           calm = ended.1 ∙ calm;
         } in
-        subst (λ (w : Option Fault). RoomDayEnds earliest latest shown script mode (written held holds f f_after) windows given w) (sym stop.1) starved
+        subst (λ (w : Option Fault). RoomDayEnds earliest latest shows script mode (written held holds f f_after) windows given w) (sym stop.1) starved
 
     -- the head is not written
     pub room_head_stopped : {M : Type 0} (held holds : Option (List ℕ)) (f f_after : ℕ) (homes : List (HomeState D)) (piece : Result (List ℕ) M) (fault : PieceFault) (given : Option (Listed D)) (why : Option Fault)
         → RoomsArePlayed earliest latest script mode []
-        → ((devices : List D) → length devices ≡ length (rooms_of script).room_of → AreAllPlaced (rooms_of script).room_of homes devices → RoomsAreLeft earliest latest shown script mode [] devices)
+        → ((devices : List D) → length devices ≡ length (rooms_of script).room_of → AreAllPlaced (rooms_of script).room_of homes devices → RoomsAreLeft earliest latest shows script mode [] devices)
         → IfOk piece (λ b. b ≡ head_text mode) → PieceEnds (written held holds f f_after) piece (Err fault) → RoomStopEnds (rooms_of script).room_of homes fault given why
-        → RoomDayEnds earliest latest shown script mode (written held holds f f_after) [] given why
+        → RoomDayEnds earliest latest shows script mode (written held holds f f_after) [] given why
     room_head_stopped held holds f f_after homes piece fault given why played left ok ended stop =
         room_stopped held held holds f f f_after homes [] [] piece fault given why played left
         (keeps_appends held held (keeps_same held)) (none_leads (new_course script) (untraced mode) [] [] refl) refl ended stop
@@ -185,11 +186,11 @@ module _ (script : Script) (mode : Mode) where
     -- the lines of a window are not written
     pub room_lines_stopped : {M : Type 0} (held mid holds : Option (List ℕ)) (f f_mid f_after : ℕ) (homes : List (HomeState D)) (before : Windows) (closed : Listed RoomWindow) (piece : Result (List ℕ) M) (fault : PieceFault) (given : Option (Listed D)) (why : Option Fault)
         → RoomsArePlayed earliest latest script mode (before ++ closed ∷ [])
-        → ((devices : List D) → length devices ≡ length (rooms_of script).room_of → AreAllPlaced (rooms_of script).room_of homes devices → RoomsAreLeft earliest latest shown script mode (before ++ closed ∷ []) devices)
+        → ((devices : List D) → length devices ≡ length (rooms_of script).room_of → AreAllPlaced (rooms_of script).room_of homes devices → RoomsAreLeft earliest latest shows script mode (before ++ closed ∷ []) devices)
         → IsWrittenSoFar script mode (written held mid f f_mid) before
         → ((bytes : List ℕ) → piece ≡ Ok bytes → bytes ≡ window_text script (length before) (One closed) mode false)
         → PieceEnds (written mid holds f_mid f_after) piece (Err fault) → RoomStopEnds (rooms_of script).room_of homes fault given why
-        → RoomDayEnds earliest latest shown script mode (written held holds f f_after) (before ++ closed ∷ []) given why
+        → RoomDayEnds earliest latest shows script mode (written held holds f f_after) (before ++ closed ∷ []) given why
     room_lines_stopped held mid holds f f_mid f_after homes before closed piece fault given why played left so_far lines ended stop =
         room_stopped held mid holds f f_mid f_after homes (before ++ closed ∷ []) (So_far before) piece fault given why played left
         so_far.text (rest_lead (new_course script) (untraced mode) (Told before) (One closed) (Told (before ++ closed ∷ [])) (told_snoc script mode before closed)) so_far.calm ended stop
@@ -205,11 +206,11 @@ module _ (script : Script) (mode : Mode) where
     -- the total is not written
     pub room_total_stopped : {M : Type 0} (held mid holds : Option (List ℕ)) (f f_mid f_after : ℕ) (homes : List (HomeState D)) (windows : Windows) (told : List WindowRecord) (piece : Result (List ℕ) M) (fault : PieceFault) (given : Option (Listed D)) (why : Option Fault)
         → RoomsArePlayed earliest latest script mode windows
-        → ((devices : List D) → length devices ≡ length (rooms_of script).room_of → AreAllPlaced (rooms_of script).room_of homes devices → RoomsAreLeft earliest latest shown script mode windows devices)
+        → ((devices : List D) → length devices ≡ length (rooms_of script).room_of → AreAllPlaced (rooms_of script).room_of homes devices → RoomsAreLeft earliest latest shows script mode windows devices)
         → IsWrittenSoFar script mode (written held mid f f_mid) windows → length windows ≡ length script.windows.items → AreTold script mode windows told
         → IfOk piece (λ b. b ≡ total_text told)
         → PieceEnds (written mid holds f_mid f_after) piece (Err fault) → RoomStopEnds (rooms_of script).room_of homes fault given why
-        → RoomDayEnds earliest latest shown script mode (written held holds f f_after) windows given why
+        → RoomDayEnds earliest latest shows script mode (written held holds f f_after) windows given why
     room_total_stopped held mid holds f f_mid f_after homes windows told piece fault given why played left so_far all are ok ended stop =
         room_stopped held mid holds f f_mid f_after homes windows (So_far windows) piece fault given why played left
         so_far.text (all_lead (new_course script) (untraced mode) (Told windows)) so_far.calm ended stop
@@ -223,10 +224,10 @@ module _ (script : Script) (mode : Mode) where
 
     -- all is written
     pub room_finished : {M : Type 0} (held mid holds : Option (List ℕ)) (f f_mid f_after : ℕ) (windows : Windows) (devices : Listed D) (told : List WindowRecord) (piece : Result (List ℕ) M)
-        → RoomsAreLeft earliest latest shown script mode windows devices.items
+        → RoomsAreLeft earliest latest shows script mode windows devices.items
         → IsWrittenSoFar script mode (written held mid f f_mid) windows → length windows ≡ length script.windows.items → AreTold script mode windows told
         → IfOk piece (λ b. b ≡ total_text told) → PieceEnds (written mid holds f_mid f_after) piece (Ok tt)
-        → RoomDayIsWhole earliest latest shown script mode (written held holds f f_after) windows (Some devices)
+        → RoomDayIsWhole earliest latest shows script mode (written held holds f f_after) windows (Some devices)
     room_finished held mid holds f f_mid f_after windows devices told piece left so_far all are ok ended = record {
       devices = devices;
       there = refl;
@@ -242,7 +243,7 @@ module _ (script : Script) (mode : Mode) where
     pub room_starved : (held holds : Option (List ℕ)) (f f_after : ℕ) (windows : Windows) (given : Option (Listed D)) (why : Option Fault)
         → RoomsArePlayed earliest latest script mode windows → IsWrittenSoFar script mode (written held holds f f_after) windows
         → given ≡ None → why ≡ Some WantsMemory
-        → RoomDayEnds earliest latest shown script mode (written held holds f f_after) windows given why
+        → RoomDayEnds earliest latest shows script mode (written held holds f f_after) windows given why
     room_starved held holds f f_after windows given why played so_far none because =
         let ends : RoomDayIsStarved earliest latest script mode (written held holds f f_after) windows given = record {
           no_devices = none;
@@ -251,11 +252,11 @@ module _ (script : Script) (mode : Mode) where
           as_closed = closed_windows held holds f f_after windows (lead_whole (new_course script) (untraced mode) held holds f f_after (Told windows) (So_far windows) (all_lead (new_course script) (untraced mode) (Told windows)) so_far.text);
           calm = so_far.calm;
         } in
-        subst (λ (w : Option Fault). RoomDayEnds earliest latest shown script mode (written held holds f f_after) windows given w) (sym because) ends
+        subst (λ (w : Option Fault). RoomDayEnds earliest latest shows script mode (written held holds f f_after) windows given w) (sym because) ends
 
     -- no memory for the homes
     pub rooms_unbuilt : (held : Option (List ℕ)) (f : ℕ) (given : Option (Listed D)) (why : Option Fault) → RoomsArePlayed earliest latest script mode [] → given ≡ None → why ≡ Some WantsMemory
-        → RoomDayEnds earliest latest shown script mode (written held held f f) [] given why
+        → RoomDayEnds earliest latest shows script mode (written held held f f) [] given why
     rooms_unbuilt held f given why played none because =
         let ends : RoomDayIsStarved earliest latest script mode (written held held f f) [] given = record {
           no_devices = none;
@@ -264,7 +265,7 @@ module _ (script : Script) (mode : Mode) where
           as_closed = closed_windows held held f f [] (lead_whole (new_course script) (untraced mode) held held f f [] [] (none_leads (new_course script) (untraced mode) [] [] refl) (keeps_appends held held (keeps_same held)));
           calm = refl;
         } in
-        subst (λ (w : Option Fault). RoomDayEnds earliest latest shown script mode (written held held f f) [] given w) (sym because) ends
+        subst (λ (w : Option Fault). RoomDayEnds earliest latest shows script mode (written held held f f) [] given w) (sym because) ends
 
   -- the head is written
   pub room_begun : {M : Type 0} (held holds : Option (List ℕ)) (f f_after : ℕ) (piece : Result (List ℕ) M) → IfOk piece (λ b. b ≡ head_text mode) → PieceEnds (written held holds f f_after) piece (Ok tt)

@@ -1,5 +1,6 @@
 -- The rooms of a day under way: their next window may be opened, and the day goes on by it.
 use Rattle.device_gate.specs.Places.{AreNumbered}
+use Rattle.device_states.specs.Devices.{Shown}
 use Rattle.home_types.proofs.Snocs.{snoc_get}
 use Rattle.home_types.specs.Kinds.{kind_at}
 use Rattle.home_types.specs.Listed.{Listed}
@@ -11,7 +12,6 @@ use Rattle.hub_commands.proofs.MergedLists.{HaveRoom, records_count}
 use Rattle.hub_commands.proofs.NextWindows.{next_gone}
 use Rattle.hub_commands.proofs.WorkedWays.{rounds_at, run_as}
 use Rattle.hub_commands.specs.Days.{DayIsUnderWay, new_course}
-use Rattle.hub_commands.specs.Finishes.{Shown}
 use Rattle.hub_commands.specs.Played.{setting_on}
 use Rattle.hub_commands.specs.RoomDays.{RoomsAreUnderWay, Windows, records_of, room_count}
 use Rattle.hub_commands.specs.RoomPlays.{AreOpened, AreTakenApart, MayAllOpen, RoomWent, RoomsWent}
@@ -131,27 +131,27 @@ may_open_room script sound mode goes w window at all split k home roster is kind
 -- ---- all rooms
 
 -- each home of the day may have its next window opened with the rosters of the split
-pub may_all_open : {D : Type 0} (earliest latest : ℕ) (shown : Shown D) (script : Script) → IsSound (plain_script script) → (mode : Mode) → IsTrue (is_mode mode) → (w : ℕ) (window : WindowText) → slice_get script.windows.items w ≡ Some window
-    → (rosters : List RoomRoster) → script_split script w ≡ Ok (map plain_room rosters) → (homes : List (HomeState D)) (windows : Windows) → length windows ≡ w → RoomsAreUnderWay earliest latest shown script mode homes windows
+pub may_all_open : {D : Type 0} (earliest latest : ℕ) (shows : D → Shown) (script : Script) → IsSound (plain_script script) → (mode : Mode) → IsTrue (is_mode mode) → (w : ℕ) (window : WindowText) → slice_get script.windows.items w ≡ Some window
+    → (rosters : List RoomRoster) → script_split script w ≡ Ok (map plain_room rosters) → (homes : List (HomeState D)) (windows : Windows) → length windows ≡ w → RoomsAreUnderWay earliest latest shows script mode homes windows
     → MayAllOpen mode window.probes rosters homes
-may_all_open earliest latest shown script sound mode goes w window at rosters split homes windows count day k roster home roster_at home_at =
+may_all_open earliest latest shows script sound mode goes w window at rosters split homes windows count day k roster home roster_at home_at =
     let is = day.each k home home_at in
     let place = at_roster script w rosters split k roster roster_at in
     may_open_room script sound mode goes w window at (map plain_room rosters) split k home roster place.1 is.kinds is.size
     (let n = is.opened in let within = slice_get_within script.windows.items w window at in let few = sound.few_windows in let all = is.played.count in
     omega (arith, n, all, few, length-map script.windows.items plain_window, length-map script.windows.items (own_window script k)))
 
-pub same_count : {D : Type 0} (earliest latest : ℕ) (shown : Shown D) (script : Script) (mode : Mode) (w : ℕ) (rosters : List RoomRoster) (homes : List (HomeState D)) (windows : Windows) → script_split script w ≡ Ok (map plain_room rosters)
-    → RoomsAreUnderWay earliest latest shown script mode homes windows → length rosters ≡ length homes
-same_count earliest latest shown script mode w rosters homes windows split day = rosters_count script w rosters split ∙ sym day.homed
+pub same_count : {D : Type 0} (earliest latest : ℕ) (shows : D → Shown) (script : Script) (mode : Mode) (w : ℕ) (rosters : List RoomRoster) (homes : List (HomeState D)) (windows : Windows) → script_split script w ≡ Ok (map plain_room rosters)
+    → RoomsAreUnderWay earliest latest shows script mode homes windows → length rosters ≡ length homes
+same_count earliest latest shows script mode w rosters homes windows split day = rosters_count script w rosters split ∙ sym day.homed
 
 -- what came of the rooms' windows
-pub rooms_went : {D : Type 0} (shown : Shown D) (earliest latest : ℕ) (script : Script) (mode : Mode) (w rounds : ℕ) (rosters : List RoomRoster) (before after : List (HomeState D)) (hubs : List (RoomHub D)) (done : List (RoomDone D)) (windows : List RoomWindow)
-    → script_split script w ≡ Ok (map plain_room rosters) → AreOpened shown.turns shown.probes shown.faults mode rounds rosters before hubs
-    → AreRoomsWorked shown.tag shown.plan shown.turns shown.probes shown.faults earliest latest hubs done
-    → AreTakenApart shown.tag shown.stands shown.turns shown.probes shown.faults done after windows
-    → RoomsWent shown earliest latest script mode w rounds before after windows
-rooms_went {D = D} shown earliest latest script mode w rounds rosters before after hubs done windows split opened worked apart = record {
+pub rooms_went : {D : Type 0} (shows : D → Shown) (earliest latest : ℕ) (script : Script) (mode : Mode) (w rounds : ℕ) (rosters : List RoomRoster) (before after : List (HomeState D)) (hubs : List (RoomHub D)) (done : List (RoomDone D)) (windows : List RoomWindow)
+    → script_split script w ≡ Ok (map plain_room rosters) → AreOpened shows mode rounds rosters before hubs
+    → AreRoomsWorked shows earliest latest hubs done
+    → AreTakenApart shows done after windows
+    → RoomsWent shows earliest latest script mode w rounds before after windows
+rooms_went {D = D} shows earliest latest script mode w rounds rosters before after hubs done windows split opened worked apart = record {
   split = split ∙ ap (λ rs. Ok (map plain_room rs)) (sym opened.rosters_are) ∙ ap (λ l. Ok l) (sym same_rosters);
   homed = let n = ap (λ l. length l) apart.homes_are in let m = length-map done (λ (room : RoomDone D). room.home) in omega (arith, n, m, worked.count, opened.count);
   count = let n = ap (λ l. length l) apart.windows_are in let m = length-map done (λ (room : RoomDone D). room.window) in omega (arith, n, m, worked.count, opened.count);
@@ -167,25 +167,25 @@ rooms_went {D = D} shown earliest latest script mode w rounds rosters before aft
         ∙ sym (map_twice plain_room (λ (room : RoomDone D). room.window.roster) done)
         ∙ ap (map plain_room) rosters_done
 
-    each : (k : ℕ) (x y : HomeState D) (window : RoomWindow) → slice_get before k ≡ Some x → slice_get after k ≡ Some y → slice_get windows k ≡ Some window → RoomWent shown earliest latest mode rounds x y window
+    each : (k : ℕ) (x y : HomeState D) (window : RoomWindow) → slice_get before k ≡ Some x → slice_get after k ≡ Some y → slice_get windows k ≡ Some window → RoomWent shows earliest latest mode rounds x y window
     each k x y window x_at y_at window_at = by (at_place done k within) (at_place hubs k (omega (arith, within, worked.count)))
       where
         within : k < length done
         within = let n = slice_get_within windows k window window_at in let m = ap (λ l. length l) apart.windows_are in omega (arith, n, m, length-map done (λ (room : RoomDone D). room.window))
 
-        by : (room : RoomDone D) × (slice_get done k ≡ Some room) → (hub : RoomHub D) × (slice_get hubs k ≡ Some hub) → RoomWent shown earliest latest mode rounds x y window
+        by : (room : RoomDone D) × (slice_get done k ≡ Some room) → (hub : RoomHub D) × (slice_get hubs k ≡ Some hub) → RoomWent shows earliest latest mode rounds x y window
         by (room, room_at) (hub, hub_at) =
             let is = worked.each k hub room hub_at room_at in
             let home : Some room.home ≡ Some y = sym (ap (λ l. slice_get l k) apart.homes_are ∙ slice_get-map (λ (r : RoomDone D). r.home) done k ∙ ap (option_map (λ (r : RoomDone D). r.home)) room_at) ∙ y_at in
             let win : Some room.window ≡ Some window = sym (ap (λ l. slice_get l k) apart.windows_are ∙ slice_get-map (λ (r : RoomDone D). r.window) done k ∙ ap (option_map (λ (r : RoomDone D). r.window)) room_at) ∙ window_at in
             let home_is : room.home ≡ y = cc in
             let win_is : room.window ≡ window = cc in
-            let P : HomeState D × RoomWindow → Type 0 = λ q. RoomWent shown earliest latest mode rounds x q.0 q.1 in
+            let P : HomeState D × RoomWindow → Type 0 = λ q. RoomWent shows earliest latest mode rounds x q.0 q.1 in
             subst P (λ i. (home_is i, win_is i)) (record {
               hub = hub.hub;
-              opened = subst (λ (r : RoomRoster). IsOpened shown.turns shown.probes shown.faults (setting_for x r.roster mode) rounds x hub.hub) (sym is.roster) (opened.each k x hub x_at hub_at);
+              opened = subst (λ (r : RoomRoster). IsOpened shows (setting_for x r.roster mode) rounds x hub.hub) (sym is.roster) (opened.each k x hub x_at hub_at);
               worked = is.worked;
-              kept = subst (λ h. HomeIsKept shown.tag shown.stands shown.turns shown.probes shown.faults h) (sym home_is) (apart.kept k y y_at);
+              kept = subst (λ h. HomeIsKept shows h) (sym home_is) (apart.kept k y y_at);
             })
 
 -- the windows of a room with one more
@@ -195,11 +195,11 @@ records_more k windows ws window at =
     ∙ ap (λ (o : Option RoomWindow). records_of k windows ++ cons_option (option_map (λ w. w.closed) o) []) at
 
 -- the day with one window more of every room
-pub rooms_gone_on : {D : Type 0} (earliest latest : ℕ) (shown : Shown D) (script : Script) (mode : Mode) (w : ℕ) (window : WindowText) (before after : List (HomeState D)) (windows : Windows) (ws : Listed RoomWindow)
-    → slice_get script.windows.items w ≡ Some window → length windows ≡ w → RoomsAreUnderWay earliest latest shown script mode before windows
-    → RoomsWent shown earliest latest script mode w window.probes before after ws.items
-    → RoomsAreUnderWay earliest latest shown script mode after (windows ++ ws ∷ [])
-rooms_gone_on {D = D} earliest latest shown script mode w window before after windows ws at count day went = record {
+pub rooms_gone_on : {D : Type 0} (earliest latest : ℕ) (shows : D → Shown) (script : Script) (mode : Mode) (w : ℕ) (window : WindowText) (before after : List (HomeState D)) (windows : Windows) (ws : Listed RoomWindow)
+    → slice_get script.windows.items w ≡ Some window → length windows ≡ w → RoomsAreUnderWay earliest latest shows script mode before windows
+    → RoomsWent shows earliest latest script mode w window.probes before after ws.items
+    → RoomsAreUnderWay earliest latest shows script mode after (windows ++ ws ∷ [])
+rooms_gone_on {D = D} earliest latest shows script mode w window before after windows ws at count day went = record {
   count = let within = slice_get_within script.windows.items w window at in omega (arith, within, count, length-append windows (ws ∷ []));
   homed = went.homed ∙ day.homed;
   split = λ v xs xs_at. elim (snoc_get windows ws xs v xs_at) [
@@ -222,20 +222,20 @@ rooms_gone_on {D = D} earliest latest shown script mode w window before after wi
             omega (arith, all, length-map xs.items (λ (x : RoomWindow). plain_room x.roster), length-map (range_with_len 0 (room_count script)) room, length-range_with_len 0 (room_count script))
 
     each : (k : ℕ) (y : HomeState D) → slice_get after k ≡ Some y → (x : HomeState D) × (slice_get before k ≡ Some x) → (win : RoomWindow) × (slice_get ws.items k ≡ Some win)
-        → DayIsUnderWay (IsRunWithin earliest latest) shown.tag shown.plan shown.stands shown.turns shown.probes shown.faults (own_script script k) mode y (records_of k (windows ++ ws ∷ []))
+        → DayIsUnderWay (IsRunWithin earliest latest) shows (own_script script k) mode y (records_of k (windows ++ ws ∷ []))
     each k y y_at (x, x_at) (win, win_at) =
         let is = day.each k x x_at in
         let room = went.each k x y win x_at y_at win_at in
         let place = at_window in
         let own_at : slice_get (own_script script k).windows.items (length (records_of k windows)) ≡ Some (own_window script k window) =
         ap (slice_get (own_script script k).windows.items) (number ∙ count) ∙ slice_get-map (own_window script k) script.windows.items w ∙ ap (option_map (own_window script k)) at in
-        let opened : IsOpened shown.turns shown.probes shown.faults (setting_on (own_script script k) mode (length (records_of k windows)) x) window.probes x room.hub =
-        subst (λ runs. IsOpened shown.turns shown.probes shown.faults (record { runs = runs; mode = mode; kinds = x.kinds; first = x.world }) window.probes x room.hub)
+        let opened : IsOpened shows (setting_on (own_script script k) mode (length (records_of k windows)) x) window.probes x room.hub =
+        subst (λ runs. IsOpened shows (record { runs = runs; mode = mode; kinds = x.kinds; first = x.world }) window.probes x room.hub)
         (ap (λ (r : Room). r.own_runs) place ∙ sym (own_runs_are script k w) ∙ ap (script_runs (own_script script k)) (sym (number ∙ count))) room.opened in
-        let gone = next_gone (IsRunWithin earliest latest) shown.tag shown.plan shown.stands shown.turns shown.probes shown.faults (new_course (own_script script k)) mode (own_window script k window) x y room.hub (records_of k windows) (records_of k windows ++ win.closed ∷ []) win.closed
+        let gone = next_gone (IsRunWithin earliest latest) shows (new_course (own_script script k)) mode (own_window script k window) x y room.hub (records_of k windows) (records_of k windows ++ win.closed ∷ []) win.closed
         is (record { window = own_window script k window; at = own_at; opened = opened; numbered = numbered is }) own_at
-        (run_as shown.tag shown.plan shown.turns shown.probes shown.faults earliest latest room.hub (own_window script k window) y win.closed room.opened.rounds_are room.worked) room.kept refl in
-        subst (λ rs. DayIsUnderWay (IsRunWithin earliest latest) shown.tag shown.plan shown.stands shown.turns shown.probes shown.faults (own_script script k) mode y rs) (sym (records_more k windows ws win win_at)) gone.under_way
+        (run_as shows earliest latest room.hub (own_window script k window) y win.closed room.opened.rounds_are room.worked) room.kept refl in
+        subst (λ rs. DayIsUnderWay (IsRunWithin earliest latest) shows (own_script script k) mode y rs) (sym (records_more k windows ws win win_at)) gone.under_way
       where
         inside : k < room_count script
         inside = let within = slice_get_within before k x x_at in let n = day.homed in omega (arith, within, n)
@@ -247,15 +247,15 @@ rooms_gone_on {D = D} earliest latest shown script mode w window before after wi
         at_window = (at_roster script w (map (λ (z : RoomWindow). z.roster) ws.items) (went.split ∙ ap (λ l. Ok l) (sym (map_twice plain_room (λ (z : RoomWindow). z.roster) ws.items))) k win.roster
             (slice_get-map (λ (z : RoomWindow). z.roster) ws.items k ∙ ap (option_map (λ (z : RoomWindow). z.roster)) win_at)).1
 
-        numbered : DayIsUnderWay (IsRunWithin earliest latest) shown.tag shown.plan shown.stands shown.turns shown.probes shown.faults (own_script script k) mode x (records_of k windows) → AreNumbered shown.tag x.devices
+        numbered : DayIsUnderWay (IsRunWithin earliest latest) shows (own_script script k) mode x (records_of k windows) → AreNumbered shows x.devices
         numbered is d device device_at =
             let within = slice_get_within x.devices d device device_at in
             let text = at_place (own_script script k).devices.items d (let size = is.left.size in omega (arith, within, size)) in
             (is.left.own d device text.0 device_at text.1).tag_is
 
 -- hubs that were opened are ready to be worked
-pub all_ready : {D : Type 0} (turns probes faults : D → ℕ) (mode : Mode) (rounds : ℕ) (rosters : List RoomRoster) (homes : List (HomeState D)) (hubs : List (RoomHub D)) → AreOpened turns probes faults mode rounds rosters homes hubs → All (IsReady rounds) hubs
-all_ready {D = D} turns probes faults mode rounds rosters homes hubs are k d within = by (at_place homes k (let n = are.count in omega (arith, within, n)))
+pub all_ready : {D : Type 0} (shows : D → Shown) (mode : Mode) (rounds : ℕ) (rosters : List RoomRoster) (homes : List (HomeState D)) (hubs : List (RoomHub D)) → AreOpened shows mode rounds rosters homes hubs → All (IsReady rounds) hubs
+all_ready {D = D} shows mode rounds rosters homes hubs are k d within = by (at_place homes k (let n = are.count in omega (arith, within, n)))
   where
     room : RoomHub D
     room = get_or hubs k d
@@ -263,7 +263,7 @@ all_ready {D = D} turns probes faults mode rounds rosters homes hubs are k d wit
     by : (home : HomeState D) × (slice_get homes k ≡ Some home) → IsReady rounds room
     by (home, at) =
         let opened = are.each k home room at (slice_get-get_or hubs k d within) in
-        let fresh = fresh_where turns probes faults (setting_for home room.roster.roster mode) rounds home room.hub opened in
+        let fresh = fresh_where shows (setting_for home room.roster.roster mode) rounds home room.hub opened in
         record {
           runs = ap (λ c. c.setting.runs) opened.configuration;
           fresh = fresh;

@@ -1,7 +1,8 @@
 -- The day of a trial.
 use Rattle.command_words.specs.declared.command_lines.Options.{Options}
+use Rattle.device_states.specs.Devices.{Shown}
 use Rattle.hub_commands.specs.Days.{plain}
-use Rattle.hub_commands.specs.Finishes.{DayEnds, DayIsWhole, Shown, Writes}
+use Rattle.hub_commands.specs.Finishes.{DayEnds, DayIsWhole, Writes}
 use Rattle.hub_commands.specs.Trials.{HasJudged, IsTrialDay, TrialEnds, finding, trial_mode}
 use Rattle.hub_commands.specs.Ways.{IsReplayOf}
 use Rattle.hub_commands.specs.declared.faults.Fault.TheVariants.{Check, Cross, Damaged, Disk, Memory, Read, Script as Refuses, Words, Write}
@@ -20,17 +21,17 @@ given_day : {D : Type 0} (P : Day D → Type 0) (day other : Day D) → ◌≡�
 given_day P day other given holds = let same : other ≡ day = cc in subst P same holds
 
 -- the records of a whole day are legal
-pub whole_legal : {D : Type 0} (shown : Shown D) (script : Script) (options : Options) (sink : Writes) (o : Option (Day D)) (fault : Option Fault) (day : Day D) → o ≡ Some day → fault ≡ None
-    → DayEnds IsReplayOf shown plain script options sink o fault → RecordsAreLegal script options.mode day.windows.items
-whole_legal shown script options sink o fault day is none ends =
-    let whole : DayIsWhole IsReplayOf shown plain script options sink o = subst (λ f. DayEnds IsReplayOf shown plain script options sink o f) none ends in
+pub whole_legal : {D : Type 0} (shows : D → Shown) (script : Script) (options : Options) (sink : Writes) (o : Option (Day D)) (fault : Option Fault) (day : Day D) → o ≡ Some day → fault ≡ None
+    → DayEnds IsReplayOf shows plain script options sink o fault → RecordsAreLegal script options.mode day.windows.items
+whole_legal shows script options sink o fault day is none ends =
+    let whole : DayIsWhole IsReplayOf shows plain script options sink o = subst (λ f. DayEnds IsReplayOf shows plain script options sink o f) none ends in
     given_day (λ d. RecordsAreLegal script options.mode d.windows.items) day whole.day (sym is ∙ whole.given) whole.legal.legal
 
-module _ {D : Type 0} (shown : Shown D) (n : ℕ) (script : Script) (made : plain_script script ≡ trial_script n) (text sink : Writes) (after : Option (Day D)) where
+module _ {D : Type 0} (shows : D → Shown) (n : ℕ) (script : Script) (made : plain_script script ≡ trial_script n) (text sink : Writes) (after : Option (Day D)) where
   abbrev trial_options : Options
   trial_options = record { mode = trial_mode; trace = false }
 
-  trial_day : (o : Option (Day D)) (whole : DayIsWhole IsReplayOf shown plain script trial_options text o) → finding script whole.day ≡ Agrees → IsTrialDay shown n whole.day
+  trial_day : (o : Option (Day D)) (whole : DayIsWhole IsReplayOf shows plain script trial_options text o) → finding script whole.day ≡ Agrees → IsTrialDay shows n whole.day
   trial_day o whole agrees = record {
     script = script;
     made = made;
@@ -43,8 +44,8 @@ module _ {D : Type 0} (shown : Shown D) (n : ℕ) (script : Script) (made : plai
     agrees = agrees;
   }
 
-  judged_whole : (o : Option (Day D)) (whole : DayIsWhole IsReplayOf shown plain script trial_options text o) (told : Option Fault)
-      → finding script whole.day ≡ Agrees → HasJudged n script sink whole.day after told → TrialEnds shown n sink after told
+  judged_whole : (o : Option (Day D)) (whole : DayIsWhole IsReplayOf shows plain script trial_options text o) (told : Option Fault)
+      → finding script whole.day ≡ Agrees → HasJudged n script sink whole.day after told → TrialEnds shows n sink after told
   unfolding trial_day
   judged_whole o whole None agrees judged =
       record { day = whole.day; given = judged.0; trial = trial_day o whole agrees; text = judged.1; calm = judged.2 }
@@ -72,7 +73,7 @@ module _ {D : Type 0} (shown : Shown D) (n : ℕ) (script : Script) (made : plai
 
   -- a day that was played and judged
   pub judged_ends : (o : Option (Day D)) (fault : Option Fault) (day : Day D) (told : Option Fault) → o ≡ Some day → fault ≡ None
-      → DayEnds IsReplayOf shown plain script trial_options text o fault → finding script day ≡ Agrees → HasJudged n script sink day after told → TrialEnds shown n sink after told
+      → DayEnds IsReplayOf shows plain script trial_options text o fault → finding script day ≡ Agrees → HasJudged n script sink day after told → TrialEnds shows n sink after told
   judged_ends o fault day told is none ends =
-      let whole : DayIsWhole IsReplayOf shown plain script trial_options text o = subst (λ f. DayEnds IsReplayOf shown plain script trial_options text o f) none ends in
-      given_day (λ d. finding script d ≡ Agrees → HasJudged n script sink d after told → TrialEnds shown n sink after told) day whole.day (sym is ∙ whole.given) (judged_whole o whole told)
+      let whole : DayIsWhole IsReplayOf shows plain script trial_options text o = subst (λ f. DayEnds IsReplayOf shows plain script trial_options text o f) none ends in
+      given_day (λ d. finding script d ≡ Agrees → HasJudged n script sink d after told → TrialEnds shows n sink after told) day whole.day (sym is ∙ whole.given) (judged_whole o whole told)

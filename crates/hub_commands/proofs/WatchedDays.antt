@@ -2,27 +2,27 @@
 use Rattle.command_words.specs.declared.command_lines.Options.{Options}
 use Rattle.day_clock.specs.Sinks.{AppendsPart}
 use Rattle.day_report.specs.Days.{day_text, total_text}
-use Rattle.history_book.specs.Settings.{Setting}
+use Rattle.device_states.specs.Devices.{Shown}
 use Rattle.history_book.specs.declared.records.WindowRecord.{WindowRecord}
 use Rattle.home_types.specs.Listed.{Listed}
 use Rattle.hub_commands.proofs.PlayedDays.{all_lead, keeps_same, lead_written, unbuilt}
 use Rattle.hub_commands.proofs.Texts.{appends_keeps, appends_more, board_due, board_there, due_boarded, due_whole, first_wider, part_more, part_wider, text_whole, whole_first}
 use Rattle.hub_commands.specs.Boards.{board_text}
 use Rattle.hub_commands.specs.Days.{boarded, new_course, plain, text_due, text_so_far}
-use Rattle.hub_commands.specs.Finishes.{AppendsFirst, DayEnds, DayIsWhole, IsCut, IsStarved, IsWrittenAsClosed, Shown, Writes, written}
+use Rattle.hub_commands.specs.Finishes.{AppendsFirst, DayEnds, DayIsWhole, IsCut, IsStarved, IsWrittenAsClosed, Writes, written}
 use Rattle.hub_commands.specs.LastLines.{LineEnds, LineIsWritten}
 use Rattle.hub_commands.specs.Watched.{IsPublished}
+use Rattle.hub_commands.specs.Ways.{WindowWay}
 use Rattle.hub_commands.specs.declared.faults.Fault.TheVariants.{Check, Cross, Damaged, Disk, Memory, Read, Script as Refuses, Words, Write}
 use Rattle.hub_commands.specs.declared.faults.Fault.{Fault}
 use Rattle.hub_commands.specs.declared.finishes.Day.{Day}
 use Rattle.routine_reader.specs.declared.scripts.Script.{Script}
-use Rattle.routine_reader.specs.declared.scripts.WindowText.{WindowText}
 use Rattle.status_board.specs.declared.day_counts.Counts.{Counts}
 use Rattle.std.proofs.Common.{ap, append-nil, append_assoc, arith, refl, subst, sym, ◌∙◌}
 use Rattle.std.specs.Io.KnownBytes.{Appends, Keeps}
 use Rattle.std.specs.Prelude.{List, None, Option, Some, [], option_map, take, ℕ, ◌++◌, ◌≡◌}
 
-module _ {D : Type 0} (works : Setting → WindowText → WindowRecord → (ℕ → ℕ) → Type 0) (shown : Shown D) (script : Script) (options : Options) (held mid holds : Option (List ℕ)) (f f_mid f_after : ℕ) where
+module _ {D : Type 0} (works : WindowWay) (shows : D → Shown) (script : Script) (options : Options) (held mid holds : Option (List ℕ)) (f f_mid f_after : ℕ) where
   -- what was written as it closed is so still
   closed_still : (records : List WindowRecord) → IsWrittenAsClosed script options (written held mid f f_mid) records → Keeps mid holds → IsWrittenAsClosed script options (written held holds f f_after) records
   closed_still records as_closed keeps before closed is =
@@ -30,8 +30,8 @@ module _ {D : Type 0} (works : Setting → WindowText → WindowRecord → (ℕ 
       (own.0, appends_keeps held mid holds (text_so_far script options.mode options.trace before ++ own.0) own.1 keeps)
 
   -- a day that was cut before the line
-  cut_before : (day after : Option (Day D)) → after ≡ day → IsCut works shown plain script options (written held mid f f_mid) day → Keeps mid holds → f_after ≡ f_mid
-      → IsCut works shown boarded script options (written held holds f f_after) after
+  cut_before : (day after : Option (Day D)) → after ≡ day → IsCut works shows plain script options (written held mid f f_mid) day → Keeps mid holds → f_after ≡ f_mid
+      → IsCut works shows boarded script options (written held holds f f_after) after
   cut_before day after same cut keeps calm =
       let due = text_due plain script options.mode options.trace cut.day.windows.items in record {
         day = cut.day;
@@ -64,7 +64,7 @@ module _ {D : Type 0} (works : Setting → WindowText → WindowRecord → (ℕ 
         calm = calm ∙ starved.calm;
       }
 
-  module _ (day after : Option (Day D)) (line : List ℕ) (whole : DayIsWhole works shown plain script options (written held mid f f_mid) day) (is : line ≡ board_text whole.day.windows.items) where
+  module _ (day after : Option (Day D)) (line : List ℕ) (whole : DayIsWhole works shows plain script options (written held mid f f_mid) day) (is : line ≡ board_text whole.day.windows.items) where
     abbrev records : List WindowRecord
     records = whole.day.windows.items
 
@@ -84,7 +84,7 @@ module _ {D : Type 0} (works : Setting → WindowText → WindowRecord → (ℕ 
         lead_written (new_course script) options held holds f f_after records (text_so_far script options.mode options.trace records) (total_text records ++ more) (all_lead (new_course script) options records)
         (subst (λ t. Appends held holds t) (ap (λ t. t ++ more) (sym (text_whole (new_course script) options.mode options.trace records)) ∙ append_assoc (text_so_far script options.mode options.trace records) (total_text records) more) got)
 
-    behind_whole : (why : Option Fault) → LineIsWritten line (written mid holds f_mid f_after) day after why → DayEnds works shown boarded script options (written held holds f f_after) after why
+    behind_whole : (why : Option Fault) → LineIsWritten line (written mid holds f_mid f_after) day after why → DayEnds works shows boarded script options (written held holds f f_after) after why
     behind_whole None got = record {
       day = whole.day;
       given = got.0 ∙ whole.given;
@@ -130,30 +130,30 @@ module _ {D : Type 0} (works : Setting → WindowText → WindowRecord → (ℕ 
     behind_whole (Some (Damaged slot)) got = got
 
   -- the day ends with the line behind it
-  pub line_ends : (day after : Option (Day D)) (fault why : Option Fault) (line : List ℕ) → DayEnds works shown plain script options (written held mid f f_mid) day fault
+  pub line_ends : (day after : Option (Day D)) (fault why : Option Fault) (line : List ℕ) → DayEnds works shows plain script options (written held mid f f_mid) day fault
       → LineEnds line (written mid holds f_mid f_after) day fault after why → (fault ≡ None → (d : Day D) → day ≡ Some d → line ≡ board_text d.windows.items)
-      → DayEnds works shown boarded script options (written held holds f f_after) after why
+      → DayEnds works shows boarded script options (written held holds f f_after) after why
   line_ends day after None why line ends got is = behind_whole day after line ends (is refl ends.day ends.given) why got
   line_ends day after (Some (Refuses fault)) why line ends got is = absurd ends
   line_ends day after (Some Words) why line ends got is = absurd ends
   line_ends day after (Some Read) why line ends got is = absurd ends
   line_ends day after (Some Write) why line ends got is =
-      subst (λ (w : Option Fault). DayEnds works shown boarded script options (written held holds f f_after) after w) (sym got.1) (cut_before day after got.0 ends got.2.0 got.2.1)
+      subst (λ (w : Option Fault). DayEnds works shows boarded script options (written held holds f f_after) after w) (sym got.1) (cut_before day after got.0 ends got.2.0 got.2.1)
   line_ends day after (Some Memory) why line ends got is =
-      subst (λ (w : Option Fault). DayEnds works shown boarded script options (written held holds f f_after) after w) (sym got.1) (starved_before day after got.0 ends got.2.0 got.2.1)
+      subst (λ (w : Option Fault). DayEnds works shows boarded script options (written held holds f f_after) after w) (sym got.1) (starved_before day after got.0 ends got.2.0 got.2.1)
   line_ends day after (Some (Check window place name)) why line ends got is = absurd ends
   line_ends day after (Some (Cross window run follow)) why line ends got is = absurd ends
   line_ends day after (Some Disk) why line ends got is = absurd ends
   line_ends day after (Some (Damaged slot)) why line ends got is = absurd ends
 
 -- no memory for the board
-pub unbuilt_boarded : {D : Type 0} (works : Setting → WindowText → WindowRecord → (ℕ → ℕ) → Type 0) (shown : Shown D) (script : Script) (options : Options) (held : Option (List ℕ)) (f : ℕ) (windows : Listed WindowRecord) (day : Option (Day D)) (why : Option Fault)
+pub unbuilt_boarded : {D : Type 0} (works : WindowWay) (shows : D → Shown) (script : Script) (options : Options) (held : Option (List ℕ)) (f : ℕ) (windows : Listed WindowRecord) (day : Option (Day D)) (why : Option Fault)
     → windows.items ≡ [] → day ≡ Some (record { windows = windows; devices = None }) → why ≡ Some Memory
-    → DayEnds works shown boarded script options (written held held f f) day why
-unbuilt_boarded works shown script options held f windows day why none given because =
-    let ends = unbuilt works shown (new_course script) options held f windows day why none given because in
-    subst (λ (w : Option Fault). DayEnds works shown boarded script options (written held held f f) day w) (sym because)
-    (starved_before works shown script options held held held f f f day day refl (subst (λ (w : Option Fault). DayEnds works shown plain script options (written held held f f) day w) because ends) (keeps_same held) refl)
+    → DayEnds works shows boarded script options (written held held f f) day why
+unbuilt_boarded works shows script options held f windows day why none given because =
+    let ends = unbuilt works shows (new_course script) options held f windows day why none given because in
+    subst (λ (w : Option Fault). DayEnds works shows boarded script options (written held held f f) day w) (sym because)
+    (starved_before works shows script options held held held f f f day day refl (subst (λ (w : Option Fault). DayEnds works shows plain script options (written held held f f) day w) because ends) (keeps_same held) refl)
 
 -- behind the line the windows are the same
 pub line_published : {D : Type 0} (line : List ℕ) (sink : Writes) (list : List Counts) (day after : Option (Day D)) (fault why : Option Fault) → LineEnds line sink day fault after why → IsPublished list day → IsPublished list after

@@ -2,6 +2,7 @@
 use Rattle.command_words.specs.CommandLines.{command_line_of}
 use Rattle.command_words.specs.declared.command_lines.CommandLine.TheVariants.{Check, Keep, Replay, Run, Trial, Watch}
 use Rattle.command_words.specs.declared.command_lines.CommandLine.{CommandLine}
+use Rattle.command_words.specs.declared.command_lines.Options.{Options}
 use Rattle.std.specs.Prelude.{List, None, Option, Some, option_and_then, ℕ}
 
 -- every command but `run`, `watch` and `keep`
@@ -31,14 +32,14 @@ watch_line (Keep options) = None
 watch_line Check = None
 watch_line (Trial n) = None
 
--- `keep` alone
-abbrev pub keep_line : CommandLine → Option CommandLine
-keep_line (Run options) = None
-keep_line (Replay options) = None
-keep_line (Watch options) = None
-keep_line (Keep options) = Some (Keep options)
-keep_line Check = None
-keep_line (Trial n) = None
+-- the options of `keep`
+abbrev pub keep_options : CommandLine → Option Options
+keep_options (Run options) = None
+keep_options (Replay options) = None
+keep_options (Watch options) = None
+keep_options (Keep options) = Some options
+keep_options Check = None
+keep_options (Trial n) = None
 
 -- the command line that the words are, where the call takes it
 abbrev pub still_line_of : List (List ℕ) → Option CommandLine
@@ -50,5 +51,6 @@ run_line_of words = option_and_then run_line (command_line_of words)
 abbrev pub watch_line_of : List (List ℕ) → Option CommandLine
 watch_line_of words = option_and_then watch_line (command_line_of words)
 
-abbrev pub keep_line_of : List (List ℕ) → Option CommandLine
-keep_line_of words = option_and_then keep_line (command_line_of words)
+-- the options of a kept day, where the words are of one
+abbrev pub keep_options_of : List (List ℕ) → Option Options
+keep_options_of words = option_and_then keep_options (command_line_of words)

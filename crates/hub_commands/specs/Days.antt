@@ -1,6 +1,7 @@
 -- A day under way: what was played and written of it.
 use Rattle.command_rules.specs.Rosters.{is_run}
 use Rattle.day_report.specs.Days.{day_text_from, head_text, total_text, window_texts_from}
+use Rattle.device_states.specs.Devices.{Shown}
 use Rattle.history_book.specs.Histories.{reading}
 use Rattle.history_book.specs.Settings.{Setting}
 use Rattle.history_book.specs.declared.entries.End.TheVariants.{Committed}
@@ -10,6 +11,7 @@ use Rattle.home_types.specs.Numbers.{DeviceId, RunId}
 use Rattle.home_types.specs.declared.modes.Mode.{Mode}
 use Rattle.home_types.specs.declared.modes.Scheduler.TheVariants.{Fcfs}
 use Rattle.hub_commands.specs.Boards.{board_text}
+use Rattle.hub_commands.specs.Ways.{WindowWay}
 use Rattle.hub_core.specs.Homes.{HomeState}
 use Rattle.hub_core.specs.HubCalls.{RunsHaveEnded}
 use Rattle.hub_core.specs.MustChecks.{has_must_check}
@@ -18,7 +20,7 @@ use Rattle.legal_days.specs.LegalWindows.{history_of}
 use Rattle.routine_reader.specs.Rosters.{kinds_of}
 use Rattle.routine_reader.specs.declared.scripts.Script.{Script}
 use Rattle.routine_reader.specs.declared.scripts.WindowText.{WindowText}
-use Rattle.std.specs.Prelude.{Bool, List, Option, Some, [], false, if◌then◌else◌, length, slice_get, sum_by, true, ℕ, ◌+◌, ◌++◌, ◌<◌, ◌==◌, ◌≡◌, ◌≤◌}
+use Rattle.std.specs.Prelude.{Bool, List, Some, [], false, if◌then◌else◌, length, slice_get, sum_by, true, ℕ, ◌+◌, ◌++◌, ◌<◌, ◌==◌, ◌≡◌, ◌≤◌}
 
 -- the course of a day: where it begins, which devices are down there, and the lines that stand
 -- between the head and its windows
@@ -51,9 +53,8 @@ script_of course = to_come course.begins
 
 -- each record is that of a window that was worked in this way, with so many probes of each device,
 -- in order
-pub record AreWorkedOn (works : Setting → WindowText → WindowRecord → (DeviceId → ℕ) → Type 0)
-    (course : DayCourse) (mode : Mode) (records : List WindowRecord)
-    (takes : List (DeviceId → ℕ)) : Type 0 where
+pub record AreWorkedOn (works : WindowWay) (course : DayCourse) (mode : Mode)
+    (records : List WindowRecord) (takes : List (DeviceId → ℕ)) : Type 0 where
   pub count : length takes ≡ length records
   pub each : (k : ℕ) (window : WindowText) (closed : WindowRecord) (taken : ℕ → ℕ)
       → slice_get (script_of course).windows.items k ≡ Some window
@@ -92,9 +93,8 @@ AllHaveCommittedOn course mode records =
 -- the windows so far are legal, each was worked in this way with these probes, and every run has
 -- ended; where runs are served as they come, no device was down as the day began and none has
 -- failed since, each run that has no must `check` has committed
-pub record WindowsArePlayedOn
-    (works : Setting → WindowText → WindowRecord → (DeviceId → ℕ) → Type 0) (course : DayCourse)
-    (mode : Mode) (records : List WindowRecord) (takes : List (DeviceId → ℕ)) : Type 0 where
+pub record WindowsArePlayedOn (works : WindowWay) (course : DayCourse) (mode : Mode)
+    (records : List WindowRecord) (takes : List (DeviceId → ℕ)) : Type 0 where
   pub count : length records ≤ length (script_of course).windows.items
   pub legal : AreLegalFrom course.begins mode records
   pub worked : AreWorkedOn works course mode records takes
@@ -103,20 +103,18 @@ pub record WindowsArePlayedOn
       → AllHaveCommittedOn course mode records
 
 -- the devices were probed as often as probes were taken of them in the windows
-abbrev pub DevicesAreProbed : {D : Type 0} → (D → ℕ) → List (DeviceId → ℕ) → List D → Type 0
-DevicesAreProbed {D} probes takes devices =
+abbrev pub DevicesAreProbed : {D : Type 0} → (D → Shown) → List (DeviceId → ℕ) → List D → Type 0
+DevicesAreProbed {D} shows takes devices =
     (d : DeviceId) (device : D) → slice_get devices d ≡ Some device
-    → probes device ≡ probes_taken_together takes d
+    → (shows device).probes ≡ probes_taken_together takes d
 
 -- the home after the windows so far
-pub record IsUnderWayOn {D : Type 0}
-    (works : Setting → WindowText → WindowRecord → (DeviceId → ℕ) → Type 0) (tag : D → ℕ)
-    (plan : D → Option (List (ℕ × ℕ))) (stands turns probes faults : D → ℕ) (course : DayCourse)
+pub record IsUnderWayOn {D : Type 0} (works : WindowWay) (shows : D → Shown) (course : DayCourse)
     (mode : Mode) (home : HomeState D) (records : List WindowRecord) : Type 0 where
   pub takes : List (DeviceId → ℕ)
   pub played : WindowsArePlayedOn works course mode records takes
-  pub left : AreLeftFrom tag plan stands turns faults course.begins records home.devices
-  pub probed : DevicesAreProbed probes takes home.devices
+  pub left : AreLeftFrom shows course.begins records home.devices
+  pub probed : DevicesAreProbed shows takes home.devices
   pub kinds : home.kinds ≡ kinds_of course.begins.script
   pub world : home.world ≡ state_from course.begins records (length records)
   pub size : length home.world ≡ length course.begins.script.devices.items
@@ -127,27 +125,15 @@ pub record IsUnderWayOn {D : Type 0}
 
 -- The same of a script's day
 
-abbrev pub WindowsArePlayed : (Setting → WindowText → WindowRecord → (DeviceId → ℕ) → Type 0)
-    → Script → Mode → List WindowRecord → List (DeviceId → ℕ) → Type 0
+abbrev pub WindowsArePlayed : WindowWay → Script → Mode → List WindowRecord → List (DeviceId → ℕ)
+    → Type 0
 WindowsArePlayed works script mode records takes =
     WindowsArePlayedOn works (new_course script) mode records takes
 
-abbrev pub DayIsUnderWay : {D : Type 0}
-    → (Setting → WindowText → WindowRecord → (DeviceId → ℕ) → Type 0) → (D → ℕ)
-    → (D → Option (List (ℕ × ℕ))) → (D → ℕ) → (D → ℕ) → (D → ℕ) → (D → ℕ) → Script → Mode
-    → HomeState D → List WindowRecord → Type 0
-DayIsUnderWay works tag plan stands turns probes faults script mode home records =
-    IsUnderWayOn works tag plan stands turns probes faults (new_course script) mode home records
-
--- the device after a window: the same one, whose calls rose as the record says, and its probes by
--- those that were taken
-pub record IsPlayedOn {D : Type 0} (tag : D → ℕ) (plan : D → Option (List (ℕ × ℕ)))
-    (turns probes faults : D → ℕ) (called failed probed : ℕ) (before after : D) : Type 0 where
-  pub same_tag : tag after ≡ tag before
-  pub same_plan : plan after ≡ plan before
-  pub turns_rose : turns after ≡ turns before + called
-  pub faults_rose : faults after ≡ faults before + failed
-  pub probes_rose : probes after ≡ probes before + probed
+abbrev pub DayIsUnderWay : {D : Type 0} → WindowWay → (D → Shown) → Script → Mode → HomeState D
+    → List WindowRecord → Type 0
+DayIsUnderWay works shows script mode home records =
+    IsUnderWayOn works shows (new_course script) mode home records
 
 -- Texts
 

@@ -3,12 +3,13 @@
 use Rattle.command_words.specs.declared.command_lines.Options.{Options}
 use Rattle.day_clock.specs.Sinks.{AppendsPart}
 use Rattle.day_clock.specs.Sources.{TakesCount, TakesUpTo}
-use Rattle.history_book.specs.Settings.{Setting}
+use Rattle.device_states.specs.Devices.{Shown}
 use Rattle.history_book.specs.declared.records.WindowRecord.{WindowRecord}
 use Rattle.home_types.specs.Limits.{most_script_bytes}
 use Rattle.home_types.specs.Listed.{Listed}
 use Rattle.home_types.specs.Numbers.{DeviceId}
 use Rattle.hub_commands.specs.Days.{Closing, DayCourse, DevicesAreProbed, WindowsArePlayedOn, new_course, record_text_on, text_due_on, text_on}
+use Rattle.hub_commands.specs.Ways.{WindowWay}
 use Rattle.hub_commands.specs.declared.faults.Fault.TheVariants.{Check, Cross, Damaged, Disk, Memory, Read, Script as Refuses, Words, Write}
 use Rattle.hub_commands.specs.declared.faults.Fault.{Fault}
 use Rattle.hub_commands.specs.declared.finishes.Day.{Day}
@@ -19,7 +20,6 @@ use Rattle.routine_reader.specs.Sound.{IsSound}
 use Rattle.routine_reader.specs.Spots.{is_memory}
 use Rattle.routine_reader.specs.declared.faults.ReadFault.{ReadFault}
 use Rattle.routine_reader.specs.declared.scripts.Script.{Script}
-use Rattle.routine_reader.specs.declared.scripts.WindowText.{WindowText}
 use Rattle.std.specs.Io.KnownBytes.{Appends, IsAtEnd, Keeps}
 use Rattle.std.specs.Prelude.{Err, IfSome, List, None, Ok, Option, Result, Some, [], false, take, ℕ, ◌++◌, ◌+◌, ◌<◌, ◌∷◌, ◌≡◌, ◌⊎◌}
 
@@ -97,9 +97,24 @@ InputIsRead source (Err (Cross window run follow)) = ⊥
 InputIsRead source (Err Disk) = ⊥
 InputIsRead source (Err (Damaged slot)) = ⊥
 
+-- no script was read, for this fault
+pub record NoScriptIsRead (source : Reads) (fault : Option Fault) : Type 0 where
+  pub why : Fault
+  pub is : fault ≡ Some why
+  pub input : InputIsRead source (Err why)
+
+-- the words are of no command that the call takes, or memory was wanted for reading them, and
+-- nothing was read
+abbrev pub WordsAreRefused : Reads → Option Fault → Type 0
+WordsAreRefused source fault = ((fault ≡ Some Words) ⊎ (fault ≡ Some Memory)) × IsUnread source
+
 -- the sink holds what it held
 abbrev pub IsUnwritten : Writes → Type 0
 IsUnwritten sink = Keeps sink.held sink.holds × (sink.faults_after ≡ sink.faults)
+
+-- no day was played, and nothing was written
+abbrev pub NothingIsPlayed : {D : Type 0} → Writes → Option (Day D) → Type 0
+NothingIsPlayed sink day = (day ≡ None) × IsUnwritten sink
 
 -- the sink got a first part of these bytes, or all
 abbrev pub AppendsFirst : Option (List ℕ) → Option (List ℕ) → List ℕ → Type 0
@@ -116,65 +131,38 @@ IsWrittenAsClosedOn course options sink records =
     (before : List WindowRecord) (closed : WindowRecord) → records ≡ before ++ closed ∷ []
     → AppendsAtLeast sink.held sink.holds (text_on course options.mode options.trace before)
 
--- the devices of a day, and what they show: whose they are, what they tell, where they stand and
--- how often they were called
-pub record Shown (D : Type 0) : Type 0 where
-  pub tag : D → ℕ
-  pub plan : D → Option (List (ℕ × ℕ))
-  pub stands : D → ℕ
-  pub turns : D → ℕ
-  pub probes : D → ℕ
-  pub faults : D → ℕ
-
-abbrev pub shown_by : {D : Type 0} → (D → ℕ) → (D → Option (List (ℕ × ℕ))) → (D → ℕ) → (D → ℕ)
-    → (D → ℕ) → (D → ℕ) → Shown D
-shown_by tag plan stands turns probes faults = record {
-  tag = tag;
-  plan = plan;
-  stands = stands;
-  turns = turns;
-  probes = probes;
-  faults = faults;
-}
-
 -- the day that is handed back is whole and legal in the mode of the words, each of its windows was
 -- worked in this way, in each every run has ended, and where runs are served as they come and no
 -- device fails each that has no must `check` has committed, and the sink got its text; outside the
 -- weak model the printed order of each window holds each committed run once, and the answers and
 -- the last state are those of its serial execution; under it no order is claimed; at the day's end
 -- each device that is up stands so
-pub record IsWholeOn {D : Type 0}
-    (works : Setting → WindowText → WindowRecord → (DeviceId → ℕ) → Type 0) (shown : Shown D)
-    (closing : Closing) (course : DayCourse) (options : Options) (sink : Writes)
-    (o : Option (Day D)) : Type 0 where
+pub record IsWholeOn {D : Type 0} (works : WindowWay) (shows : D → Shown) (closing : Closing)
+    (course : DayCourse) (options : Options) (sink : Writes) (o : Option (Day D)) : Type 0 where
   pub day : Day D
   pub given : o ≡ Some day
   pub devices : Listed D
   pub there : day.devices ≡ Some devices
-  pub legal : IsLegalDayFrom shown.tag shown.plan shown.stands shown.turns shown.faults
-      course.begins options.mode day.windows.items devices.items
+  pub legal : IsLegalDayFrom shows course.begins options.mode day.windows.items devices.items
   pub takes : List (DeviceId → ℕ)
   pub played : WindowsArePlayedOn works course options.mode day.windows.items takes
-  pub probed : DevicesAreProbed shown.probes takes devices.items
+  pub probed : DevicesAreProbed shows takes devices.items
   pub text : Appends sink.held sink.holds
       (record_text_on closing course day.windows.items options.mode options.trace)
   pub calm : sink.faults_after ≡ sink.faults
 
 -- the day was cut short where the sink failed: it is legal up to there, and the sink got a first
 -- part of its text, and not all
-pub record IsCutOn {D : Type 0}
-    (works : Setting → WindowText → WindowRecord → (DeviceId → ℕ) → Type 0) (shown : Shown D)
-    (closing : Closing) (course : DayCourse) (options : Options) (sink : Writes)
-    (o : Option (Day D)) : Type 0 where
+pub record IsCutOn {D : Type 0} (works : WindowWay) (shows : D → Shown) (closing : Closing)
+    (course : DayCourse) (options : Options) (sink : Writes) (o : Option (Day D)) : Type 0 where
   pub day : Day D
   pub given : o ≡ Some day
   pub devices : Listed D
   pub there : day.devices ≡ Some devices
-  pub legal : IsLegalCutDayFrom shown.tag shown.plan shown.stands shown.turns shown.faults
-      course.begins options.mode day.windows.items devices.items
+  pub legal : IsLegalCutDayFrom shows course.begins options.mode day.windows.items devices.items
   pub takes : List (DeviceId → ℕ)
   pub played : WindowsArePlayedOn works course options.mode day.windows.items takes
-  pub probed : DevicesAreProbed shown.probes takes devices.items
+  pub probed : DevicesAreProbed shows takes devices.items
   pub text : AppendsPart sink.held sink.holds
       (text_due_on closing course options.mode options.trace day.windows.items)
   pub as_closed : IsWrittenAsClosedOn course options sink day.windows.items
@@ -182,9 +170,8 @@ pub record IsCutOn {D : Type 0}
 
 -- the day was cut short for want of memory: its windows are legal up to there, no device is handed
 -- back, and the sink got a first part of its text
-pub record IsStarvedOn {D : Type 0}
-    (works : Setting → WindowText → WindowRecord → (DeviceId → ℕ) → Type 0) (closing : Closing)
-    (course : DayCourse) (options : Options) (sink : Writes) (o : Option (Day D)) : Type 0 where
+pub record IsStarvedOn {D : Type 0} (works : WindowWay) (closing : Closing) (course : DayCourse)
+    (options : Options) (sink : Writes) (o : Option (Day D)) : Type 0 where
   pub day : Day D
   pub given : o ≡ Some day
   pub no_devices : day.devices ≡ None
@@ -196,22 +183,21 @@ pub record IsStarvedOn {D : Type 0}
   pub calm : sink.faults_after ≡ sink.faults
 
 -- how a day of this course ends, with a record of this closing
-abbrev pub DayEndsOn : {D : Type 0}
-    → (Setting → WindowText → WindowRecord → (DeviceId → ℕ) → Type 0) → Shown D → Closing
-    → DayCourse → Options → Writes → Option (Day D) → Option Fault → Type 0
-DayEndsOn works shown closing course options sink day None =
-    IsWholeOn works shown closing course options sink day
-DayEndsOn works shown closing course options sink day (Some (Refuses fault)) = ⊥
-DayEndsOn works shown closing course options sink day (Some Words) = ⊥
-DayEndsOn works shown closing course options sink day (Some Read) = ⊥
-DayEndsOn works shown closing course options sink day (Some Write) =
-    IsCutOn works shown closing course options sink day
-DayEndsOn works shown closing course options sink day (Some Memory) =
+abbrev pub DayEndsOn : {D : Type 0} → WindowWay → (D → Shown) → Closing → DayCourse → Options
+    → Writes → Option (Day D) → Option Fault → Type 0
+DayEndsOn works shows closing course options sink day None =
+    IsWholeOn works shows closing course options sink day
+DayEndsOn works shows closing course options sink day (Some (Refuses fault)) = ⊥
+DayEndsOn works shows closing course options sink day (Some Words) = ⊥
+DayEndsOn works shows closing course options sink day (Some Read) = ⊥
+DayEndsOn works shows closing course options sink day (Some Write) =
+    IsCutOn works shows closing course options sink day
+DayEndsOn works shows closing course options sink day (Some Memory) =
     IsStarvedOn works closing course options sink day
-DayEndsOn works shown closing course options sink day (Some (Check window place name)) = ⊥
-DayEndsOn works shown closing course options sink day (Some (Cross window run follow)) = ⊥
-DayEndsOn works shown closing course options sink day (Some Disk) = ⊥
-DayEndsOn works shown closing course options sink day (Some (Damaged slot)) = ⊥
+DayEndsOn works shows closing course options sink day (Some (Check window place name)) = ⊥
+DayEndsOn works shows closing course options sink day (Some (Cross window run follow)) = ⊥
+DayEndsOn works shows closing course options sink day (Some Disk) = ⊥
+DayEndsOn works shows closing course options sink day (Some (Damaged slot)) = ⊥
 
 -- the same of a script's day
 
@@ -219,25 +205,23 @@ abbrev pub IsWrittenAsClosed : Script → Options → Writes → List WindowReco
 IsWrittenAsClosed script options sink records =
     IsWrittenAsClosedOn (new_course script) options sink records
 
-abbrev pub DayIsWhole : {D : Type 0}
-    → (Setting → WindowText → WindowRecord → (DeviceId → ℕ) → Type 0) → Shown D → Closing → Script
-    → Options → Writes → Option (Day D) → Type 0
-DayIsWhole works shown closing script options sink o =
-    IsWholeOn works shown closing (new_course script) options sink o
+abbrev pub DayIsWhole : {D : Type 0} → WindowWay → (D → Shown) → Closing → Script → Options → Writes
+    → Option (Day D) → Type 0
+DayIsWhole works shows closing script options sink o =
+    IsWholeOn works shows closing (new_course script) options sink o
 
-abbrev pub IsCut : {D : Type 0} → (Setting → WindowText → WindowRecord → (DeviceId → ℕ) → Type 0)
-    → Shown D → Closing → Script → Options → Writes → Option (Day D) → Type 0
-IsCut works shown closing script options sink o =
-    IsCutOn works shown closing (new_course script) options sink o
+abbrev pub IsCut : {D : Type 0} → WindowWay → (D → Shown) → Closing → Script → Options → Writes
+    → Option (Day D) → Type 0
+IsCut works shows closing script options sink o =
+    IsCutOn works shows closing (new_course script) options sink o
 
-abbrev pub IsStarved : {D : Type 0}
-    → (Setting → WindowText → WindowRecord → (DeviceId → ℕ) → Type 0) → Closing → Script → Options
-    → Writes → Option (Day D) → Type 0
+abbrev pub IsStarved : {D : Type 0} → WindowWay → Closing → Script → Options → Writes
+    → Option (Day D) → Type 0
 IsStarved {D} works closing script options sink o =
     IsStarvedOn {D = D} works closing (new_course script) options sink o
 
 -- how the day of a script ends, with a record of this closing
-abbrev pub DayEnds : {D : Type 0} → (Setting → WindowText → WindowRecord → (DeviceId → ℕ) → Type 0)
-    → Shown D → Closing → Script → Options → Writes → Option (Day D) → Option Fault → Type 0
-DayEnds works shown closing script options sink day fault =
-    DayEndsOn works shown closing (new_course script) options sink day fault
+abbrev pub DayEnds : {D : Type 0} → WindowWay → (D → Shown) → Closing → Script → Options → Writes
+    → Option (Day D) → Option Fault → Type 0
+DayEnds works shows closing script options sink day fault =
+    DayEndsOn works shows closing (new_course script) options sink day fault

@@ -1,14 +1,13 @@
--- How a call ends that keeps the states of a day: by its fault, what was read, played, written and
--- kept.
-use Rattle.command_words.specs.declared.command_lines.CommandLine.TheVariants.{Keep}
-use Rattle.command_words.specs.declared.command_lines.CommandLine.{CommandLine}
+-- How a call ends that keeps the states of a day: by what its words asked for, what was read,
+-- played, written and kept.
 use Rattle.command_words.specs.declared.command_lines.Options.{Options}
+use Rattle.device_states.specs.Devices.{Shown}
 use Rattle.home_journal.specs.Journals.{JournalState, KnowsKept, LeavesOldOrSame, states_kept}
 use Rattle.home_journal.specs.KeptStates.{kept_states}
 use Rattle.home_journal.specs.declared.journals.OpenFault.TheVariants.{Damaged as HasDamage, Failed, NoMemory}
 use Rattle.home_journal.specs.declared.journals.OpenFault.{OpenFault}
 use Rattle.home_types.specs.declared.worlds.Stand.{Stand}
-use Rattle.hub_commands.specs.Finishes.{InputFails, InputIsStarved, IsRead, IsRefused, IsUnread, IsUnwritten, Reads, Shown, Writes}
+use Rattle.hub_commands.specs.Finishes.{IsRead, NoScriptIsRead, NothingIsPlayed, Reads, WordsAreRefused, Writes}
 use Rattle.hub_commands.specs.KeptDays.{HasEndedBehind}
 use Rattle.hub_commands.specs.Ways.{IsReplayOf}
 use Rattle.hub_commands.specs.declared.faults.Fault.TheVariants.{Check, Cross, Damaged, Disk, Memory, Read, Script as Refuses, Words, Write}
@@ -82,100 +81,53 @@ JournalIsOpened told seen images moment since failures script disk (Err (now, Da
 
 -- the day of the script goes on behind the states that the disk keeps: so many, of which this is
 -- the last
-pub record DayGoesOn {D Q : Type 0} (shown : Shown D) (told : Bool) (seen : Q → List ℕ)
+pub record DayGoesOn {D Q : Type 0} (shows : D → Shown) (told : Bool) (seen : Q → List ℕ)
     (images : Q → List ℕ → Type 0) (moment : Q → ℕ) (since : Q → ℕ → List ℕ → Type 0)
-    (failures : Q → ℕ)
-    (script : Script) (options : Options) (sink : Writes) (disk now : Q) (day : Option (Day D))
-    (fault : Option Fault) : Type 0 where
+    (failures : Q → ℕ) (script : Script) (options : Options) (sink : Writes) (disk now : Q)
+    (day : Option (Day D)) (fault : Option Fault) : Type 0 where
   pub kept : ℕ
   pub last : Option (List Stand)
   pub knows : told ≡ true
       → KnowsKept (kinds_of script) (length script.windows.items) (seen disk) kept last
-  pub ended : HasEndedBehind IsReplayOf shown told seen images moment since failures script kept
+  pub ended : HasEndedBehind IsReplayOf shows told seen images moment since failures script kept
       last options sink disk now day fault
 
+-- the journal was not opened, for this fault, and nothing was played or written
+pub record NoJournalIsOpened {D Q : Type 0} (told : Bool) (seen : Q → List ℕ)
+    (images : Q → List ℕ → Type 0) (moment : Q → ℕ) (since : Q → ℕ → List ℕ → Type 0)
+    (failures : Q → ℕ) (script : Script) (sink : Writes) (disk now : Q) (day : Option (Day D))
+    (fault : Option Fault) : Type 0 where
+  pub why : Fault
+  pub is : fault ≡ Some why
+  pub opening : JournalIsOpened told seen images moment since failures script disk (Err (now, why))
+  pub nothing : NothingIsPlayed sink day
+
 -- how the call ends once its script is read
-abbrev pub ScriptIsKept : {D Q : Type 0} → Shown D → Bool → (Q → List ℕ) → (Q → List ℕ → Type 0)
+abbrev pub ScriptIsKept : {D Q : Type 0} → (D → Shown) → Bool → (Q → List ℕ) → (Q → List ℕ → Type 0)
     → (Q → ℕ) → (Q → ℕ → List ℕ → Type 0) → (Q → ℕ) → Script → Options → Writes → Q → Q
     → Option (Day D) → Option Fault → Type 0
-ScriptIsKept shown told seen images moment since failures script options sink disk now day None =
-    DayGoesOn shown told seen images moment since failures script options sink disk now day None
-ScriptIsKept shown told seen images moment since failures script options sink disk now day
-    (Some (Refuses fault)) = ⊥
-ScriptIsKept shown told seen images moment since failures script options sink disk now day
-    (Some Words) = ⊥
-ScriptIsKept shown told seen images moment since failures script options sink disk now
-    day (Some Read) = ⊥
-ScriptIsKept shown told seen images moment since failures script options sink disk now day
-    (Some Write) =
-    DayGoesOn shown told seen images moment since failures script options sink disk now
-    day (Some Write)
-ScriptIsKept shown told seen images moment since failures script options sink disk now
-    day (Some Memory) =
-    ((day ≡ None) × IsUnwritten sink × (now ≡ disk)) ⊎ DayGoesOn shown told seen images moment since
-    failures script options sink disk now day (Some Memory)
-ScriptIsKept shown told seen images moment since failures script options sink disk now day
-    (Some (Check window place name)) = ⊥
-ScriptIsKept shown told seen images moment since failures script options sink disk now day
-    (Some (Cross window run follow)) = ⊥
-ScriptIsKept shown told seen images moment since failures script options sink disk now
-    day (Some Disk) =
-    ((day ≡ None) × IsUnwritten sink
-    × JournalFails told seen images moment since failures script disk now) ⊎ DayGoesOn shown told
-    seen images moment since failures script options sink disk now day (Some Disk)
-ScriptIsKept shown told seen images moment since failures script options sink disk now day
-    (Some (Damaged slot)) =
-    (day ≡ None) × IsUnwritten sink
-    × JournalIsDamaged told seen images moment since script disk now slot
+ScriptIsKept shows told seen images moment since failures script options sink disk now day fault =
+    NoJournalIsOpened told seen images moment since failures script sink disk now day fault
+    ⊎ DayGoesOn shows told seen images moment since failures script options sink disk now day fault
 
 -- the script was read, and its day is kept
-pub record DayIsKept {D Q : Type 0} (shown : Shown D) (told : Bool) (seen : Q → List ℕ)
+pub record DayIsKept {D Q : Type 0} (shows : D → Shown) (told : Bool) (seen : Q → List ℕ)
     (images : Q → List ℕ → Type 0) (moment : Q → ℕ) (since : Q → ℕ → List ℕ → Type 0)
-    (failures : Q → ℕ)
-    (line : Option CommandLine) (source : Reads) (sink : Writes) (disk now : Q)
+    (failures : Q → ℕ) (options : Options) (source : Reads) (sink : Writes) (disk now : Q)
     (day : Option (Day D)) (fault : Option Fault) : Type 0 where
-  pub options : Options
-  pub asked : line ≡ Some (Keep options)
   pub script : Script
   pub read : IsRead source script
-  pub ends : ScriptIsKept shown told seen images moment since failures script options sink
+  pub ends : ScriptIsKept shows told seen images moment since failures script options sink
       disk now day fault
 
--- the call ended before the script was read: nothing was written, and the disk was not called
-pub record IsUnkept {D Q : Type 0} (line : Option CommandLine) (sink : Writes) (disk now : Q)
-    (day : Option (Day D)) : Type 0 where
-  pub options : Options
-  pub asked : line ≡ Some (Keep options)
-  pub no_day : day ≡ None
-  pub unwritten : IsUnwritten sink
-  pub uncalled : now ≡ disk
-
--- how the call ends, by its fault, for the command line that it takes the words for, if any
-abbrev pub KeepEnds : {D Q : Type 0} → Shown D → Bool → (Q → List ℕ) → (Q → List ℕ → Type 0)
-    → (Q → ℕ) → (Q → ℕ → List ℕ → Type 0) → (Q → ℕ) → Option CommandLine → Reads → Writes → Q → Q
+-- how the call ends, by the options that its words ask for, if they are of the command; where no
+-- script is read the disk is not called
+abbrev pub KeepEnds : {D Q : Type 0} → (D → Shown) → Bool → (Q → List ℕ) → (Q → List ℕ → Type 0)
+    → (Q → ℕ) → (Q → ℕ → List ℕ → Type 0) → (Q → ℕ) → Option Options → Reads → Writes → Q → Q
     → Option (Day D) → Option Fault → Type 0
-KeepEnds shown told seen images moment since failures line source sink disk now day None =
-    DayIsKept shown told seen images moment since failures line source sink disk now day None
-KeepEnds shown told seen images moment since failures line source sink disk now day
-    (Some (Refuses fault)) =
-    IsUnkept line sink disk now day × IsRefused source fault
-KeepEnds shown told seen images moment since failures line source sink disk now day (Some Words) =
-    (line ≡ None) × IsUnread source × (day ≡ None) × IsUnwritten sink × (now ≡ disk)
-KeepEnds shown told seen images moment since failures line source sink disk now day (Some Read) =
-    IsUnkept line sink disk now day × InputFails source
-KeepEnds shown told seen images moment since failures line source sink disk now day (Some Write) =
-    DayIsKept shown told seen images moment since failures line source sink disk now
-    day (Some Write)
-KeepEnds shown told seen images moment since failures line source sink disk now day (Some Memory) =
-    ((day ≡ None) × IsUnwritten sink × (now ≡ disk) × InputIsStarved source) ⊎ DayIsKept shown told
-    seen images moment since failures line source sink disk now day (Some Memory)
-KeepEnds shown told seen images moment since failures line source sink disk now day
-    (Some (Check window place name)) = ⊥
-KeepEnds shown told seen images moment since failures line source sink disk now day
-    (Some (Cross window run follow)) = ⊥
-KeepEnds shown told seen images moment since failures line source sink disk now day (Some Disk) =
-    DayIsKept shown told seen images moment since failures line source sink disk now day (Some Disk)
-KeepEnds shown told seen images moment since failures line source sink disk now day
-    (Some (Damaged slot)) =
-    DayIsKept shown told seen images moment since failures line source sink disk now day
-    (Some (Damaged slot))
+KeepEnds shows told seen images moment since failures None source sink disk now day fault =
+    WordsAreRefused source fault × NothingIsPlayed sink day × (now ≡ disk)
+KeepEnds shows told seen images moment since failures
+    (Some options) source sink disk now day fault =
+    (NoScriptIsRead source fault × NothingIsPlayed sink day × (now ≡ disk))
+    ⊎ DayIsKept shows told seen images moment since failures options source sink disk now day fault

@@ -1,7 +1,7 @@
 -- A day whose states are kept: how far it is, how it ends, and what its disk keeps.
 use Rattle.command_words.specs.declared.command_lines.Options.{Options}
 use Rattle.day_report.specs.Days.{kept_line}
-use Rattle.history_book.specs.Settings.{Setting}
+use Rattle.device_states.specs.Devices.{Shown}
 use Rattle.history_book.specs.declared.records.WindowRecord.{WindowRecord}
 use Rattle.home_journal.specs.Disks.{LeavesOnly}
 use Rattle.home_journal.specs.Journals.{JournalState, KeepsFirst}
@@ -12,10 +12,11 @@ use Rattle.home_types.specs.Numbers.{DeviceId}
 use Rattle.home_types.specs.declared.kinds.Kind.{Kind}
 use Rattle.home_types.specs.declared.worlds.Stand.{Stand}
 use Rattle.hub_commands.specs.Days.{DayCourse, DevicesAreProbed, WindowsArePlayedOn, course_behind, plain, text_on}
-use Rattle.hub_commands.specs.Finishes.{IsCutOn, IsStarvedOn, IsWholeOn, Shown, Writes, written}
+use Rattle.hub_commands.specs.Finishes.{IsCutOn, IsStarvedOn, IsWholeOn, Writes, written}
 use Rattle.hub_commands.specs.Going.{GoesOnOrEnds, IsGoingOn}
 use Rattle.hub_commands.specs.Played.{HasGoneOn}
 use Rattle.hub_commands.specs.Statuses.{status_for_fault}
+use Rattle.hub_commands.specs.Ways.{WindowWay}
 use Rattle.hub_commands.specs.declared.faults.Fault.TheVariants.{Check, Cross, Damaged, Disk, Memory, Read, Script as Refuses, Words, Write}
 use Rattle.hub_commands.specs.declared.faults.Fault.{Fault}
 use Rattle.hub_commands.specs.declared.finishes.Day.{Day}
@@ -27,7 +28,6 @@ use Rattle.legal_days.specs.LegalDays.{AreLeftFrom, Beginning, IsLegalCutDayFrom
 use Rattle.legal_days.specs.ResumedDays.{GoesOnBehind}
 use Rattle.routine_reader.specs.Rosters.{kinds_of}
 use Rattle.routine_reader.specs.declared.scripts.Script.{Script}
-use Rattle.routine_reader.specs.declared.scripts.WindowText.{WindowText}
 use Rattle.std.specs.Io.KnownBytes.{Appends}
 use Rattle.std.specs.Prelude.{Bool, Err, List, None, Ok, Option, Result, Some, [], false, if◌then◌else◌, length, map, slice_get, suc, take, true, ℕ, ◌+◌, ◌++◌, ◌-◌, ◌<◌, ◌∷◌, ◌≡◌, ◌≤◌, ◌⊎◌}
 
@@ -49,32 +49,30 @@ windows_of None = []
 windows_of (Some day) = day.windows.items
 
 -- the home is one in which a day begins so
-pub record HomeBegins {D : Type 0} (tag : D → ℕ) (plan : D → Option (List (ℕ × ℕ)))
-    (stands turns probes faults : D → ℕ) (begins : Beginning) (home : HomeState D) : Type 0 where
-  pub left : AreLeftFrom tag plan stands turns faults begins [] home.devices
+pub record HomeBegins {D : Type 0} (shows : D → Shown) (begins : Beginning)
+    (home : HomeState D) : Type 0 where
+  pub left : AreLeftFrom shows begins [] home.devices
   pub unprobed : (d : DeviceId) (device : D) → slice_get home.devices d ≡ Some device
-      → probes device ≡ 0
+      → (shows device).probes ≡ 0
   pub kinds : home.kinds ≡ kinds_of begins.script
   pub world : home.world ≡ begins.first
   pub size : length home.world ≡ length begins.script.devices.items
   pub opened : home.opened ≡ 0
 
 -- the home is one in which a day goes on behind so many kept states, of which this is the last
-pub record HomeGoesOn {D : Type 0} (tag : D → ℕ) (plan : D → Option (List (ℕ × ℕ)))
-    (stands turns probes faults : D → ℕ) (script : Script) (kept : ℕ) (last : Option (List Stand))
-    (home : HomeState D) : Type 0 where
+pub record HomeGoesOn {D : Type 0} (shows : D → Shown) (script : Script) (kept : ℕ)
+    (last : Option (List Stand)) (home : HomeState D) : Type 0 where
   pub begins : Beginning
   pub goes_on : GoesOnBehind script kept last begins
-  pub home_begins : HomeBegins tag plan stands turns probes faults begins home
+  pub home_begins : HomeBegins shows begins home
 
 -- the day goes on so with its head, or it has ended
-pub record BeginsBehind {D : Type 0}
-    (works : Setting → WindowText → WindowRecord → (DeviceId → ℕ) → Type 0) (shown : Shown D)
-    (script : Script) (kept : ℕ) (last : Option (List Stand)) (options : Options) (sink : Writes)
+pub record BeginsBehind {D : Type 0} (works : WindowWay) (shows : D → Shown) (script : Script)
+    (kept : ℕ) (last : Option (List Stand)) (options : Options) (sink : Writes)
     (result : Result (DayUnderWay D) (Finish D)) : Type 0 where
   pub begins : Beginning
   pub goes_on : GoesOnBehind script kept last begins
-  pub begun : GoesOnOrEnds works shown (kept_course kept begins) options sink 0 result
+  pub begun : GoesOnOrEnds works shows (kept_course kept begins) options sink 0 result
 
 -- all devices and windows are handed back
 abbrev pub HandsAllBack : {D : Type 0} → List D → Listed WindowRecord → Option (Day D) → Type 0
@@ -86,18 +84,16 @@ HandsAllBack {D} items windows day =
 
 -- the disk failed as the state of the day's last window was to be kept: the day is legal up to
 -- there, and the sink got the texts of the windows before that one
-pub record IsUnkeptOn {D : Type 0}
-    (works : Setting → WindowText → WindowRecord → (DeviceId → ℕ) → Type 0) (shown : Shown D)
-    (course : DayCourse) (options : Options) (sink : Writes) (o : Option (Day D)) : Type 0 where
+pub record IsUnkeptOn {D : Type 0} (works : WindowWay) (shows : D → Shown) (course : DayCourse)
+    (options : Options) (sink : Writes) (o : Option (Day D)) : Type 0 where
   pub day : Day D
   pub given : o ≡ Some day
   pub devices : Listed D
   pub there : day.devices ≡ Some devices
-  pub legal : IsLegalCutDayFrom shown.tag shown.plan shown.stands shown.turns shown.faults
-      course.begins options.mode day.windows.items devices.items
+  pub legal : IsLegalCutDayFrom shows course.begins options.mode day.windows.items devices.items
   pub takes : List (DeviceId → ℕ)
   pub played : WindowsArePlayedOn works course options.mode day.windows.items takes
-  pub probed : DevicesAreProbed shown.probes takes devices.items
+  pub probed : DevicesAreProbed shows takes devices.items
   pub before : List WindowRecord
   pub unkept : WindowRecord
   pub last : day.windows.items ≡ before ++ unkept ∷ []
@@ -105,23 +101,22 @@ pub record IsUnkeptOn {D : Type 0}
   pub calm : sink.faults_after ≡ sink.faults
 
 -- how a day of this course ends that is kept
-abbrev pub KeptDayEnds : {D : Type 0}
-    → (Setting → WindowText → WindowRecord → (DeviceId → ℕ) → Type 0) → Shown D → DayCourse
-    → Options → Writes → Option (Day D) → Option Fault → Type 0
-KeptDayEnds works shown course options sink day None =
-    IsWholeOn works shown plain course options sink day
-KeptDayEnds works shown course options sink day (Some (Refuses fault)) = ⊥
-KeptDayEnds works shown course options sink day (Some Words) = ⊥
-KeptDayEnds works shown course options sink day (Some Read) = ⊥
-KeptDayEnds works shown course options sink day (Some Write) =
-    IsCutOn works shown plain course options sink day
-KeptDayEnds works shown course options sink day (Some Memory) =
+abbrev pub KeptDayEnds : {D : Type 0} → WindowWay → (D → Shown) → DayCourse → Options → Writes
+    → Option (Day D) → Option Fault → Type 0
+KeptDayEnds works shows course options sink day None =
+    IsWholeOn works shows plain course options sink day
+KeptDayEnds works shows course options sink day (Some (Refuses fault)) = ⊥
+KeptDayEnds works shows course options sink day (Some Words) = ⊥
+KeptDayEnds works shows course options sink day (Some Read) = ⊥
+KeptDayEnds works shows course options sink day (Some Write) =
+    IsCutOn works shows plain course options sink day
+KeptDayEnds works shows course options sink day (Some Memory) =
     IsStarvedOn works plain course options sink day
-KeptDayEnds works shown course options sink day (Some (Check window place name)) = ⊥
-KeptDayEnds works shown course options sink day (Some (Cross window run follow)) = ⊥
-KeptDayEnds works shown course options sink day (Some Disk) =
-    IsUnkeptOn works shown course options sink day
-KeptDayEnds works shown course options sink day (Some (Damaged slot)) = ⊥
+KeptDayEnds works shows course options sink day (Some (Check window place name)) = ⊥
+KeptDayEnds works shows course options sink day (Some (Cross window run follow)) = ⊥
+KeptDayEnds works shows course options sink day (Some Disk) =
+    IsUnkeptOn works shows course options sink day
+KeptDayEnds works shows course options sink day (Some (Damaged slot)) = ⊥
 
 -- of so many windows that were closed, of how many the state is kept whatever happens: of all, but
 -- of the last one where the disk failed. No other text was written
@@ -165,13 +160,12 @@ DiskIsLeft seen images moment since script first now records fault =
     (length script.windows.items) homes first now records fault
 
 -- the day of this course has ended, and this disk is handed back
-pub record HasEndedKept {D Q : Type 0}
-    (works : Setting → WindowText → WindowRecord → (DeviceId → ℕ) → Type 0) (shown : Shown D)
-    (told : Bool) (seen : Q → List ℕ) (images : Q → List ℕ → Type 0) (moment : Q → ℕ)
-    (since : Q → ℕ → List ℕ → Type 0) (failures : Q → ℕ)
-    (script : Script) (course : DayCourse) (options : Options) (sink : Writes) (first now : Q)
-    (day : Option (Day D)) (fault : Option Fault) : Type 0 where
-  pub ends : KeptDayEnds works shown course options sink day fault
+pub record HasEndedKept {D Q : Type 0} (works : WindowWay) (shows : D → Shown) (told : Bool)
+    (seen : Q → List ℕ) (images : Q → List ℕ → Type 0) (moment : Q → ℕ)
+    (since : Q → ℕ → List ℕ → Type 0) (failures : Q → ℕ) (script : Script) (course : DayCourse)
+    (options : Options) (sink : Writes) (first now : Q) (day : Option (Day D))
+    (fault : Option Fault) : Type 0 where
+  pub ends : KeptDayEnds works shows course options sink day fault
   pub later : failures first ≤ failures now
   pub failed : fault ≡ Some Disk → failures first < failures now
   pub disk : told ≡ true
@@ -198,73 +192,65 @@ pub record IsJournalSoFar {Q : Type 0} (told : Bool) (seen : Q → List ℕ)
       ⊎ KeepsFirst (kinds_of script) (length script.windows.items) homes (last_states records) c)
 
 -- on such a course these windows were played and written, too
-pub record IsKeptSoFar {D Q : Type 0}
-    (works : Setting → WindowText → WindowRecord → (DeviceId → ℕ) → Type 0) (shown : Shown D)
-    (told : Bool) (seen : Q → List ℕ) (images : Q → List ℕ → Type 0) (moment : Q → ℕ)
-    (since : Q → ℕ → List ℕ → Type 0) (failures : Q → ℕ)
-    (script : Script) (before : ℕ) (course : DayCourse) (options : Options) (sink : Writes)
-    (first : Q) (home : HomeState D) (records : List WindowRecord)
-    (journal : JournalState Q) : Type 0 where
-  pub going : IsGoingOn works shown (course_behind script before course) options sink home records
+pub record IsKeptSoFar {D Q : Type 0} (works : WindowWay) (shows : D → Shown) (told : Bool)
+    (seen : Q → List ℕ) (images : Q → List ℕ → Type 0) (moment : Q → ℕ)
+    (since : Q → ℕ → List ℕ → Type 0) (failures : Q → ℕ) (script : Script) (before : ℕ)
+    (course : DayCourse) (options : Options) (sink : Writes) (first : Q) (home : HomeState D)
+    (records : List WindowRecord) (journal : JournalState Q) : Type 0 where
+  pub going : IsGoingOn works shows (course_behind script before course) options sink home records
   pub on_disk : IsJournalSoFar told seen images moment since failures script before
       first records journal
 
 -- the day goes on with so many windows, or it has ended
-abbrev pub KeepsOn : {D Q : Type 0}
-    → (Setting → WindowText → WindowRecord → (DeviceId → ℕ) → Type 0) → Shown D → Bool
-    → (Q → List ℕ) → (Q → List ℕ → Type 0) → (Q → ℕ) → (Q → ℕ → List ℕ → Type 0) → (Q → ℕ)
-    → Script → ℕ → DayCourse → Options → Writes → Q → ℕ
-    → Result (KeptDay D Q) (Finish D × Q) → Type 0
-KeepsOn works shown told seen images moment since failures script before course options sink first
+abbrev pub KeepsOn : {D Q : Type 0} → WindowWay → (D → Shown) → Bool → (Q → List ℕ)
+    → (Q → List ℕ → Type 0) → (Q → ℕ) → (Q → ℕ → List ℕ → Type 0) → (Q → ℕ) → Script → ℕ → DayCourse
+    → Options → Writes → Q → ℕ → Result (KeptDay D Q) (Finish D × Q) → Type 0
+KeepsOn works shows told seen images moment since failures script before course options sink first
     count (Ok kept) =
     (length kept.day.windows.items ≡ count)
-    × IsKeptSoFar works shown told seen images moment since failures script before course options
+    × IsKeptSoFar works shows told seen images moment since failures script before course options
     sink first kept.day.home kept.day.windows.items kept.journal
-KeepsOn works shown told seen images moment since failures script before course options sink first
+KeepsOn works shows told seen images moment since failures script before course options sink first
     count (Err ended) =
     (ended.0.status ≡ status_for_fault ended.0.fault)
-    × HasEndedKept works shown told seen images moment since failures script
+    × HasEndedKept works shows told seen images moment since failures script
     (course_behind script before course) options sink first ended.1 ended.0.day ended.0.fault
 
 -- the state in which the next window left the home was kept, and its lines were written, on any
 -- course behind so many windows of the script, whatever the sink held and the disk kept as the day
 -- began
-abbrev pub HasKept : {D Q : Type 0}
-    → (Setting → WindowText → WindowRecord → (DeviceId → ℕ) → Type 0) → Shown D → Bool
-    → (Q → List ℕ) → (Q → List ℕ → Type 0) → (Q → ℕ) → (Q → ℕ → List ℕ → Type 0) → (Q → ℕ)
-    → Script → ℕ → Options → Writes → KeptDay D Q → Result (KeptDay D Q) (Finish D × Q) → Type 0
+abbrev pub HasKept : {D Q : Type 0} → WindowWay → (D → Shown) → Bool → (Q → List ℕ)
+    → (Q → List ℕ → Type 0) → (Q → ℕ) → (Q → ℕ → List ℕ → Type 0) → (Q → ℕ) → Script → ℕ → Options
+    → Writes → KeptDay D Q → Result (KeptDay D Q) (Finish D × Q) → Type 0
 HasKept {D}
-    {Q} works shown told seen images moment since failures script before options sink next result =
+    {Q} works shows told seen images moment since failures script before options sink next result =
     (course : DayCourse) (held : Option (List ℕ)) (f : ℕ) (first : Q) (home : HomeState D)
     (records : List WindowRecord)
-    → IsKeptSoFar works shown told seen images moment since failures script before course options
-    (written held sink.held f sink.faults) first home records next.journal
-    → HasGoneOn works shown.tag shown.plan shown.stands shown.turns shown.probes shown.faults
+    → IsKeptSoFar works shows told seen images moment since failures script before course options
+    (written held sink.held f sink.faults) first home records next.journal → HasGoneOn works shows
     (course_behind script before course) options.mode records next.day.home next.day.windows.items
-    → KeepsOn works shown told seen images moment since failures script before course options
+    → KeepsOn works shows told seen images moment since failures script before course options
     (written held sink.holds f sink.faults_after) first (suc (length records)) result
 
 -- the next window was played, kept and written, on any such course
-abbrev pub HasKeptNext : {D Q : Type 0}
-    → (Setting → WindowText → WindowRecord → (DeviceId → ℕ) → Type 0) → Shown D → Bool
-    → (Q → List ℕ) → (Q → List ℕ → Type 0) → (Q → ℕ) → (Q → ℕ → List ℕ → Type 0) → (Q → ℕ)
-    → Script → ℕ → Options → Writes → KeptDay D Q → Result (KeptDay D Q) (Finish D × Q) → Type 0
+abbrev pub HasKeptNext : {D Q : Type 0} → WindowWay → (D → Shown) → Bool → (Q → List ℕ)
+    → (Q → List ℕ → Type 0) → (Q → ℕ) → (Q → ℕ → List ℕ → Type 0) → (Q → ℕ) → Script → ℕ → Options
+    → Writes → KeptDay D Q → Result (KeptDay D Q) (Finish D × Q) → Type 0
 HasKeptNext {D}
-    {Q} works shown told seen images moment since failures script before options sink kept result =
+    {Q} works shows told seen images moment since failures script before options sink kept result =
     (course : DayCourse) (held : Option (List ℕ)) (f : ℕ) (first : Q)
-    → IsKeptSoFar works shown told seen images moment since failures script before course options
+    → IsKeptSoFar works shows told seen images moment since failures script before course options
     (written held sink.held f sink.faults) first kept.day.home kept.day.windows.items kept.journal
-    → KeepsOn works shown told seen images moment since failures script before course options
+    → KeepsOn works shows told seen images moment since failures script before course options
     (written held sink.holds f sink.faults_after) first (suc (length kept.day.windows.items)) result
 
 -- the day that goes on behind so many kept states, of which this is the last, has ended
-pub record HasEndedBehind {D Q : Type 0}
-    (works : Setting → WindowText → WindowRecord → (DeviceId → ℕ) → Type 0) (shown : Shown D)
-    (told : Bool) (seen : Q → List ℕ) (images : Q → List ℕ → Type 0) (moment : Q → ℕ)
-    (since : Q → ℕ → List ℕ → Type 0) (failures : Q → ℕ)
-    (script : Script) (kept : ℕ) (last : Option (List Stand)) (options : Options) (sink : Writes)
-    (first now : Q) (day : Option (Day D)) (fault : Option Fault) : Type 0 where
+pub record HasEndedBehind {D Q : Type 0} (works : WindowWay) (shows : D → Shown) (told : Bool)
+    (seen : Q → List ℕ) (images : Q → List ℕ → Type 0) (moment : Q → ℕ)
+    (since : Q → ℕ → List ℕ → Type 0) (failures : Q → ℕ) (script : Script) (kept : ℕ)
+    (last : Option (List Stand)) (options : Options) (sink : Writes) (first now : Q)
+    (day : Option (Day D)) (fault : Option Fault) : Type 0 where
   pub begins : Beginning
   pub goes_on : GoesOnBehind script kept last begins
-  pub ended : HasEndedKept works shown told seen images moment since failures script
+  pub ended : HasEndedKept works shows told seen images moment since failures script
       (kept_course kept begins) options sink first now day fault

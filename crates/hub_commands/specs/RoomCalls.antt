@@ -1,13 +1,14 @@
--- How a day of rooms ends, and the call that runs one: by its fault, what was read, worked and
--- written.
+-- How a day of rooms ends, and the call that runs one: by what its words asked for, what was read,
+-- worked and written.
 use Rattle.day_clock.specs.Sinks.{AppendsPart}
 use Rattle.day_report.specs.Days.{day_text}
+use Rattle.device_states.specs.Devices.{Shown}
 use Rattle.home_types.specs.Listed.{Listed}
 use Rattle.home_types.specs.Numbers.{Moment}
 use Rattle.home_types.specs.declared.modes.Mode.{Mode}
 use Rattle.home_types.specs.declared.numbers.RunNo.{RunNo}
 use Rattle.hub_commands.specs.Days.{plain, text_due, text_so_far}
-use Rattle.hub_commands.specs.Finishes.{AppendsFirst, AppendsAtLeast, InputFails, InputIsStarved, IsRead, IsRefused, IsUnread, IsUnwritten, Reads, Shown, Writes}
+use Rattle.hub_commands.specs.Finishes.{AppendsAtLeast, AppendsFirst, IsRead, IsUnwritten, NoScriptIsRead, Reads, WordsAreRefused, Writes}
 use Rattle.hub_commands.specs.RoomDays.{RoomsAreLeft, RoomsArePlayed, Windows, told_records}
 use Rattle.hub_commands.specs.declared.faults.Fault.TheVariants.{Check, Cross, Damaged, Disk, Memory, Read, Script as Refuses, Words, Write}
 use Rattle.hub_commands.specs.declared.faults.Fault.{Fault}
@@ -29,24 +30,25 @@ RoomsAreWrittenAsClosed script mode sink windows =
 
 -- the day is whole: there is a window of each room for each window of the script, and the sink got
 -- the text
-pub record RoomDayIsWhole {D : Type 0} (earliest latest : Moment) (shown : Shown D)
+pub record RoomDayIsWhole {D : Type 0} (earliest latest : Moment) (shows : D → Shown)
     (script : Script) (mode : Mode) (sink : Writes) (windows : Windows)
     (o : Option (Listed D)) : Type 0 where
   pub devices : Listed D
   pub there : o ≡ Some devices
   pub all : length windows ≡ length script.windows.items
-  pub left : RoomsAreLeft earliest latest shown script mode windows devices.items
+  pub left : RoomsAreLeft earliest latest shows script mode windows devices.items
   pub text : Appends sink.held sink.holds
       (day_text script (told_records script mode windows) mode false)
   pub calm : sink.faults_after ≡ sink.faults
 
 -- the day was cut short where the sink failed: it is legal up to there, and the sink got a first
 -- part of its text, and not all
-pub record RoomDayIsCut {D : Type 0} (earliest latest : Moment) (shown : Shown D) (script : Script)
-    (mode : Mode) (sink : Writes) (windows : Windows) (o : Option (Listed D)) : Type 0 where
+pub record RoomDayIsCut {D : Type 0} (earliest latest : Moment) (shows : D → Shown)
+    (script : Script) (mode : Mode) (sink : Writes) (windows : Windows)
+    (o : Option (Listed D)) : Type 0 where
   pub devices : Listed D
   pub there : o ≡ Some devices
-  pub left : RoomsAreLeft earliest latest shown script mode windows devices.items
+  pub left : RoomsAreLeft earliest latest shows script mode windows devices.items
   pub text : AppendsPart sink.held sink.holds
       (text_due plain script mode false (told_records script mode windows))
   pub as_closed : RoomsAreWrittenAsClosed script mode sink windows
@@ -64,23 +66,23 @@ pub record RoomDayIsStarved {D : Type 0} (earliest latest : Moment) (script : Sc
   pub calm : sink.faults_after ≡ sink.faults
 
 -- how the day of a script ends whose windows can all be split
-abbrev pub RoomDayEnds : {D : Type 0} → Moment → Moment → Shown D → Script → Mode → Writes → Windows
-    → Option (Listed D) → Option Fault → Type 0
-RoomDayEnds earliest latest shown script mode sink windows devices None =
-    RoomDayIsWhole earliest latest shown script mode sink windows devices
-RoomDayEnds earliest latest shown script mode sink windows devices (Some (Refuses fault)) = ⊥
-RoomDayEnds earliest latest shown script mode sink windows devices (Some Words) = ⊥
-RoomDayEnds earliest latest shown script mode sink windows devices (Some Read) = ⊥
-RoomDayEnds earliest latest shown script mode sink windows devices (Some Write) =
-    RoomDayIsCut earliest latest shown script mode sink windows devices
-RoomDayEnds earliest latest shown script mode sink windows devices (Some Memory) =
+abbrev pub RoomDayEnds : {D : Type 0} → Moment → Moment → (D → Shown) → Script → Mode → Writes
+    → Windows → Option (Listed D) → Option Fault → Type 0
+RoomDayEnds earliest latest shows script mode sink windows devices None =
+    RoomDayIsWhole earliest latest shows script mode sink windows devices
+RoomDayEnds earliest latest shows script mode sink windows devices (Some (Refuses fault)) = ⊥
+RoomDayEnds earliest latest shows script mode sink windows devices (Some Words) = ⊥
+RoomDayEnds earliest latest shows script mode sink windows devices (Some Read) = ⊥
+RoomDayEnds earliest latest shows script mode sink windows devices (Some Write) =
+    RoomDayIsCut earliest latest shows script mode sink windows devices
+RoomDayEnds earliest latest shows script mode sink windows devices (Some Memory) =
     RoomDayIsStarved earliest latest script mode sink windows devices
-RoomDayEnds earliest latest shown script mode sink windows devices
+RoomDayEnds earliest latest shows script mode sink windows devices
     (Some (Check window place name)) = ⊥
-RoomDayEnds earliest latest shown script mode sink windows devices
+RoomDayEnds earliest latest shows script mode sink windows devices
     (Some (Cross window run follow)) = ⊥
-RoomDayEnds earliest latest shown script mode sink windows devices (Some Disk) = ⊥
-RoomDayEnds earliest latest shown script mode sink windows devices (Some (Damaged slot)) = ⊥
+RoomDayEnds earliest latest shows script mode sink windows devices (Some Disk) = ⊥
+RoomDayEnds earliest latest shows script mode sink windows devices (Some (Damaged slot)) = ⊥
 
 -- the refusal of a split that a fault tells
 abbrev pub crossing : RunNo → Bool → SplitFault
@@ -132,57 +134,29 @@ pub record NothingIsWorked {D : Type 0} (sink : Writes) (windows : Windows)
   pub no_devices : devices ≡ None
   pub unwritten : IsUnwritten sink
 
+-- the script was read, and its windows were not all split among the rooms, for this fault
+pub record RoomsAreUnsplit (source : Reads) (fault : Option Fault) : Type 0 where
+  pub script : Script
+  pub read : IsRead source script
+  pub why : Fault
+  pub is : fault ≡ Some why
+  pub splits : SplitsEnd script why
+
 -- the day of the script that was read ends so; each of its windows can be split
-pub record RoomDayIsWorked {D : Type 0} (earliest latest : Moment) (shown : Shown D)
-    (asked : Option Mode) (source : Reads) (sink : Writes) (windows : Windows)
-    (devices : Option (Listed D)) (fault : Option Fault) : Type 0 where
-  pub mode : Mode
-  pub asked_for : asked ≡ Some mode
+pub record RoomDayIsWorked {D : Type 0} (earliest latest : Moment) (shows : D → Shown) (mode : Mode)
+    (source : Reads) (sink : Writes) (windows : Windows) (devices : Option (Listed D))
+    (fault : Option Fault) : Type 0 where
   pub script : Script
   pub read : IsRead source script
   pub splits : SplitBefore script (length script.windows.items)
-  pub ends : RoomDayEnds earliest latest shown script mode sink windows devices fault
+  pub ends : RoomDayEnds earliest latest shows script mode sink windows devices fault
 
--- a window of the script that was read is refused
-pub record IsCrossed (asked : Option Mode) (source : Reads) (window : ℕ) (run : RunNo)
-    (follow : Bool) : Type 0 where
-  pub mode : Mode
-  pub asked_for : asked ≡ Some mode
-  pub script : Script
-  pub read : IsRead source script
-  pub refused : IsFirstRefused script window run follow
-
--- memory was wanted behind the reading, before the day began
-pub record IsReadAndStarved (asked : Option Mode) (source : Reads) : Type 0 where
-  pub mode : Mode
-  pub asked_for : asked ≡ Some mode
-  pub script : Script
-  pub read : IsRead source script
-
--- words that are of the command, and what was read before the day
-abbrev pub IsAsked : Option Mode → Type 0
-IsAsked asked = (mode : Mode) × (asked ≡ Some mode)
-
--- how the call ends, by its fault, for the mode that its words ask for, if any
-abbrev pub RoomCallEnds : {D : Type 0} → Moment → Moment → Shown D → Option Mode → Reads → Writes
-    → Windows → Option (Listed D) → Option Fault → Type 0
-RoomCallEnds earliest latest shown asked source sink windows devices None =
-    RoomDayIsWorked earliest latest shown asked source sink windows devices None
-RoomCallEnds earliest latest shown asked source sink windows devices (Some (Refuses fault)) =
-    IsAsked asked × NothingIsWorked sink windows devices × IsRefused source fault
-RoomCallEnds earliest latest shown asked source sink windows devices (Some Words) =
-    (asked ≡ None) × NothingIsWorked sink windows devices × IsUnread source
-RoomCallEnds earliest latest shown asked source sink windows devices (Some Read) =
-    IsAsked asked × NothingIsWorked sink windows devices × InputFails source
-RoomCallEnds earliest latest shown asked source sink windows devices (Some Write) =
-    RoomDayIsWorked earliest latest shown asked source sink windows devices (Some Write)
-RoomCallEnds earliest latest shown asked source sink windows devices (Some Memory) =
-    (NothingIsWorked sink windows devices × (InputIsStarved source ⊎ IsReadAndStarved asked source))
-    ⊎ RoomDayIsWorked earliest latest shown asked source sink windows devices (Some Memory)
-RoomCallEnds earliest latest shown asked source sink windows devices
-    (Some (Check window place name)) = ⊥
-RoomCallEnds earliest latest shown asked source sink windows devices (Some Disk) = ⊥
-RoomCallEnds earliest latest shown asked source sink windows devices (Some (Damaged slot)) = ⊥
-RoomCallEnds earliest latest shown asked source sink windows devices
-    (Some (Cross window run follow)) =
-    NothingIsWorked sink windows devices × IsCrossed asked source window run follow
+-- how the call ends, by the mode that its words ask for, if they are of the command
+abbrev pub RoomCallEnds : {D : Type 0} → Moment → Moment → (D → Shown) → Option Mode → Reads
+    → Writes → Windows → Option (Listed D) → Option Fault → Type 0
+RoomCallEnds earliest latest shows None source sink windows devices fault =
+    WordsAreRefused source fault × NothingIsWorked sink windows devices
+RoomCallEnds earliest latest shows (Some mode) source sink windows devices fault =
+    ((NoScriptIsRead source fault ⊎ RoomsAreUnsplit source fault)
+    × NothingIsWorked sink windows devices)
+    ⊎ RoomDayIsWorked earliest latest shows mode source sink windows devices fault

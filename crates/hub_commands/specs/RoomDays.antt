@@ -1,4 +1,5 @@
 -- A day of rooms: what is true of its windows, and of the homes and devices that they leave.
+use Rattle.device_states.specs.Devices.{Shown}
 use Rattle.history_book.specs.Histories.{reading}
 use Rattle.history_book.specs.Readings.{is_committed}
 use Rattle.history_book.specs.declared.records.WindowRecord.{WindowRecord}
@@ -10,7 +11,6 @@ use Rattle.home_types.specs.declared.modes.Mode.{Mode}
 use Rattle.home_types.specs.declared.worlds.Stand.{Stand}
 use Rattle.command_rules.specs.Serial.{SerialRun, serial_execution}
 use Rattle.hub_commands.specs.Days.{DayIsUnderWay, DevicesAreProbed, WindowsArePlayed}
-use Rattle.hub_commands.specs.Finishes.{Shown}
 use Rattle.hub_commands.specs.Ways.{IsRunWithin}
 use Rattle.hub_core.specs.Homes.{HomeState}
 use Rattle.legal_days.specs.LegalDays.{DevicesAreLeft, setting_of}
@@ -46,14 +46,13 @@ AreSplit script windows =
     → script_split script w ≡ Ok (map (λ x. plain_room x.roster) ws.items)
 
 -- the homes of the rooms after these windows
-pub record RoomsAreUnderWay {D : Type 0} (earliest latest : Moment) (shown : Shown D)
+pub record RoomsAreUnderWay {D : Type 0} (earliest latest : Moment) (shows : D → Shown)
     (script : Script) (mode : Mode) (homes : List (HomeState D)) (windows : Windows) : Type 0 where
   pub count : length windows ≤ length script.windows.items
   pub homed : length homes ≡ room_count script
   pub split : AreSplit script windows
-  pub each : (k : ℕ) (home : HomeState D) → slice_get homes k ≡ Some home
-      → DayIsUnderWay (IsRunWithin earliest latest) shown.tag shown.plan shown.stands shown.turns
-      shown.probes shown.faults (own_script script k) mode home (records_of k windows)
+  pub each : (k : ℕ) (home : HomeState D) → slice_get homes k ≡ Some home → DayIsUnderWay
+      (IsRunWithin earliest latest) shows (own_script script k) mode home (records_of k windows)
 
 -- The serial execution of the home
 
@@ -111,15 +110,14 @@ pub record RoomIsPlayed (earliest latest : Moment) (script : Script) (mode : Mod
 
 -- the room's devices are left as its windows say, each in the place that it has among the devices
 -- of the home
-pub record RoomIsLeft {D : Type 0} (earliest latest : Moment) (shown : Shown D) (script : Script)
+pub record RoomIsLeft {D : Type 0} (earliest latest : Moment) (shows : D → Shown) (script : Script)
     (mode : Mode) (windows : Windows) (devices : List D) (k : ℕ) : Type 0 where
   pub takes : List (DeviceId → ℕ)
   pub played : WindowsArePlayed (IsRunWithin earliest latest) (own_script script k) mode
       (records_of k windows) takes
   pub own : List D
-  pub left : DevicesAreLeft shown.tag shown.plan shown.stands shown.turns shown.faults
-      (own_script script k) (records_of k windows) own
-  pub probed : DevicesAreProbed shown.probes takes own
+  pub left : DevicesAreLeft shows (own_script script k) (records_of k windows) own
+  pub probed : DevicesAreProbed shows takes own
   pub placed : (a : ℕ) (device : D) → slice_get own a ≡ Some device → slice_get devices
       (slice_index_or (devices_in (rooms_of script).room_of k) a 0) ≡ Some device
 
@@ -132,12 +130,12 @@ pub record RoomsArePlayed (earliest latest : Moment) (script : Script) (mode : M
   pub orders : EachOrderAgrees script mode windows
 
 -- and the devices, in the order of the script
-pub record RoomsAreLeft {D : Type 0} (earliest latest : Moment) (shown : Shown D) (script : Script)
-    (mode : Mode) (windows : Windows) (devices : List D) : Type 0 where
+pub record RoomsAreLeft {D : Type 0} (earliest latest : Moment) (shows : D → Shown)
+    (script : Script) (mode : Mode) (windows : Windows) (devices : List D) : Type 0 where
   pub played : RoomsArePlayed earliest latest script mode windows
   pub size : length devices ≡ length script.devices.items
   pub rooms : (k : ℕ) → k < room_count script
-      → RoomIsLeft earliest latest shown script mode windows devices k
+      → RoomIsLeft earliest latest shows script mode windows devices k
 
 -- Texts
 

@@ -1,7 +1,7 @@
 -- The next window of every room: opened, worked and closed.
+use Rattle.device_states.specs.Devices.{Shown}
 use Rattle.home_types.specs.Numbers.{Moment}
 use Rattle.home_types.specs.declared.modes.Mode.{Mode}
-use Rattle.hub_commands.specs.Finishes.{Shown}
 use Rattle.hub_core.specs.HubCalls.{IsOpened}
 use Rattle.hub_core.specs.Homes.{HomeIsKept, HomeState, setting_for}
 use Rattle.hub_core.specs.OpenHubs.{OpenHub}
@@ -24,41 +24,36 @@ MayAllOpen {D} mode rounds rosters homes =
     → MayOpen (setting_for home roster.roster mode) rounds home.opened
 
 -- the room's window was opened on this home
-abbrev pub IsRoomOpened : {D : Type 0} → (D → ℕ) → (D → ℕ) → (D → ℕ) → Mode → ℕ → HomeState D
-    → RoomHub D → Type 0
-IsRoomOpened turns probes faults mode rounds home room =
-    IsOpened turns probes faults (setting_for home room.roster.roster mode) rounds home room.hub
+abbrev pub IsRoomOpened : {D : Type 0} → (D → Shown) → Mode → ℕ → HomeState D → RoomHub D → Type 0
+IsRoomOpened shows mode rounds home room =
+    IsOpened shows (setting_for home room.roster.roster mode) rounds home room.hub
 
 -- the windows of all rooms were opened
-pub record AreOpened {D : Type 0} (turns probes faults : D → ℕ) (mode : Mode) (rounds : ℕ)
+pub record AreOpened {D : Type 0} (shows : D → Shown) (mode : Mode) (rounds : ℕ)
     (rosters : List RoomRoster) (homes : List (HomeState D))
     (hubs : List (RoomHub D)) : Type 0 where
   pub rosters_are : map (λ room. room.roster) hubs ≡ rosters
   pub count : length homes ≡ length hubs
   pub each : (k : ℕ) (home : HomeState D) (room : RoomHub D) → slice_get homes k ≡ Some home
-      → slice_get hubs k ≡ Some room → IsRoomOpened turns probes faults mode rounds home room
+      → slice_get hubs k ≡ Some room → IsRoomOpened shows mode rounds home room
 
 -- the homes and the windows of the rooms that were worked
-pub record AreTakenApart {D : Type 0} (tag stands turns probes faults : D → ℕ)
-    (done : List (RoomDone D)) (homes : List (HomeState D))
-    (windows : List RoomWindow) : Type 0 where
+pub record AreTakenApart {D : Type 0} (shows : D → Shown) (done : List (RoomDone D))
+    (homes : List (HomeState D)) (windows : List RoomWindow) : Type 0 where
   pub homes_are : homes ≡ map (λ room. room.home) done
   pub windows_are : windows ≡ map (λ room. room.window) done
-  pub kept : (k : ℕ) (home : HomeState D) → slice_get homes k ≡ Some home
-      → HomeIsKept tag stands turns probes faults home
+  pub kept : (k : ℕ) (home : HomeState D) → slice_get homes k ≡ Some home → HomeIsKept shows home
 
 -- a room's window was opened on its home, and worked by threads
-pub record RoomWent {D : Type 0} (shown : Shown D) (earliest latest : Moment) (mode : Mode)
+pub record RoomWent {D : Type 0} (shows : D → Shown) (earliest latest : Moment) (mode : Mode)
     (rounds : ℕ) (before after : HomeState D) (window : RoomWindow) : Type 0 where
   pub hub : OpenHub D
-  pub opened : IsOpened shown.turns shown.probes shown.faults
-      (setting_for before window.roster.roster mode) rounds before hub
-  pub worked : IsWorked shown.tag shown.plan shown.turns shown.probes shown.faults earliest latest
-      hub after window.closed
-  pub kept : HomeIsKept shown.tag shown.stands shown.turns shown.probes shown.faults after
+  pub opened : IsOpened shows (setting_for before window.roster.roster mode) rounds before hub
+  pub worked : IsWorked shows earliest latest hub after window.closed
+  pub kept : HomeIsKept shows after
 
 -- the script's window of this number was worked in every room, with so many rounds of probes
-pub record RoomsWent {D : Type 0} (shown : Shown D) (earliest latest : Moment) (script : Script)
+pub record RoomsWent {D : Type 0} (shows : D → Shown) (earliest latest : Moment) (script : Script)
     (mode : Mode) (number rounds : ℕ) (before after : List (HomeState D))
     (windows : List RoomWindow) : Type 0 where
   pub split : script_split script number ≡ Ok (map (λ x. plain_room x.roster) windows)
@@ -66,4 +61,4 @@ pub record RoomsWent {D : Type 0} (shown : Shown D) (earliest latest : Moment) (
   pub count : length windows ≡ length before
   pub each : (k : ℕ) (x y : HomeState D) (window : RoomWindow) → slice_get before k ≡ Some x
       → slice_get after k ≡ Some y → slice_get windows k ≡ Some window
-      → RoomWent shown earliest latest mode rounds x y window
+      → RoomWent shows earliest latest mode rounds x y window

@@ -2,13 +2,14 @@
 use Rattle.day_clock.specs.Sinks.{AppendsPart}
 use Rattle.day_report.specs.Days.{day_text}
 use Rattle.day_report.specs.Trials.{trial_text}
+use Rattle.device_states.specs.Devices.{Shown}
 use Rattle.home_types.specs.Listed.{Listed}
 use Rattle.home_types.specs.Numbers.{DeviceId}
 use Rattle.home_types.specs.declared.modes.Mode.{Mode}
 use Rattle.home_types.specs.declared.modes.Scheduler.TheVariants.{Fcfs}
 use Rattle.home_types.specs.declared.modes.Visibility.TheVariants.{Eventual}
 use Rattle.hub_commands.specs.Days.{DevicesAreProbed, WindowsArePlayed}
-use Rattle.hub_commands.specs.Finishes.{IsUnwritten, Shown, Writes}
+use Rattle.hub_commands.specs.Finishes.{IsUnwritten, Writes}
 use Rattle.hub_commands.specs.LastLines.{LineIsWritten}
 use Rattle.hub_commands.specs.Ways.{IsReplayOf}
 use Rattle.hub_commands.specs.declared.faults.Fault.TheVariants.{Check, Cross, Damaged, Disk, Memory, Read, Script as Refuses, Words, Write}
@@ -39,16 +40,15 @@ finding script day = verdict_of script (day_text script day.windows.items trial_
 
 -- the day that is handed back is the whole day of the trial's script, legal, each of its windows
 -- the replay of its seed, and in each every run has ended; its record agrees
-pub record IsTrialDay {D : Type 0} (shown : Shown D) (n : ℕ) (day : Day D) : Type 0 where
+pub record IsTrialDay {D : Type 0} (shows : D → Shown) (n : ℕ) (day : Day D) : Type 0 where
   pub script : Script
   pub made : plain_script script ≡ trial_script n
   pub devices : Listed D
   pub there : day.devices ≡ Some devices
-  pub legal : IsLegalDay shown.tag shown.plan shown.stands shown.turns shown.faults script
-      trial_mode day.windows.items devices.items
+  pub legal : IsLegalDay shows script trial_mode day.windows.items devices.items
   pub takes : List (DeviceId → ℕ)
   pub played : WindowsArePlayed IsReplayOf script trial_mode day.windows.items takes
-  pub probed : DevicesAreProbed shown.probes takes devices.items
+  pub probed : DevicesAreProbed shows takes devices.items
   pub agrees : finding script day ≡ Agrees
 
 -- the line of the trial: the counts of its day, and how many of its windows agree by what is found
@@ -58,20 +58,20 @@ line_due n script day =
     trial_text n day.windows.items (agreeing (finding script day) (length day.windows.items))
 
 -- the day was played, and its line was written
-pub record TrialIsWritten {D : Type 0} (shown : Shown D) (n : ℕ) (sink : Writes)
+pub record TrialIsWritten {D : Type 0} (shows : D → Shown) (n : ℕ) (sink : Writes)
     (o : Option (Day D)) : Type 0 where
   pub day : Day D
   pub given : o ≡ Some day
-  pub trial : IsTrialDay shown n day
+  pub trial : IsTrialDay shows n day
   pub text : Appends sink.held sink.holds (line_due n trial.script day)
   pub calm : sink.faults_after ≡ sink.faults
 
 -- the day was played, and the sink failed: it got a first part of the line, and not all
-pub record TrialIsCut {D : Type 0} (shown : Shown D) (n : ℕ) (sink : Writes)
+pub record TrialIsCut {D : Type 0} (shows : D → Shown) (n : ℕ) (sink : Writes)
     (o : Option (Day D)) : Type 0 where
   pub day : Day D
   pub given : o ≡ Some day
-  pub trial : IsTrialDay shown n day
+  pub trial : IsTrialDay shows n day
   pub text : AppendsPart sink.held sink.holds (line_due n trial.script day)
   pub failed : sink.faults < sink.faults_after
 
@@ -91,17 +91,18 @@ abbrev pub TrialIsStarved : {D : Type 0} → ℕ → Writes → Option (Day D) �
 TrialIsStarved n sink day = IsUnwritten sink × ((day ≡ None) ⊎ TrialDayIsStarved n day)
 
 -- how a trial ends
-abbrev pub TrialEnds : {D : Type 0} → Shown D → ℕ → Writes → Option (Day D) → Option Fault → Type 0
-TrialEnds shown n sink day None = TrialIsWritten shown n sink day
-TrialEnds shown n sink day (Some (Refuses fault)) = ⊥
-TrialEnds shown n sink day (Some Words) = ⊥
-TrialEnds shown n sink day (Some Read) = ⊥
-TrialEnds shown n sink day (Some Write) = TrialIsCut shown n sink day
-TrialEnds shown n sink day (Some Memory) = TrialIsStarved n sink day
-TrialEnds shown n sink day (Some (Check window place name)) = ⊥
-TrialEnds shown n sink day (Some (Cross window run follow)) = ⊥
-TrialEnds shown n sink day (Some Disk) = ⊥
-TrialEnds shown n sink day (Some (Damaged slot)) = ⊥
+abbrev pub TrialEnds : {D : Type 0} → (D → Shown) → ℕ → Writes → Option (Day D)
+    → Option Fault → Type 0
+TrialEnds shows n sink day None = TrialIsWritten shows n sink day
+TrialEnds shows n sink day (Some (Refuses fault)) = ⊥
+TrialEnds shows n sink day (Some Words) = ⊥
+TrialEnds shows n sink day (Some Read) = ⊥
+TrialEnds shows n sink day (Some Write) = TrialIsCut shows n sink day
+TrialEnds shows n sink day (Some Memory) = TrialIsStarved n sink day
+TrialEnds shows n sink day (Some (Check window place name)) = ⊥
+TrialEnds shows n sink day (Some (Cross window run follow)) = ⊥
+TrialEnds shows n sink day (Some Disk) = ⊥
+TrialEnds shows n sink day (Some (Damaged slot)) = ⊥
 
 -- the trial ends for want of memory, with the windows of the day, if there is one
 abbrev pub HasStarved : {D : Type 0} → Option (Day D) → Option (Day D) → Option Fault → Type 0

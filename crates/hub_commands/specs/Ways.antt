@@ -3,24 +3,22 @@
 use Rattle.history_book.specs.Settings.{Setting}
 use Rattle.history_book.specs.declared.records.WindowRecord.{WindowRecord}
 use Rattle.home_types.specs.Numbers.{DeviceId, Moment}
-use Rattle.hub_threads.specs.Moments.{AreWithin}
+use Rattle.hub_threads.specs.WorkedWindows.{IsRunBy}
 use Rattle.routine_reader.specs.declared.scripts.WindowText.{WindowText}
-use Rattle.run_replay.specs.Replays.{IsReplay, Play}
-use Rattle.std.specs.Prelude.{ℕ, ◌-◌, ◌≡◌}
+use Rattle.run_replay.specs.ReplayedWindows.{IsReplayBy}
+use Rattle.std.specs.Prelude.{ℕ}
 
--- step by step: the record has the history of this replay of the window's turns and its seed, with
--- its rounds of probes, and the probes are those that the replay took, its rounds less those that
--- are left
-pub record IsReplayOf (w : Setting) (window : WindowText) (closed : WindowRecord)
-    (taken : ℕ → ℕ) : Type 0 where
-  pub play : Play
-  pub replay : IsReplay w window.probes window.probes window.turns.items window.seed play
-  pub history : closed.history.items ≡ play.configuration.history
-  pub probes : (d : DeviceId) → taken d ≡ window.probes - play.configuration.probes d
+-- a way of working a window
+abbrev pub WindowWay : Type 1
+WindowWay = Setting → WindowText → WindowRecord → (DeviceId → ℕ) → Type 0
 
--- with threads: each moment that the record tells is from the clock's earliest to its latest, and
--- each device was probed in all rounds of the window
-pub record IsRunWithin (earliest latest : Moment) (w : Setting) (window : WindowText)
-    (closed : WindowRecord) (taken : ℕ → ℕ) : Type 0 where
-  pub moments : AreWithin earliest latest closed.history.items
-  pub probes : (d : DeviceId) → taken d ≡ window.probes
+-- step by step: it was replayed by its turns and its seed, with its rounds of probes
+abbrev pub IsReplayOf : WindowWay
+IsReplayOf w window closed taken =
+    IsReplayBy window.probes window.probes window.turns.items window.seed w closed taken
+
+-- with threads: it was run with its rounds of probes, from the clock's earliest moment to its
+-- latest
+abbrev pub IsRunWithin : Moment → Moment → WindowWay
+IsRunWithin earliest latest w window closed taken =
+    IsRunBy window.probes earliest latest w closed taken

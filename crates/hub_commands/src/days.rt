@@ -3,7 +3,7 @@ ghost use Rattle.std.specs.Prelude.{◌≡◌, ◌+◌, ◌<◌, ◌≤◌, ◌+
 ghost use Rattle.day_report.specs.Days.{head_text, window_text as window_lines_of};
 ghost use Rattle.home_types.specs.Limits.{most_windows};
 ghost use Rattle.hub_commands.specs.Days.{new_course};
-ghost use Rattle.hub_commands.specs.Finishes.{shown_by, written};
+ghost use Rattle.hub_commands.specs.Finishes.{written};
 ghost use Rattle.hub_commands.specs.Going.{DayHasBegun, GoesOnOrEnds, HandsBack, HasEnded, HasWritten, KeepsWindows, windows_in};
 ghost use Rattle.hub_commands.specs.LastLines.{LineIsWritten};
 ghost use Rattle.hub_commands.specs.Pieces.{StopEnds};
@@ -124,8 +124,7 @@ pub fn begin_on<W: Way, D: Device, K: Sink>(
     head: Result<Bytes, NoMemory>,
     sink: &mut K,
 ) -> Result<DayUnderWay<D>, Finish<D>>
-    ensures begun { DayHasBegun (W.works _way.now)
-        (shown_by D.tag D.plan D.stands D.turns D.probes D.faults) options
+    ensures begun { DayHasBegun (W.works _way.now) D.shows options
         (written (K.holds sink.old) (K.holds sink.new) (K.faults sink.old) (K.faults sink.new))
         home head result }
     ensures kept { KeepsWindows result [] }
@@ -150,11 +149,9 @@ pub fn begin<W: Way, K: Sink, B: Bench>(
     bench: &mut B,
 ) -> Result<DayUnderWay<B::Dev>, Finish<B::Dev>>
     requires sound { IsSound (plain_script script.now) }
-    ensures goes_on { GoesOnOrEnds (W.works way.now)
-        (shown_by B.Dev.tag B.Dev.plan B.Dev.stands B.Dev.turns B.Dev.probes B.Dev.faults)
-        (new_course script.now) options
-        (written (K.holds sink.old) (K.holds sink.new) (K.faults sink.old) (K.faults sink.new))
-        0 result }
+    ensures goes_on { GoesOnOrEnds (W.works way.now) B.Dev.shows (new_course script.now) options
+        (written (K.holds sink.old) (K.holds sink.new) (K.faults sink.old) (K.faults sink.new)) 0
+        result }
     ensures kept { KeepsWindows result [] }
 {
     let Ok(home) = Home::build(alloc, bench, script) else {
@@ -183,10 +180,9 @@ pub fn go_on<W: Way, D: Device, K: Sink>(
 ) -> Result<DayUnderWay<D>, Finish<D>>
     requires some { IfOk next (λ day. 0 < length day.windows.items) }
     requires few { IfOk next (λ day. before + length day.windows.items ≤ most_windows) }
-    ensures written { HasWritten (W.works _way.now)
-        (shown_by D.tag D.plan D.stands D.turns D.probes D.faults) script.now before options
-        (written (K.holds sink.old) (K.holds sink.new) (K.faults sink.old) (K.faults sink.new))
-        next result }
+    ensures written { HasWritten (W.works _way.now) D.shows script.now before options
+        (written (K.holds sink.old) (K.holds sink.new) (K.faults sink.old) (K.faults sink.new)) next
+        result }
     ensures kept { KeepsWindows result (windows_in next) }
 {
     let day = match next {
@@ -209,10 +205,9 @@ pub fn end<W: Way, D: Device, K: Sink>(
     sink: &mut K,
 ) -> Finish<D>
     ensures status { result.status ≡ status_for_fault result.fault }
-    ensures ends { HasEnded (W.works _way.now)
-        (shown_by D.tag D.plan D.stands D.turns D.probes D.faults) options
-        (written (K.holds sink.old) (K.holds sink.new) (K.faults sink.old) (K.faults sink.new))
-        day result.day result.fault }
+    ensures ends { HasEnded (W.works _way.now) D.shows options
+        (written (K.holds sink.old) (K.holds sink.new) (K.faults sink.old) (K.faults sink.new)) day
+        result.day result.fault }
     ensures kept { HandsBack result.day day.windows.items }
 {
     if let Err(fault) = write_piece(sink, total_text(alloc, &day.windows)) {

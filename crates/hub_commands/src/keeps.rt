@@ -1,7 +1,7 @@
 //! The call for `keep`: a day that is replayed, with the state after each window kept in a journal.
 ghost use Rattle.std.specs.Prelude.{◌≡◌, Err, IfOk, IsTrue, None, Some, map, string_bytes};
-ghost use Rattle.hub_commands.specs.CommandsTaken.{keep_line_of};
-ghost use Rattle.hub_commands.specs.Finishes.{read_off, shown_by, written};
+ghost use Rattle.hub_commands.specs.CommandsTaken.{keep_options_of};
+ghost use Rattle.hub_commands.specs.Finishes.{read_off, written};
 ghost use Rattle.hub_commands.specs.KeepCalls.{JournalIsOpened, KeepEnds, ScriptIsKept, opening_fault};
 ghost use Rattle.hub_commands.specs.Statuses.{status_for_fault};
 ghost use Rattle.hub_core.specs.Openings.{is_mode};
@@ -23,10 +23,10 @@ use std::alloc::Global;
 
 /// Reads the words of `keep`.
 fn read_keep_words(alloc: Global, words: &[String]) -> Result<Options, WordFault>
-    ensures meaning { IfOk result (λ options.
-        keep_line_of (map string_bytes words.now) ≡ Some (CommandLine.Keep options)) }
+    ensures meaning { IfOk result
+        (λ options. keep_options_of (map string_bytes words.now) ≡ Some options) }
     ensures refused { result ≡ Err WordFault.Words
-        → keep_line_of (map string_bytes words.now) ≡ None }
+        → keep_options_of (map string_bytes words.now) ≡ None }
 {
     match read_words(alloc, words) {
         Ok(CommandLine::Keep(options)) => Ok(options),
@@ -77,12 +77,10 @@ fn keep_script<K: Sink, B: Bench, Q: Disk>(
     requires sound { IsSound (plain_script script.now) }
     requires goes { IsTrue (is_mode options.mode) }
     ensures status { result.0.status ≡ status_for_fault result.0.fault }
-    ensures ends { ScriptIsKept
-        (shown_by B.Dev.tag B.Dev.plan B.Dev.stands B.Dev.turns B.Dev.probes B.Dev.faults)
-        Q.told Q.seen Q.images Q.moment Q.images_since Q.faults
+    ensures ends { ScriptIsKept B.Dev.shows Q.told Q.seen Q.images Q.moment Q.images_since Q.faults
         script.now options
-        (written (K.holds sink.old) (K.holds sink.new) (K.faults sink.old) (K.faults sink.new))
-        disk result.1 result.0.day result.0.fault }
+        (written (K.holds sink.old) (K.holds sink.new) (K.faults sink.old) (K.faults sink.new)) disk
+        result.1 result.0.day result.0.fault }
 {
     match open_journal(alloc, script, disk) {
         Ok(journal) => keep_day(alloc, script, options, journal, sink, bench),
@@ -109,11 +107,9 @@ pub fn keep_command<S: Source, K: Sink, B: Bench, Q: Disk>(
     disk: Q,
 ) -> (Finish<B::Dev>, Q)
     ensures status { result.0.status ≡ status_for_fault result.0.fault }
-    ensures ends { KeepEnds
-        (shown_by B.Dev.tag B.Dev.plan B.Dev.stands B.Dev.turns B.Dev.probes B.Dev.faults) Q.told
-        Q.seen Q.images Q.moment Q.images_since Q.faults (keep_line_of (map string_bytes words.now))
-        (read_off (S.left source.old) (S.left source.new) (S.faults source.old)
-        (S.faults source.new))
+    ensures ends { KeepEnds B.Dev.shows Q.told Q.seen Q.images Q.moment Q.images_since Q.faults
+        (keep_options_of (map string_bytes words.now)) (read_off (S.left source.old)
+        (S.left source.new) (S.faults source.old) (S.faults source.new))
         (written (K.holds sink.old) (K.holds sink.new) (K.faults sink.old) (K.faults sink.new)) disk
         result.1 result.0.day result.0.fault }
 {

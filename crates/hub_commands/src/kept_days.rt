@@ -2,7 +2,7 @@
 ghost use Rattle.std.specs.Prelude.{◌≡◌, ◌+◌, ◌<◌, ◌≤◌, [], IfOk, IsTrue, None, Some, length, true};
 ghost use Rattle.home_journal.specs.Disks.{LeavesThis};
 ghost use Rattle.home_types.specs.Limits.{most_windows};
-ghost use Rattle.hub_commands.specs.Finishes.{shown_by, written};
+ghost use Rattle.hub_commands.specs.Finishes.{written};
 ghost use Rattle.hub_commands.specs.Going.{KeepsWindows};
 ghost use Rattle.hub_commands.specs.KeptDays.{BeginsBehind, HandsAllBack, HasEndedBehind, HasKept, HasKeptNext, HomeGoesOn};
 ghost use Rattle.hub_commands.specs.Statuses.{status_for_fault};
@@ -53,9 +53,8 @@ fn home_behind<B: Bench, Q: Disk>(
 ) -> Result<Home<B::Dev>, NoMemory>
     requires sound { IsSound (plain_script script.now) }
     requires kinds { journal.now.kinds ≡ kinds_of script.now }
-    ensures home { IfOk result (λ home.
-        HomeGoesOn B.Dev.tag B.Dev.plan B.Dev.stands B.Dev.turns B.Dev.probes B.Dev.faults
-        script.now journal.now.kept journal.now.last home) }
+    ensures home { IfOk result
+        (λ home. HomeGoesOn B.Dev.shows script.now journal.now.kept journal.now.last home) }
     ensures none { journal.now.last ≡ None → journal.now.kept ≡ 0 }
 {
     match journal.last() {
@@ -76,9 +75,8 @@ fn begin_behind<K: Sink, B: Bench, Q: Disk>(
 ) -> Result<DayUnderWay<B::Dev>, Finish<B::Dev>>
     requires sound { IsSound (plain_script script.now) }
     requires kinds { journal.now.kinds ≡ kinds_of script.now }
-    ensures goes_on { BeginsBehind IsReplayOf
-        (shown_by B.Dev.tag B.Dev.plan B.Dev.stands B.Dev.turns B.Dev.probes B.Dev.faults)
-        script.now journal.now.kept journal.now.last options
+    ensures goes_on { BeginsBehind IsReplayOf B.Dev.shows script.now journal.now.kept
+        journal.now.last options
         (written (K.holds sink.old) (K.holds sink.new) (K.faults sink.old) (K.faults sink.new))
         result }
     ensures kept { KeepsWindows result [] }
@@ -122,12 +120,10 @@ fn write_kept<D: Device, K: Sink, Q: Disk>(
     requires few { before + length next.day.windows.items ≤ most_windows }
     requires room { next.journal.kept < next.journal.most }
     requires kinds { next.day.home.kinds ≡ next.journal.kinds }
-    ensures { HasKept IsReplayOf
-        (shown_by D.tag D.plan D.stands D.turns D.probes D.faults)
-        Q.told Q.seen Q.images Q.moment Q.images_since Q.faults
+    ensures { HasKept IsReplayOf D.shows Q.told Q.seen Q.images Q.moment Q.images_since Q.faults
         script.now before options
-        (written (K.holds sink.old) (K.holds sink.new) (K.faults sink.old) (K.faults sink.new))
-        next result }
+        (written (K.holds sink.old) (K.holds sink.new) (K.faults sink.old) (K.faults sink.new)) next
+        result }
 {
     let KeptDay { day, journal } = next;
     match journal.keep(day.home.world()) {
@@ -158,12 +154,10 @@ fn keep_next<D: Device, K: Sink, Q: Disk>(
     requires few { kept.day.home.opened ≤ most_windows }
     requires room { kept.journal.kept < kept.journal.most }
     requires same { kept.journal.kinds ≡ kinds_of script.now }
-    ensures { HasKeptNext IsReplayOf
-        (shown_by D.tag D.plan D.stands D.turns D.probes D.faults)
-        Q.told Q.seen Q.images Q.moment Q.images_since Q.faults
+    ensures { HasKeptNext IsReplayOf D.shows Q.told Q.seen Q.images Q.moment Q.images_since Q.faults
         script.now before options
-        (written (K.holds sink.old) (K.holds sink.new) (K.faults sink.old) (K.faults sink.new))
-        kept result }
+        (written (K.holds sink.old) (K.holds sink.new) (K.faults sink.old) (K.faults sink.new)) kept
+        result }
 {
     let KeptDay { day, journal } = kept;
     match replay_next(alloc, script, options.mode, before, day) {
@@ -194,10 +188,8 @@ pub fn keep_day<K: Sink, B: Bench, Q: Disk>(
     requires kinds { journal.kinds ≡ kinds_of script.now }
     requires most { journal.most ≡ length script.now.windows.items }
     ensures status { result.0.status ≡ status_for_fault result.0.fault }
-    ensures ends { HasEndedBehind IsReplayOf
-        (shown_by B.Dev.tag B.Dev.plan B.Dev.stands B.Dev.turns B.Dev.probes B.Dev.faults)
-        Q.told Q.seen Q.images Q.moment Q.images_since Q.faults
-        script.now journal.kept journal.last options
+    ensures ends { HasEndedBehind IsReplayOf B.Dev.shows Q.told Q.seen Q.images Q.moment
+        Q.images_since Q.faults script.now journal.kept journal.last options
         (written (K.holds sink.old) (K.holds sink.new) (K.faults sink.old) (K.faults sink.new))
         journal.disk result.1 result.0.day result.0.fault }
     ensures durable { Q.told ≡ true → LeavesThis (Q.seen journal.disk) (Q.images journal.disk) }

@@ -39,9 +39,8 @@ pub fn open_next<Dev: Device>(
     requires next { before + length day.windows.items < length script.now.windows.items }
     requires kinds { day.home.kinds ≡ kinds_of script.now }
     requires few { day.home.opened ≤ most_windows }
-    ensures opened { IfOk result (λ opened.
-        NextIsOpened Dev.tag Dev.turns Dev.probes Dev.faults (windows_behind before script.now) mode
-        (length day.windows.items) day.home opened.0) }
+    ensures opened { IfOk result (λ opened. NextIsOpened Dev.shows
+        (windows_behind before script.now) mode (length day.windows.items) day.home opened.0) }
     ensures records { IfOk result (λ opened. opened.1.items ≡ day.windows.items) }
     ensures room { IfOk result (λ opened. 0 < opened.1.spare) }
     ensures starved { IfErr result (λ windows. windows.items ≡ day.windows.items) }
@@ -71,8 +70,7 @@ fn open_window<Dev: Device>(
     requires there { number < length script.now.windows.items }
     requires kinds { home.kinds ≡ kinds_of script.now }
     requires few { home.opened ≤ most_windows }
-    ensures { IfOk result (λ hub. NextIsOpened Dev.tag Dev.turns Dev.probes Dev.faults script.now
-        mode number home hub) }
+    ensures { IfOk result (λ hub. NextIsOpened Dev.shows script.now mode number home hub) }
 {
     let window = &script.windows.as_slice()[number as usize];
     let roster = roster(alloc, script, number)?;
@@ -91,7 +89,7 @@ pub fn close_next<Dev: Device>(
 ) -> DayUnderWay<Dev>
     requires room { 0 < windows.spare }
     ensures home { result.home ≡ home }
-    ensures kept { HomeIsKept Dev.tag Dev.stands Dev.turns Dev.probes Dev.faults home }
+    ensures kept { HomeIsKept Dev.shows home }
     ensures windows { result.windows.items ≡ windows.items ++ closed ∷ [] }
 {
     home.kept();

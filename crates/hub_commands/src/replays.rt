@@ -2,7 +2,7 @@
 ghost use Rattle.std.specs.Prelude.{◌≡◌, ◌+◌, ◌<◌, ◌≤◌, Err, IfErr, IfOk, IsTrue, length};
 ghost use Rattle.home_types.specs.Limits.{most_windows};
 ghost use Rattle.hub_commands.specs.Days.{plain};
-ghost use Rattle.hub_commands.specs.Finishes.{DayEnds, shown_by, written};
+ghost use Rattle.hub_commands.specs.Finishes.{DayEnds, written};
 ghost use Rattle.hub_commands.specs.Going.{PlaysOneMore};
 ghost use Rattle.hub_commands.specs.Played.{IsWorkedAs};
 ghost use Rattle.hub_commands.specs.Statuses.{status_for_fault};
@@ -37,8 +37,7 @@ fn replay_opened<D: Device>(
 ) -> Result<(Home<D>, WindowRecord), NoMemory>
     requires fresh { configuration_of hub ≡ opened hub.setting hub.rounds }
     requires rounds { hub.rounds ≡ window.now.probes }
-    ensures { IfOk result (λ done. IsWorkedAs IsReplayOf D.tag D.plan D.turns D.probes D.faults hub
-        window.now done.0 done.1) }
+    ensures { IfOk result (λ done. IsWorkedAs IsReplayOf D.shows hub window.now done.0 done.1) }
 {
     let turns = window.turns.as_slice();
     match replay_window(alloc, hub, turns, window.seed, window.probes) {
@@ -66,9 +65,8 @@ pub fn replay_next<D: Device>(
     requires next { before + length day.windows.items < length script.now.windows.items }
     requires kinds { day.home.kinds ≡ kinds_of script.now }
     requires few { day.home.opened ≤ most_windows }
-    ensures played { IfOk result (λ next.
-        PlaysOneMore IsReplayOf D.tag D.plan D.stands D.turns D.probes D.faults
-        script.now before mode day next) }
+    ensures played { IfOk result
+        (λ next. PlaysOneMore IsReplayOf D.shows script.now before mode day next) }
     ensures more { IfOk result (λ next. length next.windows.items ≡ length day.windows.items + 1) }
     ensures kinds { IfOk result (λ next. next.home.kinds ≡ day.home.kinds) }
     ensures starved { IfErr result (λ windows. windows.items ≡ day.windows.items) }
@@ -97,9 +95,7 @@ pub fn replay_day<K: Sink, B: Bench>(
     requires sound { IsSound (plain_script script.now) }
     requires goes { IsTrue (is_mode options.mode) }
     ensures status { result.status ≡ status_for_fault result.fault }
-    ensures ends { DayEnds IsReplayOf
-        (shown_by B.Dev.tag B.Dev.plan B.Dev.stands B.Dev.turns B.Dev.probes B.Dev.faults)
-        plain script.now options
+    ensures ends { DayEnds IsReplayOf B.Dev.shows plain script.now options
         (written (K.holds sink.old) (K.holds sink.new) (K.faults sink.old) (K.faults sink.new))
         result.day result.fault }
 {

@@ -1,6 +1,6 @@
 //! A day of rooms, window after window: how it begins, goes on and ends, and what is written of it.
 ghost use Rattle.home_types.specs.Limits.{most_devices, most_windows};
-ghost use Rattle.hub_commands.specs.Finishes.{shown_by, written};
+ghost use Rattle.hub_commands.specs.Finishes.{written};
 ghost use Rattle.hub_commands.specs.RoomCalls.{RoomDayEnds, SplitBefore};
 ghost use Rattle.hub_commands.specs.RoomDevices.{HasDevicesOf, HasRoomFor, IsRoomed};
 ghost use Rattle.hub_commands.specs.RoomGoing.{AreNewHomes, HasRoomForWindows, IsFirstDay, IsNewHome, IsNextRoomDay, IsRoomDay, IsWrittenSoFar, RoomGoesOn, RoomHasEnded, RoomHasWritten, RoomNextIs, RoomStopEnds, TellsLines};
@@ -117,9 +117,7 @@ fn build_room<B: Bench>(
 ) -> Result<Home<B::Dev>, NoMemory>
     requires sound { IsSound (plain_script script.now) }
     requires rooms { plain_rooms rooms.now ≡ rooms_of script.now }
-    ensures { IfOk result (λ home.
-        IsNewHome (shown_by B.Dev.tag B.Dev.plan B.Dev.stands B.Dev.turns B.Dev.probes B.Dev.faults)
-        (room_devices script.now room) home) }
+    ensures { IfOk result (λ home. IsNewHome B.Dev.shows (room_devices script.now room) home) }
 {
     let own = room_script(alloc, script, rooms, room)?;
     let home = Home::build(alloc, bench, &own);
@@ -136,9 +134,7 @@ fn build_rooms<B: Bench>(
 ) -> Result<List<Home<B::Dev>>, NoMemory>
     requires sound { IsSound (plain_script script.now) }
     requires rooms { plain_rooms rooms.now ≡ rooms_of script.now }
-    ensures { IfOk result (λ homes. AreNewHomes
-        (shown_by B.Dev.tag B.Dev.plan B.Dev.stands B.Dev.turns B.Dev.probes B.Dev.faults)
-        script.now homes.items) }
+    ensures { IfOk result (λ homes. AreNewHomes B.Dev.shows script.now homes.items) }
 {
     let mut homes = List::new(alloc);
     'rooms: for room in 0..rooms.names.len() {
@@ -166,9 +162,7 @@ fn first_day<B: Bench>(
 ) -> Result<RoomDay<B::Dev>, NoMemory>
     requires sound { IsSound (plain_script script.now) }
     requires rooms { plain_rooms rooms.now ≡ rooms_of script.now }
-    ensures { IfOk result (λ day. IsFirstDay
-        (shown_by B.Dev.tag B.Dev.plan B.Dev.stands B.Dev.turns B.Dev.probes B.Dev.faults)
-        script.now day) }
+    ensures { IfOk result (λ day. IsFirstDay B.Dev.shows script.now day) }
 {
     let windows = room_for(alloc, script.windows.len())?;
     let room = match DeviceRoom::reserve(alloc, rooms.names.len(), rooms.room_of.len()) {
@@ -207,9 +201,7 @@ fn begin<K: Sink, B: Bench, C: Clock>(
     requires rooms { plain_rooms rooms.now ≡ rooms_of script.now }
     requires splits { SplitBefore script.now (length script.now.windows.items) }
     requires strong { is_weak mode ≡ false }
-    ensures { RoomGoesOn (C.earliest _clock.now) (C.latest _clock.now)
-        (shown_by B.Dev.tag B.Dev.plan B.Dev.stands B.Dev.turns B.Dev.probes B.Dev.faults)
-        script.now mode
+    ensures { RoomGoesOn (C.earliest _clock.now) (C.latest _clock.now) B.Dev.shows script.now mode
         (written (K.holds sink.old) (K.holds sink.new) (K.faults sink.old) (K.faults sink.new)) 0
         result }
 {
@@ -241,12 +233,10 @@ fn work_next<R: Threads + Wait + Sync, Dev: Device + Send, C: Clock + Sync>(
     requires strong { is_weak mode ≡ false }
     requires splits { SplitBefore script.now (length script.now.windows.items) }
     requires next { length day.windows.items < length script.now.windows.items }
-    requires day { IsRoomDay (C.earliest clock.now) (C.latest clock.now)
-        (shown_by Dev.tag Dev.plan Dev.stands Dev.turns Dev.probes Dev.faults)
-        script.now mode day.windows.items day }
-    ensures { RoomNextIs (C.earliest clock.now) (C.latest clock.now)
-        (shown_by Dev.tag Dev.plan Dev.stands Dev.turns Dev.probes Dev.faults)
-        script.now mode day.windows.items result }
+    requires day { IsRoomDay (C.earliest clock.now)
+        (C.latest clock.now) Dev.shows script.now mode day.windows.items day }
+    ensures { RoomNextIs (C.earliest clock.now)
+        (C.latest clock.now) Dev.shows script.now mode day.windows.items result }
 {
     let RoomDay {
         homes,
@@ -349,13 +339,11 @@ fn go_on<Dev: Device, K: Sink, C: Clock>(
     requires rooms { plain_rooms rooms.now ≡ rooms_of script.now }
     requires splits { SplitBefore script.now (length script.now.windows.items) }
     requires strong { is_weak mode ≡ false }
-    requires next { IsNextRoomDay (C.earliest _clock.now) (C.latest _clock.now)
-        (shown_by Dev.tag Dev.plan Dev.stands Dev.turns Dev.probes Dev.faults)
-        script.now mode next }
-    ensures { RoomHasWritten (C.earliest _clock.now) (C.latest _clock.now)
-        (shown_by Dev.tag Dev.plan Dev.stands Dev.turns Dev.probes Dev.faults) script.now mode
-        (written (K.holds sink.old) (K.holds sink.new) (K.faults sink.old) (K.faults sink.new))
-        next result }
+    requires next { IsNextRoomDay (C.earliest _clock.now)
+        (C.latest _clock.now) Dev.shows script.now mode next }
+    ensures { RoomHasWritten (C.earliest _clock.now) (C.latest _clock.now) Dev.shows script.now mode
+        (written (K.holds sink.old) (K.holds sink.new) (K.faults sink.old) (K.faults sink.new)) next
+        result }
 {
     let mut day = match next {
         Ok(day) => day,
@@ -382,14 +370,12 @@ fn end<Dev: Device, K: Sink, C: Clock>(
     requires rooms { plain_rooms rooms.now ≡ rooms_of script.now }
     requires splits { SplitBefore script.now (length script.now.windows.items) }
     requires strong { is_weak mode ≡ false }
-    requires day { IsRoomDay (C.earliest _clock.now) (C.latest _clock.now)
-        (shown_by Dev.tag Dev.plan Dev.stands Dev.turns Dev.probes Dev.faults)
-        script.now mode day.windows.items day }
+    requires day { IsRoomDay (C.earliest _clock.now)
+        (C.latest _clock.now) Dev.shows script.now mode day.windows.items day }
     requires all { length day.windows.items ≡ length script.now.windows.items }
     ensures status { result.status ≡ status_for_fault result.fault }
-    ensures ends { RoomHasEnded (C.earliest _clock.now) (C.latest _clock.now)
-        (shown_by Dev.tag Dev.plan Dev.stands Dev.turns Dev.probes Dev.faults) script.now mode
-        (written (K.holds sink.old) (K.holds sink.new) (K.faults sink.old) (K.faults sink.new))
+    ensures ends { RoomHasEnded (C.earliest _clock.now) (C.latest _clock.now) Dev.shows script.now
+        mode (written (K.holds sink.old) (K.holds sink.new) (K.faults sink.old) (K.faults sink.new))
         day result }
 {
     if let Err(fault) = write_piece(sink, total_text(alloc, &day.told)) {
@@ -430,10 +416,8 @@ where
     requires strong { is_weak mode ≡ false }
     requires splits { SplitBefore script.now (length script.now.windows.items) }
     ensures status { result.status ≡ status_for_fault result.fault }
-    ensures ends { RoomDayEnds (C.earliest clock.now) (C.latest clock.now)
-        (shown_by B.Dev.tag B.Dev.plan B.Dev.stands B.Dev.turns B.Dev.probes B.Dev.faults)
-        script.now mode
-        (written (K.holds sink.old) (K.holds sink.new) (K.faults sink.old) (K.faults sink.new))
+    ensures ends { RoomDayEnds (C.earliest clock.now) (C.latest clock.now) B.Dev.shows script.now
+        mode (written (K.holds sink.old) (K.holds sink.new) (K.faults sink.old) (K.faults sink.new))
         result.windows.items result.devices result.fault }
 {
     let mut day = match begin(alloc, script, rooms, mode, sink, bench, clock) {

@@ -1,5 +1,4 @@
 //! The next window of every room: opened, worked and closed.
-ghost use Rattle.hub_commands.specs.Finishes.{shown_by};
 ghost use Rattle.hub_commands.specs.RoomDays.{RoomsAreUnderWay, Windows};
 ghost use Rattle.hub_commands.specs.RoomPlays.{AreOpened, AreTakenApart, IsRoomOpened, MayAllOpen, RoomsWent};
 ghost use Rattle.hub_core.specs.Homes.{setting_for};
@@ -38,8 +37,7 @@ fn open_room<Dev: Device>(
 ) -> Result<RoomHub<Dev>, NoMemory>
     requires { MayOpen (setting_for home roster.roster mode) rounds home.opened }
     ensures roster { IfOk result (λ room. room.roster ≡ roster) }
-    ensures opened { IfOk result
-        (λ room. IsRoomOpened Dev.turns Dev.probes Dev.faults mode rounds home room) }
+    ensures opened { IfOk result (λ room. IsRoomOpened Dev.shows mode rounds home room) }
 {
     let runs = match roster.runs_again(alloc) {
         Ok(runs) => runs,
@@ -72,8 +70,8 @@ fn open_backward<Dev: Device>(
     requires count { length rosters.items ≡ length homes.items }
     requires empty { hubs.items ≡ [] }
     requires room { length homes.items ≤ hubs.spare }
-    ensures { IfOk result (λ backward. AreOpened Dev.turns Dev.probes Dev.faults mode rounds
-        rosters.items homes.items (reverse backward.items)) }
+    ensures { IfOk result (λ backward. AreOpened Dev.shows mode rounds rosters.items homes.items
+        (reverse backward.items)) }
 {
     'rooms: while let Some(home) = homes.pop() {
         let roster = rosters.pop().unwrap();
@@ -102,8 +100,8 @@ fn open_rooms<Dev: Device>(
 ) -> Result<List<RoomHub<Dev>>, NoMemory>
     requires may { MayAllOpen mode rounds rosters.items homes.items }
     requires count { length rosters.items ≡ length homes.items }
-    ensures { IfOk result (λ hubs. AreOpened Dev.turns Dev.probes Dev.faults mode rounds
-        rosters.items homes.items hubs.items) }
+    ensures { IfOk result
+        (λ hubs. AreOpened Dev.shows mode rounds rosters.items homes.items hubs.items) }
 {
     let room = match room_for(alloc, rosters.len()) {
         Ok(room) => room,
@@ -148,8 +146,7 @@ impl<Dev: Device> ClosingRoom<Dev> {
             × (self.windows.items ≡ []) }
         requires room { (length done.items ≤ self.done.spare)
             × (length done.items ≤ self.homes.spare) × (length done.items ≤ self.windows.spare) }
-        ensures { AreTakenApart Dev.tag Dev.stands Dev.turns Dev.probes Dev.faults done.items
-            result.homes.items result.windows.items }
+        ensures { AreTakenApart Dev.shows done.items result.homes.items result.windows.items }
     {
         let ClosingRoom {
             done: room,
@@ -185,14 +182,11 @@ pub fn work_rooms<R: Threads + Wait + Sync, Dev: Device + Send, C: Clock + Sync>
     requires goes { IsTrue (is_mode mode) }
     requires there { number < length script.now.windows.items }
     requires splits { IsOk (script_split script.now number) }
-    requires under_way { (windows : Windows) × (length windows ≡ number)
-        × RoomsAreUnderWay (C.earliest clock.now) (C.latest clock.now)
-        (shown_by Dev.tag Dev.plan Dev.stands Dev.turns Dev.probes Dev.faults) script.now mode
-        homes.items windows }
-    ensures { (window : _) → slice_get script.now.windows.items number ≡ Some window → IfOk result
-        (λ closed. RoomsWent (shown_by Dev.tag Dev.plan Dev.stands Dev.turns Dev.probes Dev.faults)
-        (C.earliest clock.now) (C.latest clock.now) script.now mode number window.probes homes.items
-        closed.homes.items closed.windows.items) }
+    requires under_way { (windows : Windows) × (length windows ≡ number) × RoomsAreUnderWay
+        (C.earliest clock.now) (C.latest clock.now) Dev.shows script.now mode homes.items windows }
+    ensures { (window : _) → slice_get script.now.windows.items number ≡ Some window
+        → IfOk result (λ closed. RoomsWent Dev.shows (C.earliest clock.now) (C.latest clock.now)
+        script.now mode number window.probes homes.items closed.homes.items closed.windows.items) }
 {
     let rounds = script.windows.as_slice()[number as usize].probes;
     let rosters = match split(alloc, script, rooms, number) {

@@ -1,6 +1,6 @@
 //! The call for `rooms`: a day that is run with threads, by a hub for each room.
 ghost use Rattle.command_words.specs.RoomWords.{room_mode_of};
-ghost use Rattle.hub_commands.specs.Finishes.{read_off, shown_by, written};
+ghost use Rattle.hub_commands.specs.Finishes.{read_off, written};
 ghost use Rattle.hub_commands.specs.RoomCalls.{IsFirstRefused, IsSplitFault, RoomCallEnds, SplitBefore, SplitsEnd};
 ghost use Rattle.hub_commands.specs.Statuses.{status_for_fault};
 ghost use Rattle.room_hubs.specs.Rooms.{plain_rooms, rooms_of};
@@ -98,8 +98,7 @@ pub fn room_command<R: Threads + Wait + Sync, S: Source, K: Sink, B: Bench, C: C
 where
     B::Dev: Send,
     ensures status { result.status ≡ status_for_fault result.fault }
-    ensures ends { RoomCallEnds (C.earliest clock.now) (C.latest clock.now)
-        (shown_by B.Dev.tag B.Dev.plan B.Dev.stands B.Dev.turns B.Dev.probes B.Dev.faults)
+    ensures ends { RoomCallEnds (C.earliest clock.now) (C.latest clock.now) B.Dev.shows
         (room_mode_of (map string_bytes words.now)) (read_off (S.left source.old)
         (S.left source.new) (S.faults source.old) (S.faults source.new))
         (written (K.holds sink.old) (K.holds sink.new) (K.faults sink.old) (K.faults sink.new))

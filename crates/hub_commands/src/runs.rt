@@ -4,7 +4,7 @@ ghost use Rattle.hub_commands.specs.CommandsTaken.{run_line_of};
 ghost use Rattle.hub_commands.specs.Boards.{IsToldOf};
 ghost use Rattle.hub_commands.specs.Days.{DayIsUnderWay, new_course, plain};
 ghost use Rattle.hub_commands.specs.Calls.{CallEnds, IsProbedInAll};
-ghost use Rattle.hub_commands.specs.Finishes.{DayEnds, read_off, shown_by, written};
+ghost use Rattle.hub_commands.specs.Finishes.{DayEnds, read_off, written};
 ghost use Rattle.hub_commands.specs.Going.{IsToldOfDay};
 ghost use Rattle.hub_commands.specs.Played.{HasGoneOn, IsWorkedAs};
 ghost use Rattle.hub_commands.specs.Statuses.{status_for_fault};
@@ -45,9 +45,9 @@ fn run_opened<R: Threads + Wait + Sync, D: Device + Send, C: Clock + Sync>(
 ) -> Result<(Home<D>, WindowRecord), NoMemory>
     requires fresh { configuration_of hub ≡ opened hub.setting hub.rounds }
     requires rounds { hub.rounds ≡ window.now.probes }
-    ensures { IfOk result (λ done.
-        IsWorkedAs (IsRunWithin (C.earliest clock.now) (C.latest clock.now))
-        D.tag D.plan D.turns D.probes D.faults hub window.now done.0 done.1) }
+    ensures { IfOk result
+        (λ done. IsWorkedAs (IsRunWithin (C.earliest clock.now) (C.latest clock.now)) D.shows hub
+        window.now done.0 done.1) }
 {
     match run_window(rt, alloc, hub, window.probes, clock) {
         Ok(done) => Ok(done),
@@ -73,11 +73,9 @@ fn run_next<R: Threads + Wait + Sync, D: Device + Send, C: Clock + Sync>(
     requires goes { IsTrue (is_mode mode) }
     requires next { length day.windows.items < length script.now.windows.items }
     requires under_way { DayIsUnderWay (IsRunWithin (C.earliest clock.now) (C.latest clock.now))
-        D.tag D.plan D.stands D.turns D.probes D.faults
-        script.now mode day.home day.windows.items }
-    ensures played { IfOk result (λ next.
-        HasGoneOn (IsRunWithin (C.earliest clock.now) (C.latest clock.now))
-        D.tag D.plan D.stands D.turns D.probes D.faults
+        D.shows script.now mode day.home day.windows.items }
+    ensures played { IfOk result
+        (λ next. HasGoneOn (IsRunWithin (C.earliest clock.now) (C.latest clock.now)) D.shows
         (new_course script.now) mode day.windows.items next.home next.windows.items) }
     ensures starved { IfErr result (λ windows. windows.items ≡ day.windows.items) }
 {
@@ -113,8 +111,7 @@ where
     requires stands { O.stands onlooker.old }
     requires new { IsToldOf (O.told onlooker.old) [] }
     ensures status { result.status ≡ status_for_fault result.fault }
-    ensures ends { DayEnds (IsRunWithin (C.earliest clock.now) (C.latest clock.now))
-        (shown_by B.Dev.tag B.Dev.plan B.Dev.stands B.Dev.turns B.Dev.probes B.Dev.faults)
+    ensures ends { DayEnds (IsRunWithin (C.earliest clock.now) (C.latest clock.now)) B.Dev.shows
         plain script.now options
         (written (K.holds sink.old) (K.holds sink.new) (K.faults sink.old) (K.faults sink.new))
         result.day result.fault }
@@ -177,13 +174,12 @@ pub fn run_command<R: Threads + Wait + Sync, S: Source, K: Sink, B: Bench, C: Cl
 where
     B::Dev: Send,
     ensures status { result.status ≡ status_for_fault result.fault }
-    ensures ends { CallEnds (IsRunWithin (C.earliest clock.now) (C.latest clock.now))
-        (shown_by B.Dev.tag B.Dev.plan B.Dev.stands B.Dev.turns B.Dev.probes B.Dev.faults)
+    ensures ends { CallEnds (IsRunWithin (C.earliest clock.now) (C.latest clock.now)) B.Dev.shows
         (run_line_of (map string_bytes words.now)) (read_off (S.left source.old) (S.left source.new)
         (S.faults source.old) (S.faults source.new))
         (written (K.holds sink.old) (K.holds sink.new) (K.faults sink.old) (K.faults sink.new))
         result.day result.fault }
-    ensures probed { result.fault ≡ None → IsProbedInAll B.Dev.probes (read_off (S.left source.old)
+    ensures probed { result.fault ≡ None → IsProbedInAll B.Dev.shows (read_off (S.left source.old)
         (S.left source.new) (S.faults source.old) (S.faults source.new)) result.day }
 {
     let options = match read_run_words(alloc, words) {

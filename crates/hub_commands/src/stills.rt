@@ -1,9 +1,9 @@
 //! The call for the commands that wait for nobody.
 ghost use Rattle.std.specs.Prelude.{◌≡◌, IsTrue, map, string_bytes};
-ghost use Rattle.hub_commands.specs.Calls.{AsksFor, CallEnds};
+ghost use Rattle.hub_commands.specs.Calls.{CallEnds, DayCallEnds};
 ghost use Rattle.hub_commands.specs.CommandsTaken.{still_line_of};
 ghost use Rattle.hub_commands.specs.Days.{plain};
-ghost use Rattle.hub_commands.specs.Finishes.{read_off, shown_by, written};
+ghost use Rattle.hub_commands.specs.Finishes.{read_off, written};
 ghost use Rattle.hub_commands.specs.Statuses.{status_for_fault};
 ghost use Rattle.hub_commands.specs.Ways.{IsReplayOf};
 ghost use Rattle.hub_core.specs.Openings.{is_mode};
@@ -30,10 +30,8 @@ fn replay_input<S: Source, K: Sink, B: Bench>(
 ) -> Finish<B::Dev>
     requires goes { IsTrue (is_mode options.mode) }
     ensures status { result.status ≡ status_for_fault result.fault }
-    ensures ends { (line : _) → AsksFor plain line options → CallEnds IsReplayOf
-        (shown_by B.Dev.tag B.Dev.plan B.Dev.stands B.Dev.turns B.Dev.probes B.Dev.faults) line
-        (read_off (S.left source.old) (S.left source.new) (S.faults source.old)
-        (S.faults source.new))
+    ensures ends { DayCallEnds IsReplayOf B.Dev.shows plain options (read_off (S.left source.old)
+        (S.left source.new) (S.faults source.old) (S.faults source.new))
         (written (K.holds sink.old) (K.holds sink.new) (K.faults sink.old) (K.faults sink.new))
         result.day result.fault }
 {
@@ -65,10 +63,9 @@ pub fn still_command<S: Source, K: Sink, B: Bench>(
     bench: &mut B,
 ) -> Finish<B::Dev>
     ensures status { result.status ≡ status_for_fault result.fault }
-    ensures ends { CallEnds IsReplayOf
-        (shown_by B.Dev.tag B.Dev.plan B.Dev.stands B.Dev.turns B.Dev.probes B.Dev.faults)
-        (still_line_of (map string_bytes words.now)) (read_off (S.left source.old)
-        (S.left source.new) (S.faults source.old) (S.faults source.new))
+    ensures ends { CallEnds IsReplayOf B.Dev.shows (still_line_of (map string_bytes words.now))
+        (read_off (S.left source.old) (S.left source.new) (S.faults source.old)
+        (S.faults source.new))
         (written (K.holds sink.old) (K.holds sink.new) (K.faults sink.old) (K.faults sink.new))
         result.day result.fault }
 {

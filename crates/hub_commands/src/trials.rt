@@ -2,7 +2,7 @@
 ghost use Rattle.std.specs.Prelude.{◌≡◌, ◌≤◌, [], None, Some, false, length};
 ghost use Rattle.day_report.specs.Days.{day_text};
 ghost use Rattle.home_types.specs.Limits.{most_windows};
-ghost use Rattle.hub_commands.specs.Finishes.{shown_by, written};
+ghost use Rattle.hub_commands.specs.Finishes.{written};
 ghost use Rattle.hub_commands.specs.Statuses.{status_for_fault};
 ghost use Rattle.hub_commands.specs.Trials.{HasJudged, TrialEnds, agreeing, finding, trial_mode};
 ghost use Rattle.legal_days.specs.LegalDays.{RecordsAreLegal};
@@ -91,8 +91,7 @@ fn play_script<K: Sink, B: Bench>(
     requires made { plain_script script.now ≡ trial_script number }
     requires empty { text.held ≡ [] }
     ensures status { result.status ≡ status_for_fault result.fault }
-    ensures ends { TrialEnds
-        (shown_by B.Dev.tag B.Dev.plan B.Dev.stands B.Dev.turns B.Dev.probes B.Dev.faults) number
+    ensures ends { TrialEnds B.Dev.shows number
         (written (K.holds sink.old) (K.holds sink.new) (K.faults sink.old) (K.faults sink.new))
         result.day result.fault }
 {
@@ -116,8 +115,7 @@ pub fn play_trial<K: Sink, B: Bench>(
     requires least { 1 ≤ number }
     requires most { number ≤ most_windows }
     ensures status { result.status ≡ status_for_fault result.fault }
-    ensures ends { TrialEnds
-        (shown_by B.Dev.tag B.Dev.plan B.Dev.stands B.Dev.turns B.Dev.probes B.Dev.faults) number
+    ensures ends { TrialEnds B.Dev.shows number
         (written (K.holds sink.old) (K.holds sink.new) (K.faults sink.old) (K.faults sink.new))
         result.day result.fault }
 {

@@ -4,7 +4,7 @@ ghost use Rattle.hub_commands.specs.Boards.{IsPosting, board_line};
 ghost use Rattle.hub_commands.specs.Calls.{CallEnds, IsProbedInAll};
 ghost use Rattle.hub_commands.specs.CommandsTaken.{watch_line_of};
 ghost use Rattle.hub_commands.specs.Days.{boarded, plain};
-ghost use Rattle.hub_commands.specs.Finishes.{DayEnds, IsUnwritten, read_off, shown_by, written};
+ghost use Rattle.hub_commands.specs.Finishes.{DayEnds, IsUnwritten, read_off, written};
 ghost use Rattle.hub_commands.specs.Going.{HandsBack};
 ghost use Rattle.hub_commands.specs.LastLines.{LineEnds};
 ghost use Rattle.hub_commands.specs.Statuses.{status_for_fault};
@@ -51,8 +51,7 @@ where
     requires stands { IsPosting posting.old.board.now posting.old.publisher posting.old.last }
     requires empty { posting.old.publisher.list ≡ [] }
     ensures status { result.status ≡ status_for_fault result.fault }
-    ensures ends { DayEnds (IsRunWithin (C.earliest clock.now) (C.latest clock.now))
-        (shown_by B.Dev.tag B.Dev.plan B.Dev.stands B.Dev.turns B.Dev.probes B.Dev.faults)
+    ensures ends { DayEnds (IsRunWithin (C.earliest clock.now) (C.latest clock.now)) B.Dev.shows
         plain script.now options
         (written (K.holds sink.old) (K.holds sink.new) (K.faults sink.old) (K.faults sink.new))
         result.day result.fault }
@@ -87,8 +86,7 @@ where
     requires empty { posting.old.publisher.list ≡ [] }
     requires watcher { watcher.old.board ≡ board.now }
     ensures status { result.0.status ≡ status_for_fault result.0.fault }
-    ensures ends { DayEnds (IsRunWithin (C.earliest clock.now) (C.latest clock.now))
-        (shown_by B.Dev.tag B.Dev.plan B.Dev.stands B.Dev.turns B.Dev.probes B.Dev.faults)
+    ensures ends { DayEnds (IsRunWithin (C.earliest clock.now) (C.latest clock.now)) B.Dev.shows
         plain script.now options
         (written (K.holds sink.old) (K.holds sink.new) (K.faults sink.old) (K.faults sink.new))
         result.0.day result.0.fault }
@@ -146,8 +144,7 @@ where
     requires sound { IsSound (plain_script script.now) }
     requires goes { IsTrue (is_mode options.mode) }
     ensures status { result.0.status ≡ status_for_fault result.0.fault }
-    ensures ends { DayEnds (IsRunWithin (C.earliest clock.now) (C.latest clock.now))
-        (shown_by B.Dev.tag B.Dev.plan B.Dev.stands B.Dev.turns B.Dev.probes B.Dev.faults)
+    ensures ends { DayEnds (IsRunWithin (C.earliest clock.now) (C.latest clock.now)) B.Dev.shows
         boarded script.now options
         (written (K.holds sink.old) (K.holds sink.new) (K.faults sink.old) (K.faults sink.new))
         result.0.day result.0.fault }
@@ -212,15 +209,13 @@ pub fn watch_command<R: Threads + Wait + Sync, S: Source, K: Sink, B: Bench, C: 
 where
     B::Dev: Send,
     ensures status { result.0.status ≡ status_for_fault result.0.fault }
-    ensures ends { CallEnds (IsRunWithin (C.earliest clock.now) (C.latest clock.now))
-        (shown_by B.Dev.tag B.Dev.plan B.Dev.stands B.Dev.turns B.Dev.probes B.Dev.faults)
+    ensures ends { CallEnds (IsRunWithin (C.earliest clock.now) (C.latest clock.now)) B.Dev.shows
         (watch_line_of (map string_bytes words.now)) (read_off (S.left source.old)
         (S.left source.new) (S.faults source.old) (S.faults source.new))
         (written (K.holds sink.old) (K.holds sink.new) (K.faults sink.old) (K.faults sink.new))
         result.0.day result.0.fault }
-    ensures probed { result.0.fault ≡ None
-        → IsProbedInAll B.Dev.probes (read_off (S.left source.old) (S.left source.new)
-        (S.faults source.old) (S.faults source.new)) result.0.day }
+    ensures probed { result.0.fault ≡ None → IsProbedInAll B.Dev.shows (read_off (S.left source.old)
+        (S.left source.new) (S.faults source.old) (S.faults source.new)) result.0.day }
     ensures published { IfSome result.1 (λ publisher. IsPublished publisher.list result.0.day) }
     ensures opened { result.0.fault ≡ None → IsSome result.1 }
     ensures unopened { result.1 ≡ None → IsUnwritten
@@ -261,15 +256,13 @@ pub fn watch_command_telling<
 where
     B::Dev: Send,
     ensures status { result.0.status ≡ status_for_fault result.0.fault }
-    ensures ends { CallEnds (IsRunWithin (C.earliest clock.now) (C.latest clock.now))
-        (shown_by B.Dev.tag B.Dev.plan B.Dev.stands B.Dev.turns B.Dev.probes B.Dev.faults)
+    ensures ends { CallEnds (IsRunWithin (C.earliest clock.now) (C.latest clock.now)) B.Dev.shows
         (watch_line_of (map string_bytes words.now)) (read_off (S.left source.old)
         (S.left source.new) (S.faults source.old) (S.faults source.new))
         (written (K.holds sink.old) (K.holds sink.new) (K.faults sink.old) (K.faults sink.new))
         result.0.day result.0.fault }
-    ensures probed { result.0.fault ≡ None
-        → IsProbedInAll B.Dev.probes (read_off (S.left source.old) (S.left source.new)
-        (S.faults source.old) (S.faults source.new)) result.0.day }
+    ensures probed { result.0.fault ≡ None → IsProbedInAll B.Dev.shows (read_off (S.left source.old)
+        (S.left source.new) (S.faults source.old) (S.faults source.new)) result.0.day }
     ensures published { IfSome result.1 (λ publisher. IsPublished publisher.list result.0.day) }
     ensures opened { result.0.fault ≡ None → IsSome result.1 }
     ensures unopened { result.1 ≡ None → IsUnwritten

@@ -1,4 +1,5 @@
 -- A home that is told where a device was found is kept.
+use Rattle.device_states.specs.Devices.{Shown}
 use Rattle.home_types.specs.HomeStates.{stand_at}
 use Rattle.home_types.specs.Kinds.{has_value, kind_at}
 use Rattle.home_types.specs.declared.worlds.Stand.{Stand}
@@ -29,16 +30,16 @@ each_set {D} P devices d device there own each e x at =
       | inr q ↦ each e x (sym q.1 ∙ at)
     ]
 
-pub restand_keeps : {D : Type 0} (tag stands turns probes faults : D → ℕ) (s : HomeState D) (d : ℕ) (device : D) (value : ℕ) → HomeIsKept tag stands turns probes faults s
-    → d < length s.devices → IsTrue (has_value (kind_at s.kinds d) value) → stands device ≡ value → tag device ≡ d → CountsAreLow s.opened (turns device) (probes device) (faults device)
-    → HomeIsKept tag stands turns probes faults (restood s d device value)
-restand_keeps tag stands turns probes faults s d device value kept there has at own low =
+pub restand_keeps : {D : Type 0} (shows : D → Shown) (s : HomeState D) (d : ℕ) (device : D) (value : ℕ) → HomeIsKept shows s
+    → d < length s.devices → IsTrue (has_value (kind_at s.kinds d) value) → (shows device).stands ≡ value → (shows device).tag ≡ d → CountsAreLow s.opened (shows device).turns (shows device).probes (shows device).faults
+    → HomeIsKept shows (restood s d device value)
+restand_keeps shows s d device value kept there has at own low =
     let now : Stand = record { value = value; up = true } in
     let size = length-set s.world d now in
     let many = length-set s.devices d device in
     let inside : d < length s.world = omega (arith, there, kept.size) in
     record {
-      numbered = each_set (λ e x. tag x ≡ e) s.devices d device there own kept.numbered;
+      numbered = each_set (λ e x. (shows x).tag ≡ e) s.devices d device there own kept.numbered;
       kinds = omega (arith, kept.kinds, size);
       size = omega (arith, kept.size, size, many);
       few = omega (arith, kept.few, size);
@@ -49,7 +50,7 @@ restand_keeps tag stands turns probes faults s d device value kept there has at 
       ]);
       stand = λ e x is up. (elim (get_set s.devices d e device there) [
         | inl p ↦ (elim (stand_set s.world d e now inside) [
-          | inl q ↦ ap (λ y. stands y) (sym (same_Some device x (sym p.1 ∙ is))) ∙ at ∙ ap (λ (y : Stand). y.value) (sym q.1)
+          | inl q ↦ ap (λ y. (shows y).stands) (sym (same_Some device x (sym p.1 ∙ is))) ∙ at ∙ ap (λ (y : Stand). y.value) (sym q.1)
           | inr q ↦ absurd (q.0 p.0)
         ])
         | inr p ↦ (elim (stand_set s.world d e now inside) [
@@ -57,5 +58,5 @@ restand_keeps tag stands turns probes faults s d device value kept there has at 
           | inr q ↦ kept.stand e x (sym p.1 ∙ is) (ap (λ (y : Stand). y.up) (sym q.1) ∙ up) ∙ ap (λ (y : Stand). y.value) (sym q.1)
         ])
       ]);
-      counts = each_set (λ e x. CountsAreLow s.opened (turns x) (probes x) (faults x)) s.devices d device there low kept.counts;
+      counts = each_set (λ e x. CountsAreLow s.opened (shows x).turns (shows x).probes (shows x).faults) s.devices d device there low kept.counts;
     }

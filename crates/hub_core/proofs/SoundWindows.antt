@@ -1,6 +1,7 @@
 -- A window of a sound script may be opened in every mode.
 use Rattle.command_rules.specs.Rosters.{Run, commands_of, followed_by, run_in_roster, runs_of}
 use Rattle.command_rules.specs.declared.rosters.Roster.{Roster}
+use Rattle.device_states.specs.Devices.{Shown}
 use Rattle.home_types.specs.Kinds.{kind_at}
 use Rattle.home_types.specs.declared.commands.Command.{Command}
 use Rattle.home_types.specs.declared.commands.Job.TheVariants.{Check, Load, Set, Store}
@@ -102,21 +103,21 @@ names_as kind Load is = is
 names_as kind Store is = is
 
 -- a window of the script, its roster, and the home on which it is opened in this mode
-pub record IsOpening {D : Type 0} (tag : D → ℕ) (stands turns probes faults : D → ℕ) (script : Script) (mode : Mode) (k : ℕ) (window : WindowText) (home : HomeState D) (roster : Roster) : Type 0 where
+pub record IsOpening {D : Type 0} (shows : D → Shown) (script : Script) (mode : Mode) (k : ℕ) (window : WindowText) (home : HomeState D) (roster : Roster) : Type 0 where
   pub sound : IsSound (plain_script script)
   pub goes : IsTrue (is_mode mode)
   pub at : slice_get script.windows.items k ≡ Some window
   pub runs : runs_of roster ≡ script_runs script k
-  pub kept : HomeIsKept tag stands turns probes faults home
+  pub kept : HomeIsKept shows home
   pub kinds : home.kinds ≡ kinds_of script
   pub opened : home.opened ≤ 288
 
 runs_are : (script : Script) (k : ℕ) (window : WindowText) (roster : Roster) → slice_get script.windows.items k ≡ Some window → runs_of roster ≡ script_runs script k → runs_in script window ≡ runs_of roster
 runs_are script k window roster at runs = runs-there script k window at ∙ sym runs
 
-pub may_open : {D : Type 0} (tag : D → ℕ) (stands turns probes faults : D → ℕ) (script : Script) (mode : Mode) (k : ℕ) (window : WindowText) (home : HomeState D) (roster : Roster)
-    → IsOpening tag stands turns probes faults script mode k window home roster → MayOpen (setting_for home roster mode) window.probes home.opened
-may_open tag stands turns probes faults script mode k window home roster is =
+pub may_open : {D : Type 0} (shows : D → Shown) (script : Script) (mode : Mode) (k : ℕ) (window : WindowText) (home : HomeState D) (roster : Roster)
+    → IsOpening shows script mode k window home roster → MayOpen (setting_for home roster mode) window.probes home.opened
+may_open shows script mode k window home roster is =
     subst (λ runs. MayOpen (record { runs = runs; mode = mode; kinds = home.kinds; first = home.world }) window.probes home.opened) (runs_are script k window roster is.at is.runs)
     (record {
       few_devices = is.kept.few;

@@ -32,3 +32,4 @@ pub mod Placings
 pub mod FinalItems
 pub mod Revocations
 pub mod ResumedHomes
+pub mod WindowWays

@@ -22,5 +22,4 @@ pub mod FallenOrders
 pub mod Finds
 pub mod Hands
 pub mod ProbeSteps
-pub mod RunBits
 pub mod BlockedMarks

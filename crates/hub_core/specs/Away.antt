@@ -8,7 +8,7 @@ use Rattle.device_gate.specs.declared.grips.Done.{Done}
 use Rattle.device_gate.specs.declared.grips.Ready.{Ready}
 use Rattle.device_gate.specs.declared.slips.Task.{Task}
 use Rattle.device_gate.specs.declared.slips.Told.{Told}
-use Rattle.device_states.specs.Devices.{HasRoom}
+use Rattle.device_states.specs.Devices.{MayBeProbed, Shown}
 use Rattle.home_types.specs.Numbers.{ActorId, DeviceId}
 use Rattle.home_types.specs.declared.numbers.DeviceNo.{DeviceNo}
 use Rattle.hub_core.specs.OpenHubs.{progress_at}
@@ -42,21 +42,20 @@ with_hand hands maker hand = if nat_lt 0 maker then slice_set hands (maker - 1) 
 
 -- the device, which stands at this value where it is counted up, may go out to the maker: it is
 -- home, and is one of the home
-pub record MaySend {D : Type 0} (stands turns probes faults : D → ℕ) (a : Away D) (d : DeviceId)
-    (maker : ActorId) (held : ℕ) (task : Task) : Type 0 where
+pub record MaySend {D : Type 0} (shows : D → Shown) (a : Away D) (d : DeviceId) (maker : ActorId)
+    (held : ℕ) (task : Task) : Type 0 where
   pub home : IsHome a.gate.places d
   pub room : (device : D) → slice_get a.gate.places d ≡ Some (Home device)
-      → HasRoom (turns device) (probes device + 1) (faults device)
+      → MayBeProbed (shows device)
   pub stood : (device : D) → slice_get a.gate.places d ≡ Some (Home device)
-      → IsTrue (is_counted_up task) → stands device ≡ held
+      → IsTrue (is_counted_up task) → (shows device).stands ≡ held
   pub tickets : a.gate.tickets < 9223372036854775808
   pub known : d < length a.known.items
   pub maker_is : maker ≤ length a.hands.items
 
 -- the device is out with the grip, and this is known of it
-pub record IsSent {D : Type 0} (turns probes faults : D → ℕ) (a : Away D) (d : DeviceNo)
-    (maker : ActorId) (known : DeviceProgress) (task : Task) (grip : Gripped D Ready)
-    (b : Away D) : Type 0 where
+pub record IsSent {D : Type 0} (shows : D → Shown) (a : Away D) (d : DeviceNo) (maker : ActorId)
+    (known : DeviceProgress) (task : Task) (grip : Gripped D Ready) (b : Away D) : Type 0 where
   pub at : slice_get a.gate.places d.0 ≡ Some (Home grip.device)
   pub places : b.gate.places ≡ slice_set a.gate.places d.0 (Out grip.slip task)
   pub tickets : b.gate.tickets ≡ a.gate.tickets + 1
@@ -67,9 +66,9 @@ pub record IsSent {D : Type 0} (turns probes faults : D → ℕ) (a : Away D) (d
   pub maker_is : grip.slip.maker ≡ maker
   pub ticket : grip.slip.ticket ≡ a.gate.tickets + 1
   pub stood : grip.slip.stood ≡ known.held
-  pub had_turns : grip.slip.turns ≡ turns grip.device
-  pub had_probes : grip.slip.probes ≡ probes grip.device
-  pub had_faults : grip.slip.faults ≡ faults grip.device
+  pub had_turns : grip.slip.turns ≡ (shows grip.device).turns
+  pub had_probes : grip.slip.probes ≡ (shows grip.device).probes
+  pub had_faults : grip.slip.faults ≡ (shows grip.device).faults
 
 -- the grip is the one with which its device is out, which is one of the home, and whose events may
 -- still be counted

@@ -9,7 +9,7 @@ use Rattle.history_book.specs.declared.entries.Kept.{Kept}
 use Rattle.home_types.specs.Numbers.{DeviceId, LinePlace, Moment, RunId}
 use Rattle.home_types.specs.declared.numbers.RunNo.{RunNo}
 use Rattle.hub_core.specs.Steps.{Absent, Choice, HandsOut, Moves, Over, Waits, choice_of}
-use Rattle.lock_leasing.specs.Configurations.{Configuration, read_of}
+use Rattle.lock_leasing.specs.Configurations.{Configuration, point_of, read_of}
 use Rattle.lock_leasing.specs.Leases.{NeverOverdue}
 use Rattle.lock_leasing.specs.Waits.{grip_wait}
 use Rattle.std.specs.List.{list_all}
@@ -46,7 +46,7 @@ pub record IsBlocked (s : Configuration) (r : RunId) : Type 0 where
 abbrev pub NeverRevokes : Configuration → RunId → DeviceId → Type 0
 NeverRevokes s r d =
     is_weak s.setting.mode ≡ false → asks_on s.setting (read_of s) r d ≡ true
-    → NeverOverdue s.setting (read_of s) s.grips r d
+    → NeverOverdue (point_of s) r d
 
 -- the entry ends no wait of a run whose next command is on the device: it is of another device; or
 -- the doom of a run that does not use it, or under a model that is not strict its placing or its

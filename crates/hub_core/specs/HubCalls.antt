@@ -6,6 +6,7 @@ use Rattle.device_gate.specs.declared.grips.Done.{Done}
 use Rattle.device_gate.specs.declared.grips.Ready.{Ready}
 use Rattle.device_gate.specs.declared.slips.Slip.{Slip}
 use Rattle.device_gate.specs.declared.strangers.Stranger.{Stranger}
+use Rattle.device_states.specs.Devices.{Shown}
 use Rattle.history_book.specs.Gaps.{gap_set}
 use Rattle.history_book.specs.Histories.{entries_made, entries_of, reading}
 use Rattle.history_book.specs.Settings.{Setting, is_weak, scheduler_of}
@@ -21,7 +22,7 @@ use Rattle.home_types.specs.declared.modes.Scheduler.TheVariants.{Fcfs, Timeline
 use Rattle.legal_days.specs.AccountedCalls.{told_calls, told_falls}
 use Rattle.legal_days.specs.CleanReads.{ReadsAreClean}
 use Rattle.hub_core.specs.Homes.{HomeState}
-use Rattle.hub_core.specs.HubSteps.{Carried, Chose, Give, GiveProbe, Gave, HubStep, Probed, Refused, Returned, Take, TakeProbe, task_of}
+use Rattle.hub_core.specs.HubSteps.{Carried, Chose, Gave, Give, GiveProbe, HubStep, Probed, Refused, Returned, Take, TakeProbe, task_of}
 use Rattle.legal_days.specs.JustifiedAborts.{IsJustified}
 use Rattle.legal_days.specs.LegalWindows.{IsLegalWindow, history_of, weakly_allowed}
 use Rattle.hub_core.specs.MustChecks.{has_must_check}
@@ -30,12 +31,14 @@ use Rattle.hub_core.specs.Steps.{Absent as IsAbsent, Choice, HandsOut, Moves, Ov
 use Rattle.hub_core.specs.declared.turns.Turn.TheVariants.{Absent, Go, Moved, Over, Wait}
 use Rattle.hub_core.specs.declared.turns.Turn.{Turn}
 use Rattle.hub_core.specs.declared.waits.Why.{Why}
-use Rattle.lock_leasing.specs.Configurations.{Commands, Configuration, Grip, Probes, Purpose, Undoes, read_of}
+use Rattle.lock_leasing.specs.Configurations.{Configuration, Grip, point_of, read_of}
 use Rattle.lock_leasing.specs.Order.{OrderStands}
 use Rattle.lock_leasing.specs.Places.{GripsFit, IsEarliestSet, IsFittingSet, PlacesAreScheduled}
 use Rattle.lock_leasing.specs.Words.{standing_value}
 use Rattle.command_rules.specs.Rosters.{command_at, is_run, run_no}
-use Rattle.std.specs.Prelude.{Bool, Err, IsTrue, List, None, Ok, Option, Result, Some, [], false, is_some, length, max, not, slice_get, slice_index_or, slice_set, true, ℕ, ⊤, ◌+◌, ◌-◌, ◌<◌, ◌∷◌, ◌≡◌, ◌≢◌, ◌≤◌, ◌||◌}
+use Rattle.std.specs.Prelude.{Bool, Err, IsTrue, List, None, Ok, Option, Result, Some, [], false, is_some, length, max, not, slice_get, slice_index_or, slice_set, true, ℕ, ⊤, ◌+◌, ◌-◌, ◌<◌, ◌||◌, ◌∷◌, ◌≡◌, ◌≢◌, ◌≤◌}
+use Rattle.lock_leasing.specs.declared.purposes.Purpose.TheVariants.{Commands, Probes, Undoes}
+use Rattle.lock_leasing.specs.declared.purposes.Purpose.{Purpose}
 
 -- the hub is in the same window, with the same counts of its devices at the opening
 pub record SameWindow {D : Type 0} (s t : OpenHub D) : Type 0 where
@@ -145,19 +148,19 @@ IsProbeGiven s grip (Err refused) t =
 
 -- the window was opened on this home: with an empty history, each device home, no ticket given, and
 -- the counts of each device as it has them
-pub record IsOpened {D : Type 0} (turns probes faults : D → ℕ) (w : Setting) (rounds : ℕ)
-    (home : HomeState D) (hub : OpenHub D) : Type 0 where
+pub record IsOpened {D : Type 0} (shows : D → Shown) (w : Setting) (rounds : ℕ) (home : HomeState D)
+    (hub : OpenHub D) : Type 0 where
   pub configuration : configuration_of hub ≡ opened w rounds
   pub places : hub.places ≡ all_home home.devices
   pub rounds_are : hub.rounds ≡ rounds
   pub windows : hub.opened ≡ home.opened
   pub tickets : hub.tickets ≡ 0
   pub turns_then : (d : DeviceId) (device : D) → slice_get home.devices d ≡ Some device
-      → (progress_at hub.devices d).at_opening.turns ≡ turns device
+      → (progress_at hub.devices d).at_opening.turns ≡ (shows device).turns
   pub probes_then : (d : DeviceId) (device : D) → slice_get home.devices d ≡ Some device
-      → (progress_at hub.devices d).at_opening.probes ≡ probes device
+      → (progress_at hub.devices d).at_opening.probes ≡ (shows device).probes
   pub faults_then : (d : DeviceId) (device : D) → slice_get home.devices d ≡ Some device
-      → (progress_at hub.devices d).at_opening.faults ≡ faults device
+      → (progress_at hub.devices d).at_opening.faults ≡ (shows device).faults
 
 -- no device fails in the window: each is up as it opens, and its faults do not rise
 pub record NoneFails (w : Setting) (faults : List ℕ) : Type 0 where
@@ -173,29 +176,38 @@ pub record RunsHaveEnded (w : Setting) (closed : WindowRecord) : Type 0 where
       → (r : RunId) → is_run w.runs r ≡ true → has_must_check w.runs r ≡ false
       → ((reading w (history_of closed)).run r).ended ≡ Some Committed
 
--- the window was closed with this record, and leaves this home: its devices are those of the hub,
--- and their counts rose as the record says, the probes by those that were taken
-pub record WindowIsClosed {D : Type 0} (turns probes faults : D → ℕ) (s : OpenHub D)
-    (home : HomeState D) (closed : WindowRecord) : Type 0 where
-  pub legal : IsLegalWindow s.setting closed
-  pub history : closed.history.items ≡ s.history
+-- how many probes of the device were taken
+abbrev pub probes_taken : {D : Type 0} → OpenHub D → DeviceId → ℕ
+probes_taken s d = s.rounds - (progress_at s.devices d).probes_left
+
+-- the home after the hub's window, with this record and so many probes taken: its state is the
+-- record's last one, and the counts of its devices rose since the opening as the record says, the
+-- probes by those that were taken
+pub record HomeAfter {D : Type 0} (shows : D → Shown) (s : OpenHub D) (closed : WindowRecord)
+    (taken : DeviceId → ℕ) (home : HomeState D) : Type 0 where
   pub kinds : home.kinds ≡ s.setting.kinds
   pub last : home.world ≡ closed.last.devices.items
   pub opened : home.opened ≡ s.opened + 1
-  pub places : s.places ≡ all_home home.devices
-  pub ends : RunsHaveEnded s.setting closed
   -- where no device fails, each is up
   pub up : NoneFails s.setting closed.faults.items → (d : DeviceId) → d < length home.world
       → (stand_at home.world d).up ≡ true
   pub turns_rose : (d : DeviceId) (device : D) → slice_get home.devices d ≡ Some device
-      → turns device
+      → (shows device).turns
       ≡ (progress_at s.devices d).at_opening.turns + slice_index_or closed.turns.items d 0
   pub probes_rose : (d : DeviceId) (device : D) → slice_get home.devices d ≡ Some device
-      → probes device ≡ (progress_at s.devices d).at_opening.probes
-      + (s.rounds - (progress_at s.devices d).probes_left)
+      → (shows device).probes ≡ (progress_at s.devices d).at_opening.probes + taken d
   pub faults_rose : (d : DeviceId) (device : D) → slice_get home.devices d ≡ Some device
-      → faults device
+      → (shows device).faults
       ≡ (progress_at s.devices d).at_opening.faults + slice_index_or closed.faults.items d 0
+
+-- the window was closed with this record, and leaves this home, with the devices of the hub
+pub record WindowIsClosed {D : Type 0} (shows : D → Shown) (s : OpenHub D) (home : HomeState D)
+    (closed : WindowRecord) : Type 0 where
+  pub legal : IsLegalWindow s.setting closed
+  pub history : closed.history.items ≡ s.history
+  pub ends : RunsHaveEnded s.setting closed
+  pub places : s.places ≡ all_home home.devices
+  pub after : HomeAfter shows s closed (probes_taken s) home
 
 -- What a hub tells
 
@@ -217,16 +229,11 @@ grip_takes w (Some grip) = by_purpose grip.purpose
 -- What is kept of every hub
 
 -- a device that is home, and counted up, stands at its standing value
-abbrev pub DevicesStand : {D : Type 0} → (D → ℕ) → OpenHub D → Type 0
-DevicesStand {D} stands s =
+abbrev pub DevicesStand : {D : Type 0} → (D → Shown) → OpenHub D → Type 0
+DevicesStand {D} shows s =
     (d : DeviceId) (device : D) → slice_get s.places d ≡ Some (Home device)
-    → (read_of (configuration_of s)).up d ≡ true
-    → stands device
-    ≡ standing_value s.setting (read_of (configuration_of s)) (configuration_of s).grips d
-
--- how many probes of the device were taken
-abbrev pub probes_taken : {D : Type 0} → OpenHub D → DeviceId → ℕ
-probes_taken s d = s.rounds - (progress_at s.devices d).probes_left
+    → (read_of (configuration_of s)).up d ≡ true → (shows device).stands
+    ≡ standing_value (point_of (configuration_of s)) d
 
 -- how often it has failed up to now at least: its faults at the opening, and the failures that the
 -- history tells of
@@ -236,33 +243,32 @@ faults_told s d = (progress_at s.devices d).at_opening.faults + told_falls (entr
 -- the calls of a device that is home rose since the opening by those that the history tells of, its
 -- probes by those that were taken, and its faults by its failures at least, and at most by these
 -- and its probes
-pub record CallsAreTold {D : Type 0} (turns probes faults : D → ℕ) (s : OpenHub D) : Type 0 where
+pub record CallsAreTold {D : Type 0} (shows : D → Shown) (s : OpenHub D) : Type 0 where
   pub turns_rose : (d : DeviceId) (device : D) → slice_get s.places d ≡ Some (Home device)
-      → turns device ≡ (progress_at s.devices d).at_opening.turns + told_calls s.setting.runs
-      (entries_of s.history) d
+      → (shows device).turns ≡ (progress_at s.devices d).at_opening.turns
+      + told_calls s.setting.runs (entries_of s.history) d
   pub probes_rose : (d : DeviceId) (device : D) → slice_get s.places d ≡ Some (Home device)
-      → probes device ≡ (progress_at s.devices d).at_opening.probes + probes_taken s d
+      → (shows device).probes ≡ (progress_at s.devices d).at_opening.probes + probes_taken s d
   pub falls_told : (d : DeviceId) (device : D) → slice_get s.places d ≡ Some (Home device)
-      → faults_told s d ≤ faults device
+      → faults_told s d ≤ (shows device).faults
   pub few_faults : (d : DeviceId) (device : D) → slice_get s.places d ≡ Some (Home device)
-      → faults device ≤ faults_told s d + probes_taken s d
+      → (shows device).faults ≤ faults_told s d + probes_taken s d
 
 -- in every hub each device has a place, and one that is home stands in that of its number, the
 -- history is well formed, the grips that are out fit it, aborts are justified, devices stand where
 -- they should, and their calls are told; outside the weak model the four clauses of the order hold,
 -- reads are clean, and places are the scheduler's; and under it answers, dooms and ends are such as
 -- the weak model allows
-pub record HubStands {D : Type 0} (tag stands turns probes faults : D → ℕ)
-    (s : OpenHub D) : Type 0 where
+pub record HubStands {D : Type 0} (shows : D → Shown) (s : OpenHub D) : Type 0 where
   pub size : length s.places ≡ length s.setting.first
   pub numbered : (d : DeviceId) (device : D) → slice_get s.places d ≡ Some (Home device)
-      → tag device ≡ d
+      → (shows device).tag ≡ d
   pub few_runs : length s.setting.runs ≤ most_runs
   pub few_devices : length s.setting.first ≤ most_devices
   pub well_formed : IsWellFormed s.setting (entries_of s.history)
-  pub grips : GripsFit s.setting (read_of (configuration_of s)) (configuration_of s).grips
+  pub grips : GripsFit (point_of (configuration_of s))
   pub order : is_weak s.setting.mode ≡ false
-      → OrderStands s.setting (read_of (configuration_of s)) (configuration_of s).grips
+      → OrderStands (point_of (configuration_of s))
   pub clean : is_weak s.setting.mode ≡ false → ReadsAreClean s.setting (entries_of s.history)
   pub places : is_weak s.setting.mode ≡ false → PlacesAreScheduled s.setting (entries_of s.history)
   pub weakly : is_weak s.setting.mode ≡ true
@@ -270,8 +276,8 @@ pub record HubStands {D : Type 0} (tag stands turns probes faults : D → ℕ)
   pub justified : IsJustified s.setting (entries_of s.history)
   -- no moment that the history tells is later than the last one
   pub moment : (read_of (configuration_of s)).moment ≤ s.moment
-  pub stand : DevicesStand stands s
-  pub told : CallsAreTold turns probes faults s
+  pub stand : DevicesStand shows s
+  pub told : CallsAreTold shows s
 
 -- where no device is out and some run has not ended, some run that has not ended does not wait, at
 -- any moment

@@ -21,7 +21,9 @@ use Rattle.legal_days.specs.CleanReads.{ReadsAreClean}
 use Rattle.legal_days.specs.Isolation.{IsStrict}
 use Rattle.legal_days.specs.JustifiedAborts.{IsJustified}
 use Rattle.hub_core.specs.Openings.{MayOpen}
-use Rattle.lock_leasing.specs.Configurations.{Commands, Configuration, Grip, Grips, Probes, Purpose, Undoes, has_grip, is_command, read_of}
+use Rattle.lock_leasing.specs.Configurations.{Configuration, Grip, Grips, Point, has_grip, is_command, point_of, read_of}
+use Rattle.lock_leasing.specs.declared.purposes.Purpose.TheVariants.{Commands, Probes, Undoes}
+use Rattle.lock_leasing.specs.declared.purposes.Purpose.{Purpose}
 use Rattle.lock_leasing.specs.Order.{is_in_line}
 use Rattle.lock_leasing.specs.Places.{PlacesAreScheduled}
 use Rattle.lock_leasing.specs.Waits.{strict_wait}
@@ -45,10 +47,11 @@ placed_in_order n (Failed d k ∷ is) = placed_in_order n is
 placed_in_order n (Back d k ∷ is) = placed_in_order n is
 
 -- a live run that has touched a device, or has out a grip, waits for no run by its model
-abbrev pub ActsInTurn : Setting → Reading → Grips → Type 0
-ActsInTurn w n g =
-    (r : RunId) (d : DeviceId) → IsTrue (is_live n r && (has_touched n g r d || has_grip g r d))
-    → strict_wait w n r ≡ None
+abbrev pub ActsInTurn : Point → Type 0
+ActsInTurn p =
+    (r : RunId) (d : DeviceId)
+    → IsTrue (is_live p.reading r && (has_touched p.reading p.grips r d || has_grip p.grips r d))
+    → strict_wait p.setting p.reading r ≡ None
 
 -- a run that follows another is placed after the end of that one, and stands behind it where both
 -- stand in the line
@@ -119,7 +122,7 @@ pub record HistoryIsKept (s : Configuration) : Type 0 where
   pub in_order : s.setting.mode.scheduler ≡ Fcfs
       → IsTrue (placed_in_order (read_of s) (read_of s).line)
   pub followed : FollowersStand s.setting (read_of s)
-  pub in_turn : ActsInTurn s.setting (read_of s) s.grips
+  pub in_turn : ActsInTurn (point_of s)
   pub first : NoneAnsweredDoomed (read_of s) s.grips
 
 -- what is kept of a configuration in which each device stands, or stood as it went out, at this
@@ -135,4 +138,4 @@ pub record ConfigurationIsKept (s : Configuration) (rounds opened : ℕ)
       → IsTrue (has_value (kind_at s.setting.kinds d) (stand_at s.setting.first d).value)
   pub undos : UndosFit s.setting s.grips
   pub history : HistoryIsKept s
-  pub order : OrderIsKept s.setting (read_of s) s.grips held
+  pub order : OrderIsKept (point_of s) held

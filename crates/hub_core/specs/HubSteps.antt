@@ -12,7 +12,9 @@ use Rattle.device_gate.specs.declared.slips.Task.{Task}
 use Rattle.device_gate.specs.declared.slips.Task.TheVariants.{Drive, Probe, Sense}
 use Rattle.device_gate.specs.declared.slips.Told.{Told}
 use Rattle.device_gate.specs.declared.strangers.Stranger.{Stranger}
-use Rattle.lock_leasing.specs.Configurations.{Commands, Configuration, Grip, Probes, Purpose, Undoes, read_of}
+use Rattle.lock_leasing.specs.Configurations.{Configuration, Grip, read_of}
+use Rattle.lock_leasing.specs.declared.purposes.Purpose.TheVariants.{Commands, Probes, Undoes}
+use Rattle.lock_leasing.specs.declared.purposes.Purpose.{Purpose}
 use Rattle.std.specs.Prelude.{Bool, IsTrue, List, None, Option, Some, [], false, if◌then◌else◌, nat_lt, option_map, true, unwrap_or, ℕ, ⊤, ◌&&◌, ◌==◌, ◌≡◌}
 
 -- what a grip carries: its slip, and what it does with its device

@@ -4,6 +4,7 @@ use Rattle.device_gate.specs.declared.gates.Place.{Place}
 use Rattle.device_gate.specs.Calls.{is_counted_up, probed}
 use Rattle.device_gate.specs.declared.slips.Slip.{Slip}
 use Rattle.device_gate.specs.declared.slips.Task.{Task}
+use Rattle.device_states.specs.Devices.{Shown}
 use Rattle.history_book.specs.Histories.{entries_of}
 use Rattle.history_book.specs.Settings.{Setting}
 use Rattle.home_types.specs.Kinds.{has_value, kind_at}
@@ -16,7 +17,6 @@ use Rattle.hub_core.specs.Bounds.{most_entries, most_items}
 use Rattle.hub_core.specs.HubCalls.{faults_told, probes_taken}
 use Rattle.hub_core.specs.HubSteps.{task_of}
 use Rattle.hub_core.specs.OpenHubs.{OpenHub, configuration_of, events_in, held_in, progress_at}
-use Rattle.window_order.specs.KeptOrders.{purpose_of}
 use Rattle.hub_core.specs.KeptByModel.{IsKeptByModel}
 use Rattle.hub_core.specs.KeptOrders.{OrderIsBeside}
 use Rattle.history_book.specs.ReadHistories.{HistoryState}
@@ -40,13 +40,13 @@ abbrev pub all_probes_taken : {D : Type 0} → OpenHub D → ℕ
 all_probes_taken s = sum_by (λ known. s.rounds - known.probes_left) s.devices
 
 -- a device that is home stands at its value if it is counted up, and its calls are told
-pub record FitsAtHome {D : Type 0} (stands turns probes faults : D → ℕ) (s : OpenHub D)
-    (d : DeviceId) (device : D) : Type 0 where
-  pub stand : (read_of (configuration_of s)).up d ≡ true → stands device ≡ held_in s d
-  pub turns_are : turns device ≡ turns_now s d
-  pub probes_are : probes device ≡ probes_now s d
-  pub falls_told : faults_told s d ≤ faults device
-  pub few_faults : faults device ≤ faults_told s d + probes_taken s d
+pub record FitsAtHome {D : Type 0} (shows : D → Shown) (s : OpenHub D) (d : DeviceId)
+    (device : D) : Type 0 where
+  pub stand : (read_of (configuration_of s)).up d ≡ true → (shows device).stands ≡ held_in s d
+  pub turns_are : (shows device).turns ≡ turns_now s d
+  pub probes_are : (shows device).probes ≡ probes_now s d
+  pub falls_told : faults_told s d ≤ (shows device).faults
+  pub few_faults : (shows device).faults ≤ faults_told s d + probes_taken s d
 
 -- a slip says the same of a device that is out, whose task is that of its purpose
 pub record FitsOut {D : Type 0} (s : OpenHub D) (d : DeviceId) (slip : Slip)
@@ -58,7 +58,7 @@ pub record FitsOut {D : Type 0} (s : OpenHub D) (d : DeviceId) (slip : Slip)
   pub falls_told : faults_told s d ≤ slip.faults
   pub few_faults : slip.faults + probed task ≤ faults_told s d + probes_taken s d
   pub does : task
-      ≡ task_of (configuration_of s) slip.maker (purpose_of (progress_at s.devices d).purpose)
+      ≡ task_of (configuration_of s) slip.maker (progress_at s.devices d).purpose
 
 -- a device that is out for a run
 abbrev pub is_away : {D : Type 0} → Place D → Bool
@@ -67,12 +67,12 @@ is_away (Out slip task) = nat_lt 0 slip.maker
 
 -- what is kept of what a hub shows, where this is kept of its configuration
 pub record HubIsKeptBy (Kept : Configuration → ℕ → ℕ → (DeviceId → ℕ) → Type 0) {D : Type 0}
-    (stands turns probes faults : D → ℕ) (s : OpenHub D) : Type 0 where
+    (shows : D → Shown) (s : OpenHub D) : Type 0 where
   pub configuration : Kept (configuration_of s) s.rounds s.opened (held_in s)
   pub devices_size : length s.devices ≡ length s.setting.first
   pub places_size : length s.places ≡ length s.setting.first
   pub home : (d : DeviceId) (device : D) → slice_get s.places d ≡ Some (Home device)
-      → FitsAtHome stands turns probes faults s d device
+      → FitsAtHome shows s d device
   pub out : (d : DeviceId) (slip : Slip) (task : Task) → slice_get s.places d ≡ Some (Out slip task)
       → FitsOut s d slip task
   pub low : (d : DeviceId) → CountsAreLow s.opened (progress_at s.devices d).at_opening.turns
@@ -86,8 +86,8 @@ pub record HubIsKeptBy (Kept : Configuration → ℕ → ℕ → (DeviceId → �
   pub few_tickets : s.tickets ≤ length s.history + count_by is_away s.places + all_probes_taken s
 
 -- .. in each model
-abbrev pub HubIsKept : {D : Type 0} → (D → ℕ) → (D → ℕ) → (D → ℕ) → (D → ℕ) → OpenHub D → Type 0
-HubIsKept stands turns probes faults s = HubIsKeptBy IsKeptByModel stands turns probes faults s
+abbrev pub HubIsKept : {D : Type 0} → (D → Shown) → OpenHub D → Type 0
+HubIsKept shows s = HubIsKeptBy IsKeptByModel shows s
 
 -- an empty list with so much room
 abbrev pub IsEmptyFor : {T : Type 0} → Listed T → ℕ → Type 0
@@ -125,8 +125,8 @@ pub record HandsAre (w : Setting) (g : Grips) (hands : List (Option DeviceNo)) :
       → option_map (λ d. d.0) hand ≡ grip_wait w g (suc i)
 
 -- what the type of a hub keeps of its parts
-pub record IsWhole {D : Type 0} (stands turns probes faults : D → ℕ) (h : Inside D) : Type 0 where
-  pub shown : HubIsKept stands turns probes faults (open_of h)
+pub record IsWhole {D : Type 0} (shows : D → Shown) (h : Inside D) : Type 0 where
+  pub shown : HubIsKept shows (open_of h)
   pub room : HasRoomLeft h.rounds h.history h.closing
   pub order : OrderIsBeside h.rounds h.history
       (configuration_of (open_of h)).grips h.order.line h.order.table

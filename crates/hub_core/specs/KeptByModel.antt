@@ -9,7 +9,7 @@ use Rattle.hub_core.specs.HubKept.{ConfigurationIsKept, probes_of}
 use Rattle.hub_core.specs.Openings.{MayOpen}
 use Rattle.hub_core.specs.WeakKept.{WeakIsKept}
 use Rattle.legal_days.specs.JustifiedAborts.{IsJustified}
-use Rattle.lock_leasing.specs.Configurations.{Configuration, read_of}
+use Rattle.lock_leasing.specs.Configurations.{Configuration, point_of, read_of}
 use Rattle.lock_leasing.specs.Places.{GripsFit}
 use Rattle.std.specs.Prelude.{IsTrue, false, length, true, ℕ, ◌<◌, ◌≡◌, ◌≤◌}
 
@@ -28,7 +28,7 @@ pub record IsKeptByModel (s : Configuration) (rounds opened : ℕ)
   pub values : (d : DeviceId) → d < length s.setting.first
       → IsTrue (has_value (kind_at s.setting.kinds d) (stand_at s.setting.first d).value)
   pub history : HistoryStands s
-  pub grips : GripsFit s.setting (read_of s) s.grips
+  pub grips : GripsFit (point_of s)
   -- where the model has an order
   pub ordered : is_weak s.setting.mode ≡ false → ConfigurationIsKept s rounds opened held
   -- .. and under the weak one

@@ -3,7 +3,7 @@ use Rattle.command_rules.specs.Rosters.{command_at, commands_of, is_run}
 use Rattle.failure_serialization.specs.Events.{event_place}
 use Rattle.history_book.specs.ReadHistories.{HistoryState, read_in}
 use Rattle.history_book.specs.Readings.{Reading, next_of}
-use Rattle.history_book.specs.Settings.{Setting, is_weak}
+use Rattle.history_book.specs.Settings.{is_weak}
 use Rattle.home_types.specs.Numbers.{CommandIndex, DeviceId, RunId}
 use Rattle.home_types.specs.declared.items.Item.TheVariants.{Back, Failed, Ran}
 use Rattle.home_types.specs.declared.items.Item.{Item}
@@ -12,7 +12,7 @@ use Rattle.home_types.specs.declared.numbers.RunNo.{RunNo}
 use Rattle.hub_core.specs.Bounds.{most_items}
 use Rattle.lineage_table.specs.Accesses.{has_access}
 use Rattle.lineage_table.specs.Lineages.{LineageState, accesses_at, counted_up, lineage_at, with_lineage}
-use Rattle.lock_leasing.specs.Configurations.{Grips}
+use Rattle.lock_leasing.specs.Configurations.{Grips, Point, point}
 use Rattle.serial_line.specs.KeptRuns.{AreKeptOf}
 use Rattle.serial_line.specs.Labels.{is_sealed}
 use Rattle.serial_line.specs.Marks.{Marked, stands, with_item}
@@ -102,24 +102,25 @@ pub record LineageIsBare (n : Reading) (d : DeviceId) (s : LineageState) : Type 
   pub up : s.up ≡ n.up d
 
 -- the table is that of the reading and the grips, under the weak model a bare one
-pub record TableFits (w : Setting) (n : Reading) (g : Grips)
+pub record TableFits (p : Point)
     (table : List LineageState) : Type 0 where
-  pub devices : length table ≡ length w.first
-  pub ordered : is_weak w.mode ≡ false → TableIsKept w n g table
-  pub weakly : is_weak w.mode ≡ true → (d : DeviceId) → d < length w.first
-      → LineageIsBare n d (lineage_at table d)
+  pub devices : length table ≡ length p.setting.first
+  pub ordered : is_weak p.setting.mode ≡ false → TableIsKept p table
+  pub weakly : is_weak p.setting.mode ≡ true → (d : DeviceId) → d < length p.setting.first
+      → LineageIsBare p.reading d (lineage_at table d)
 
 -- .. and the line is theirs too, each item with what it has touched, sealed up to the first live
 -- run; it keeps the devices of the runs, and whom they follow; and it has room for all its items,
 -- where there are so many rounds of probes
-pub record IsOrderOf (rounds : ℕ) (w : Setting) (n : Reading) (g : Grips) (line : Marked)
+pub record IsOrderOf (rounds : ℕ) (p : Point) (line : Marked)
     (table : List LineageState) : Type 0 where
-  pub table_is : TableFits w n g table
-  pub line_is : MarksAreKept n g line.marks
+  pub table_is : TableFits p table
+  pub line_is : MarksAreKept p.reading p.grips line.marks
   pub sealed : IsSealed line
-  pub runs : AreKeptOf w.runs line.runs
-  pub room : most_items (length w.runs) (length w.first) rounds ≤ line.spare + length line.marks
+  pub runs : AreKeptOf p.setting.runs line.runs
+  pub room : most_items (length p.setting.runs) (length p.setting.first) rounds
+      ≤ line.spare + length line.marks
 
 -- the line and the table of a history
 abbrev pub OrderIsBeside : ℕ → HistoryState → Grips → Marked → List LineageState → Type 0
-OrderIsBeside rounds h g line table = IsOrderOf rounds h.setting (read_in h) g line table
+OrderIsBeside rounds h g line table = IsOrderOf rounds (point h.setting (read_in h) g) line table

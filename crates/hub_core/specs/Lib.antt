@@ -22,3 +22,4 @@ pub mod Restandings
 pub mod Steps
 pub mod WeakKept
 pub mod WeakSteps
+pub mod WindowWays

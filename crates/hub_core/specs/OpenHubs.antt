@@ -9,11 +9,10 @@ use Rattle.hub_core.specs.HubSteps.{Carried, HubState}
 use Rattle.hub_core.specs.declared.known.DeviceCallCounts.{DeviceCallCounts}
 use Rattle.hub_core.specs.declared.known.DeviceProgress.{DeviceProgress}
 use Rattle.hub_core.specs.declared.known.Events.{Events}
-use Rattle.window_order.specs.declared.purposes.Purpose.TheVariants.{Command}
-use Rattle.window_order.specs.declared.purposes.Purpose.{Purpose as KeptPurpose}
+use Rattle.lock_leasing.specs.declared.purposes.Purpose.TheVariants.{Commands}
+use Rattle.lock_leasing.specs.declared.purposes.Purpose.{Purpose}
 use Rattle.lock_leasing.specs.Configurations.{Configuration, Grip}
 use Rattle.std.specs.Prelude.{List, None, Option, Some, slice_get, slice_index_or, ℕ}
-use Rattle.window_order.specs.KeptOrders.{purpose_of}
 
 -- what a hub shows: what is fixed, the rounds of probes and how many windows were opened before,
 -- the history and the last moment, what is known of each device, and its place
@@ -41,7 +40,7 @@ abbrev pub no_device : DeviceProgress
 no_device = record {
   held = 0;
   probes_left = 0;
-  purpose = Command 0;
+  purpose = Commands 0;
   at_opening = no_counts;
   events = no_events;
 }
@@ -51,11 +50,11 @@ abbrev pub progress_at : List DeviceProgress → DeviceId → DeviceProgress
 progress_at devices d = slice_index_or devices d no_device
 
 -- the grip with which the device in this place is out, for this purpose
-abbrev pub grip_in : {D : Type 0} → Option (Place D) → KeptPurpose → Option Grip
+abbrev pub grip_in : {D : Type 0} → Option (Place D) → Purpose → Option Grip
 grip_in None purpose = None
 grip_in (Some (Home device)) purpose = None
 grip_in (Some (Out slip task)) purpose =
-    Some (record { maker = slip.maker; purpose = purpose_of purpose })
+    Some (record { maker = slip.maker; purpose = purpose })
 
 -- what that grip carries
 abbrev pub carried_in : {D : Type 0} → Option (Place D) → Option Carried

@@ -1,5 +1,6 @@
 -- The memory of a window, and what the hub knows as it opens.
 use Rattle.command_rules.specs.Rosters.{Run}
+use Rattle.device_states.specs.Devices.{Shown}
 use Rattle.home_types.specs.HomeStates.{stand_at}
 use Rattle.home_types.specs.Listed.{Listed}
 use Rattle.home_types.specs.Numbers.{DeviceId}
@@ -8,7 +9,7 @@ use Rattle.hub_core.specs.Homes.{HomeState}
 use Rattle.hub_core.specs.OpenHubs.{no_events}
 use Rattle.hub_core.specs.declared.open_windows.ClosingLists.{ClosingLists}
 use Rattle.hub_core.specs.declared.known.DeviceProgress.{DeviceProgress}
-use Rattle.window_order.specs.declared.purposes.Purpose.TheVariants.{Command}
+use Rattle.lock_leasing.specs.declared.purposes.Purpose.TheVariants.{Commands}
 use Rattle.lineage_table.specs.Lineages.{LineageState, TableIsOpened}
 use Rattle.serial_line.specs.KeptRuns.{AreKeptOf}
 use Rattle.serial_line.specs.Marks.{Marked}
@@ -48,15 +49,15 @@ known_first rounds value turns probes faults =
     record {
       held = value;
       probes_left = rounds;
-      purpose = Command 0;
+      purpose = Commands 0;
       at_opening = record { turns = turns; probes = probes; faults = faults };
       events = no_events;
     }
 
 -- the first n devices of the home are known as they are
-pub record AreKnown {D : Type 0} (turns probes faults : D → ℕ) (home : HomeState D) (rounds n : ℕ)
+pub record AreKnown {D : Type 0} (shows : D → Shown) (home : HomeState D) (rounds n : ℕ)
     (known : List DeviceProgress) : Type 0 where
   pub size : length known ≡ n
   pub each : (d : DeviceId) (device : D) → d < n → slice_get home.devices d ≡ Some device
-      → slice_get known d ≡ Some (known_first rounds (stand_at home.world d).value (turns device)
-      (probes device) (faults device))
+      → slice_get known d ≡ Some (known_first rounds (stand_at home.world d).value
+      (shows device).turns (shows device).probes (shows device).faults)

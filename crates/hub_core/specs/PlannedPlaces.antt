@@ -8,7 +8,8 @@ use Rattle.home_types.specs.Limits.{most_devices}
 use Rattle.home_types.specs.Numbers.{DeviceId, LinePlace, Moment, RunId}
 use Rattle.home_types.specs.declared.modes.Scheduler.TheVariants.{Timeline}
 use Rattle.home_types.specs.declared.commands.Command.{Command}
-use Rattle.hub_core.specs.BlockedMarks.{AreBlocked, BlockedState}
+use Rattle.hub_core.specs.BlockedMarks.{AreBlocked}
+use Rattle.blocked_runs.specs.Marks.{BlockedState}
 use Rattle.hub_core.specs.Bounds.{most_items}
 use Rattle.hub_core.specs.PlansInTurn.{planned_use}
 use Rattle.hub_core.specs.declared.decisions.Chosen.TheVariants.{Aborts, Absent, AnswersDown, Arrives, Commits, Drops, FailsAtEnd, HandsOut, Joins, Over, Revokes, Skips, Waits}

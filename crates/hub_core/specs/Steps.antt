@@ -19,7 +19,9 @@ use Rattle.hub_core.specs.declared.refusals.NotQuiet.{NotQuiet}
 use Rattle.hub_core.specs.declared.refusals.NotQuiet.TheVariants.{StillLive, StillOut}
 use Rattle.hub_core.specs.declared.waits.Why.{Why}
 use Rattle.hub_core.specs.declared.waits.Why.TheVariants.{Behind, Busy, Denied, Dirty, Follow, Strict}
-use Rattle.lock_leasing.specs.Configurations.{Commands, Configuration, Grip, Grips, Probes, Purpose, Undoes, is_out, no_grips, read_of}
+use Rattle.lock_leasing.specs.Configurations.{Configuration, Grip, Point, is_out, no_grips, point_of, read_of}
+use Rattle.lock_leasing.specs.declared.purposes.Purpose.TheVariants.{Commands, Probes, Undoes}
+use Rattle.lock_leasing.specs.declared.purposes.Purpose.{Purpose}
 use Rattle.lock_leasing.specs.Places.{At, DeniedBy, Placing, scheduled_place}
 use Rattle.lock_leasing.specs.Waits.{behind_wait, busy_wait, dirty_wait, down_at_end, follow_wait, grip_wait, lost_by, strict_wait, undo_wait}
 use Rattle.lock_leasing.specs.Words.{lease_deadline, next_undo_of, overdue_for, standing_value, value_without}
@@ -50,24 +52,25 @@ only_if b x = if b then Some x else None
 -- it applies
 
 -- a lease on the device is overdue: its run is doomed
-abbrev pub overdue_case : Setting → Reading → Grips → RunId → Moment → Command → Option Choice
-overdue_case w n g r m c =
+abbrev pub overdue_case : Point → RunId → Moment → Command → Option Choice
+overdue_case p r m c =
     option_map (λ x. Moves
-    (Doomed (run_no x) (Revoked (run_no r) c.device (lease_deadline w n x c.device.0) m) ∷ []))
-    (overdue_for w n g r c.device.0 m)
+    (Doomed (run_no x)
+    (Revoked (run_no r) c.device (lease_deadline p.setting p.reading x c.device.0) m) ∷ []))
+    (overdue_for p r c.device.0 m)
 
-abbrev pub behind_case : Setting → Reading → Grips → RunId → Command → Option Choice
-behind_case w n g r c =
-    option_map (λ x. Waits (Behind c.device (run_no x))) (behind_wait w n g r c.device.0)
+abbrev pub behind_case : Point → RunId → Command → Option Choice
+behind_case p r c =
+    option_map (λ x. Waits (Behind c.device (run_no x))) (behind_wait p r c.device.0)
 
-abbrev pub dirty_case : Setting → Reading → Grips → RunId → Command → Option Choice
-dirty_case w n g r c = option_map (λ x. Waits (Dirty c.device (run_no x))) (dirty_wait w n g r c)
+abbrev pub dirty_case : Point → RunId → Command → Option Choice
+dirty_case p r c = option_map (λ x. Waits (Dirty c.device (run_no x))) (dirty_wait p r c)
 
-abbrev pub strict_case : Setting → Reading → RunId → Option Choice
-strict_case w n r = option_map (λ x. Waits (Strict (run_no x))) (strict_wait w n r)
+abbrev pub strict_case : Point → RunId → Option Choice
+strict_case p r = option_map (λ x. Waits (Strict (run_no x))) (strict_wait p.setting p.reading r)
 
-abbrev pub busy_case : Setting → Reading → Grips → RunId → Command → Option Choice
-busy_case w n g r c = only_if (busy_wait w n g r c.device.0) (Waits (Busy c.device))
+abbrev pub busy_case : Point → RunId → Command → Option Choice
+busy_case p r c = only_if (busy_wait p r c.device.0) (Waits (Busy c.device))
 
 -- the answer Down without a device call
 abbrev pub down_entries : RunId → CommandIndex → Command → List Entry
@@ -78,27 +81,28 @@ down_entries r k c =
 abbrev pub answers_down : Setting → Reading → RunId → DeviceId → Bool
 answers_down w n r d = (not (is_weak w.mode) && sees_down n r d) || not (n.up d)
 
-abbrev pub down_case : Setting → Reading → RunId → CommandIndex → Command → Option Choice
-down_case w n r k c = only_if (answers_down w n r c.device.0) (Moves (down_entries r k c))
+abbrev pub down_case : Point → RunId → CommandIndex → Command → Option Choice
+down_case p r k c =
+    only_if (answers_down p.setting p.reading r c.device.0) (Moves (down_entries r k c))
 
-abbrev pub command_cases : Bool → Setting → Reading → Grips → RunId → Moment → CommandIndex
+abbrev pub command_cases : Bool → Point → RunId → Moment → CommandIndex
     → Command → List (Option Choice)
-command_cases true w n g r m k c = busy_case w n g r c ∷ down_case w n r k c ∷ []
-command_cases false w n g r m k c =
-    overdue_case w n g r m c ∷ behind_case w n g r c ∷ dirty_case w n g r c ∷ strict_case w n r
-    ∷ busy_case w n g r c ∷ down_case w n r k c ∷ []
+command_cases true p r m k c = busy_case p r c ∷ down_case p r k c ∷ []
+command_cases false p r m k c =
+    overdue_case p r m c ∷ behind_case p r c ∷ dirty_case p r c ∷ strict_case p r
+    ∷ busy_case p r c ∷ down_case p r k c ∷ []
 
 -- the answer Skipped, to a command whose guard does not hold
 abbrev pub skip_entries : RunId → CommandIndex → List Entry
 skip_entries r k = Did (run_no r) k Skipped ∷ []
 
 -- a command whose guard does not hold waits for no run but one that the model waits for
-abbrev pub decide_command : Setting → Reading → Grips → RunId → Moment → CommandIndex
+abbrev pub decide_command : Point → RunId → Moment → CommandIndex
     → Command → Choice
-decide_command w n g r m k c =
-    if holds c.when (n.run r).register then first_case
-    (command_cases (is_weak w.mode) w n g r m k c) (HandsOut c.device.0 (Commands k))
-    else first_case (strict_case w n r ∷ []) (Moves (skip_entries r k))
+decide_command p r m k c =
+    if holds c.when (p.reading.run r).register then first_case
+    (command_cases (is_weak p.setting.mode) p r m k c) (HandsOut c.device.0 (Commands k))
+    else first_case (strict_case p r ∷ []) (Moves (skip_entries r k))
 
 -- The other cases of a run's step
 
@@ -107,52 +111,53 @@ aborts r cause = Over (Aborted cause) (Ended (run_no r) (Aborted cause) ∷ [])
 
 -- the device is counted down, and the write is dropped; else the value is driven at which it would
 -- stand without the run
-abbrev pub undo_choice : Setting → Reading → Grips → RunId → DeviceId → Choice
-undo_choice w n g r d =
-    if n.up d then HandsOut d (Undoes (value_without w n g r d))
+abbrev pub undo_choice : Point → RunId → DeviceId → Choice
+undo_choice p r d =
+    if p.reading.up d then HandsOut d (Undoes (value_without p r d))
     else Moves (Undid (run_no r) (device_no d) false ∷ [])
 
-abbrev pub undo_cases : Setting → Reading → Grips → RunId → List (Option Choice)
-undo_cases w n g r =
-    option_map (λ d. Waits (Busy (device_no d))) (undo_wait w n g r)
-    ∷ option_map (undo_choice w n g r) (next_undo_of w n g r) ∷ []
+abbrev pub undo_cases : Point → RunId → List (Option Choice)
+undo_cases p r =
+    option_map (λ d. Waits (Busy (device_no d))) (undo_wait p r)
+    ∷ option_map (undo_choice p r) (next_undo_of p r) ∷ []
 
 -- a doomed run undoes its effective writes, by ascending device, and then ends; under the weak
 -- model it ends at once
-abbrev pub decide_doomed : Setting → Reading → Grips → RunId → Cause → Choice
-decide_doomed w n g r cause =
-    first_case (if is_weak w.mode then [] else undo_cases w n g r) (aborts r cause)
+abbrev pub decide_doomed : Point → RunId → Cause → Choice
+decide_doomed p r cause =
+    first_case (if is_weak p.setting.mode then [] else undo_cases p r) (aborts r cause)
 
 -- a run with all its commands answered commits, where no device that it needs up is down
-abbrev pub decide_answered : Setting → Reading → Grips → RunId → Choice
-decide_answered w n g r =
+abbrev pub decide_answered : Point → RunId → Choice
+decide_answered p r =
     unwrap_or (option_map (λ d. Moves (Doomed (run_no r) (DownAtEnd (device_no d)) ∷ []))
-    (down_at_end w n g r)) (Over Committed (Ended (run_no r) Committed ∷ []))
+    (down_at_end p r)) (Over Committed (Ended (run_no r) Committed ∷ []))
 
 abbrev pub place_choice : RunId → Moment → Placing → Choice
 place_choice r m (At s) = Moves (Placed (run_no r) (length s.front) m ∷ [])
 place_choice r m (DeniedBy d x) = Waits (Denied (device_no d) (run_no x))
 
 -- a run that has arrived waits for the run that it follows, and is then placed
-abbrev pub decide_arrived : Setting → Reading → Grips → RunId → Moment → Choice
-decide_arrived w n g r m =
-    first_case (option_map (λ f. Waits (Follow f)) (follow_wait w n r) ∷ [])
-    (place_choice r m (scheduled_place w n g r m))
+abbrev pub decide_arrived : Point → RunId → Moment → Choice
+decide_arrived p r m =
+    first_case (option_map (λ f. Waits (Follow f)) (follow_wait p.setting p.reading r) ∷ [])
+    (place_choice r m (scheduled_place p r m))
 
 -- the cases of a run's step, in order, before all its commands are answered
-abbrev pub run_cases : Setting → Reading → Grips → RunId → Moment → List (Option Choice)
-run_cases w n g r m =
-    only_if (not (is_run w.runs r)) Absent
-    ∷ option_map (λ e. Over e []) (n.run r).ended
-    ∷ option_map (λ d. Waits (Busy (device_no d))) (grip_wait w g r)
-    ∷ only_if (is_none (n.run r).arrived) (Moves (Arrived (run_no r) m ∷ []))
-    ∷ only_if (is_none (n.run r).placed) (decide_arrived w n g r m)
-    ∷ option_map (decide_doomed w n g r) (n.run r).doomed
-    ∷ option_map (decide_command w n g r m (next_of n r)) (next_command w n r) ∷ []
+abbrev pub run_cases : Point → RunId → Moment → List (Option Choice)
+run_cases p r m =
+    only_if (not (is_run p.setting.runs r)) Absent
+    ∷ option_map (λ e. Over e []) (p.reading.run r).ended
+    ∷ option_map (λ d. Waits (Busy (device_no d))) (grip_wait p.setting p.grips r)
+    ∷ only_if (is_none (p.reading.run r).arrived) (Moves (Arrived (run_no r) m ∷ []))
+    ∷ only_if (is_none (p.reading.run r).placed) (decide_arrived p r m)
+    ∷ option_map (decide_doomed p r) (p.reading.run r).doomed
+    ∷ option_map (decide_command p r m (next_of p.reading r))
+    (next_command p.setting p.reading r) ∷ []
 
 -- the step of the run at this moment
-abbrev pub decide : Setting → Reading → Grips → RunId → Moment → Choice
-decide w n g r m = first_case (run_cases w n g r m) (decide_answered w n g r)
+abbrev pub decide : Point → RunId → Moment → Choice
+decide p r m = first_case (run_cases p r m) (decide_answered p r)
 
 -- The entries of a step back
 
@@ -227,7 +232,7 @@ at_moment s m = record s { moment = max s.moment m }
 
 -- what the run's step does at this moment, which is not before the last one
 abbrev pub choice_of : Configuration → RunId → Moment → Choice
-choice_of s r m = decide s.setting (read_of s) s.grips r (max s.moment m)
+choice_of s r m = decide (point_of s) r (max s.moment m)
 
 abbrev pub after_choice : Configuration → RunId → Choice → Configuration
 after_choice s r Absent = s
@@ -248,7 +253,7 @@ after_give s d grip told =
 -- a probe restores the standing value, where the device is counted down
 abbrev pub restored : Configuration → DeviceId → Option ℕ
 restored s d =
-    if (read_of s).up d then None else Some (standing_value s.setting (read_of s) s.grips d)
+    if (read_of s).up d then None else Some (standing_value (point_of s) d)
 
 -- the device is home, and a probe of it is left
 abbrev pub may_probe : Configuration → DeviceId → Bool

@@ -11,7 +11,9 @@ use Rattle.home_types.specs.Numbers.{DeviceId, RunId}
 use Rattle.hub_core.specs.HubKept.{EachOut, probes_of}
 use Rattle.hub_core.specs.Openings.{MayOpen}
 use Rattle.legal_days.specs.LegalWindows.{none_fails, weakly_allowed}
-use Rattle.lock_leasing.specs.Configurations.{Commands, Configuration, Grip, Probes, Purpose, Undoes, read_of}
+use Rattle.lock_leasing.specs.Configurations.{Configuration, Grip, point_of, read_of}
+use Rattle.lock_leasing.specs.declared.purposes.Purpose.TheVariants.{Commands, Probes, Undoes}
+use Rattle.lock_leasing.specs.declared.purposes.Purpose.{Purpose}
 use Rattle.lock_leasing.specs.Places.{GripsFit}
 use Rattle.std.specs.Prelude.{Bool, IsTrue, None, Some, false, length, not, true, ℕ, ◌&&◌, ◌<◌, ◌==◌, ◌≡◌, ◌≤◌}
 
@@ -46,7 +48,7 @@ pub record WeakIsKept (s : Configuration) (rounds opened : ℕ) (held : DeviceId
   pub well_formed : IsWellFormed s.setting (entries_of s.history)
   pub moment : (read_of s).moment ≤ s.moment
   pub allowed : IsTrue (each_entry s.setting (weakly_allowed s.setting) (entries_of s.history))
-  pub grips : GripsFit s.setting (read_of s) s.grips
+  pub grips : GripsFit (point_of s)
   pub out : EachOut s.grips (goes_weakly (read_of s))
   pub passes : NoneHasFailed s.setting (read_of s)
   -- also where the device is counted down, or has just died: there the hub leaves what it holds as

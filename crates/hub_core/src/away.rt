@@ -10,13 +10,13 @@ use crate::known::{DeviceCallCounts, DeviceProgress, Events, NO_EVENTS};
 use device_gate::{Done, Gate, Grip, Ready, Task, Told};
 use device_states::Device;
 use home_types::{DeviceNo, List, Value};
-use window_order::Purpose;
+use lock_leasing::Purpose;
 
 /// What is known of no device.
 const NOT_KNOWN: DeviceProgress = DeviceProgress {
     held: 0,
     probes_left: 0,
-    purpose: Purpose::Command(0),
+    purpose: Purpose::Commands(0),
     at_opening: DeviceCallCounts {
         turns: 0,
         probes: 0,
@@ -65,10 +65,8 @@ impl<D: Device> Away<D> {
         known: DeviceProgress,
         task: Task,
     ) -> Grip<D, Ready>
-        requires may { MaySend D.stands D.turns D.probes D.faults self.old d.0 maker
-            known.held task }
-        ensures sent { IsSent D.turns D.probes D.faults self.old d maker known task
-            result self.new }
+        requires may { MaySend D.shows self.old d.0 maker known.held task }
+        ensures sent { IsSent D.shows self.old d maker known task result self.new }
     {
         self.known.set(d.0 as u64, known);
         if maker > 0 {
@@ -87,9 +85,7 @@ impl<D: Device> Away<D> {
             (progress_at self.old.known.items grip.slip.device.0).held }
         ensures events { result.events ≡ events_after grip.task grip.stage.told
             (progress_at self.old.known.items grip.slip.device.0).events }
-        ensures called { WasCalled grip.stage.told grip.task grip.slip (D.tag grip.device)
-            (D.stands grip.device) (D.turns grip.device) (D.probes grip.device)
-            (D.faults grip.device) }
+        ensures called { WasCalled grip.stage.told grip.task grip.slip (D.shows grip.device) }
     {
         let slip = grip.slip();
         let task = grip.task();

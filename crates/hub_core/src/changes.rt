@@ -4,7 +4,7 @@ ghost use Rattle.lock_leasing.specs.Configurations.{read_of};
 ghost use Rattle.hub_core.specs.Decisions.{told_choice};
 ghost use Rattle.hub_core.specs.HubCalls.{Answers, DeviceGoesOut, IsPacked, SameWindow};
 ghost use Rattle.hub_core.specs.OpenHubs.{configuration_of};
-ghost use Rattle.window_order.specs.KeptOrders.{is_first, left_by, noted_first, purpose_of};
+ghost use Rattle.window_order.specs.KeptOrders.{is_first, left_by, noted_first};
 ghost use Rattle.hub_core.specs.KeptOrders.{MayLeave, MayNoteAnswer};
 ghost use Rattle.hub_core.specs.PlannedPlaces.{HoldsPlan};
 ghost use Rattle.hub_core.specs.Steps.{Absent, HandsOut, Moves, Over, Waits, choice_of};
@@ -27,8 +27,9 @@ use device_gate::{Grip, Ready};
 use device_states::Device;
 use history_book::{Cause, End, Entry, Made, ReadHistory};
 use home_types::{Answer, DeviceNo, RunNo, Value};
+use lock_leasing::Purpose;
 use timeline_scheduler::Scratch;
-use window_order::{KeptOrder, Purpose, note_of};
+use window_order::{KeptOrder, note_of};
 
 /// No entries.
 pub(crate) const NONE_MADE: Made = Made {
@@ -256,7 +257,7 @@ impl<D: Device> OpenWindow<D> {
         purpose: Purpose,
     ) -> Grip<D, Ready>
         requires { choice_of (configuration_of self.old) r.0 moment
-            ≡ HandsOut d.0 (purpose_of purpose) }
+            ≡ HandsOut d.0 purpose }
         ensures out { DeviceGoesOut self.old r.0 moment result self.new }
         ensures window { SameWindow self.old self.new }
     {

@@ -1,5 +1,5 @@
 //! Closing a window that is quiet: the home, and the window's record.
-ghost use Rattle.std.specs.Prelude.{◌≡◌, ◌≤◌, ◌+◌, IfErr, IfOk, None, Some, [], false, length, map, true, ℕ};
+ghost use Rattle.std.specs.Prelude.{◌≡◌, ◌≤◌, ◌+◌, None, [], false, length, map, true, ℕ};
 ghost use Rattle.hub_core.specs.ClosedHomes.{HaveRisen, NoneFell, all_known_left, stand_left};
 ghost use Rattle.hub_core.specs.HubCalls.{WindowIsClosed};
 ghost use Rattle.hub_core.specs.HubsKept.{IsEmptyFor};
@@ -11,7 +11,6 @@ use crate::away::Away;
 use crate::homes::Home;
 use crate::known::DeviceProgress;
 use crate::open_windows::OpenWindow;
-use crate::refusals::NotQuiet;
 use device_states::Device;
 use history_book::WindowRecord;
 use home_types::{DeviceNo, Item, List, Stand, World};
@@ -26,27 +25,10 @@ struct Rises {
 }
 
 impl<D: Device> OpenWindow<D> {
-    /// Closes the window, and gives the home and the window's record.
-    ///
-    /// Refused where `quiet` tells why: the hub comes back as it is. Takes no memory.
-    pub(crate) fn close_window(self) -> Result<(Home<D>, WindowRecord), (OpenWindow<D>, NotQuiet)>
-        ensures closed { IfOk result
-            (λ closed. WindowIsClosed D.turns D.probes D.faults self closed.0 closed.1) }
-        ensures quiet { IfOk result (λ closed. not_quiet (configuration_of self) ≡ None) }
-        ensures same { IfErr result (λ refused. refused.0 ≡ self) }
-        ensures refused { IfErr result
-            (λ refused. not_quiet (configuration_of self) ≡ Some refused.1) }
-    {
-        if let Some(why) = self.quiet() {
-            return Err((self, why));
-        }
-        Ok(self.closed())
-    }
-
-    /// The home and the record of a window in which nothing is left to do.
-    fn closed(self) -> (Home<D>, WindowRecord)
+    /// The home and the record of a window in which nothing is left to do. Takes no memory.
+    pub(crate) fn closed(self) -> (Home<D>, WindowRecord)
         requires quiet { not_quiet (configuration_of self) ≡ None }
-        ensures { WindowIsClosed D.turns D.probes D.faults self result.0 result.1 }
+        ensures { WindowIsClosed D.shows self result.0 result.1 }
     {
         let OpenWindow {
             history,
@@ -183,14 +165,15 @@ fn rises_in<D: Device>(
 ) -> Rises
     requires turns { IsEmptyFor turns (length known.now.items) }
     requires faults { IsEmptyFor faults (length known.now.items) }
-    requires turns_fell { NoneFell D.turns
+    requires turns_fell { NoneFell (λ device. (D.shows device).turns)
         (λ device. device.at_opening.turns) known.now.items devices.now.items }
-    requires faults_fell { NoneFell D.faults
+    requires faults_fell { NoneFell (λ device. (D.shows device).faults)
         (λ device. device.at_opening.faults) known.now.items devices.now.items }
-    ensures turns { HaveRisen D.turns (λ device. device.at_opening.turns) known.now.items
-        devices.now.items (length known.now.items) result.turns.items }
-    ensures faults { HaveRisen D.faults (λ device. device.at_opening.faults) known.now.items
-        devices.now.items (length known.now.items) result.faults.items }
+    ensures turns { HaveRisen (λ device. (D.shows device).turns) (λ device. device.at_opening.turns)
+        known.now.items devices.now.items (length known.now.items) result.turns.items }
+    ensures faults { HaveRisen (λ device. (D.shows device).faults)
+        (λ device. device.at_opening.faults) known.now.items devices.now.items
+        (length known.now.items) result.faults.items }
 {
     let mut rises = Rises { turns, faults };
     'devices: for at in 0..known.len() {

@@ -6,12 +6,11 @@ ghost use Rattle.history_book.specs.Settings.{is_weak};
 ghost use Rattle.hub_core.specs.Decisions.{current_command, skipped_command, strong_command, strong_doomed, told_choice, unbarred_command};
 ghost use Rattle.hub_core.specs.HubSteps.{command_task, task_of};
 ghost use Rattle.hub_core.specs.OpenHubs.{configuration_of};
-ghost use Rattle.window_order.specs.KeptOrders.{purpose_of};
 ghost use Rattle.hub_core.specs.Steps.{choice_of, decide_answered};
 ghost use Rattle.hub_core.specs.PlannedPlaces.{HasSameRoom, HoldsChosen, IsForHome};
 ghost use Rattle.lineage_table.specs.Accesses.{access_of};
 ghost use Rattle.lineage_table.specs.Lineages.{accesses_at};
-ghost use Rattle.lock_leasing.specs.Configurations.{Commands, is_out, read_of};
+ghost use Rattle.lock_leasing.specs.Configurations.{is_out, point_of, read_of};
 ghost use Rattle.lock_leasing.specs.Holders.{sees_it_down};
 ghost use Rattle.lock_leasing.specs.Standings.{IsAtCommand};
 ghost use Rattle.lock_leasing.specs.Waits.{behind_wait, grip_wait, strict_wait};
@@ -26,10 +25,9 @@ use device_states::Device;
 use history_book::{Cause, End};
 use home_types::{Command, DeviceNo, RunNo, View};
 use lineage_table::Table;
-use lock_leasing::{Touch, test_touch};
+use lock_leasing::{Purpose, Touch, test_touch};
 use timeline_scheduler::Scratch;
 use visibility_models::{down_at_end, may_go};
-use window_order::Purpose;
 
 /// What the step of a run is to do.
 #[derive(Clone, Copy, Debug, PartialEq, Eq)]
@@ -115,8 +113,8 @@ impl<D: Device> OpenWindow<D> {
     fn decide_doomed(&self, r: RunNo, cause: Cause) -> Chosen
         requires strong { is_weak self.now.setting.mode ≡ false }
         requires live { is_live (read_of (configuration_of self.now)) r.0 ≡ true }
-        ensures { (m : ℕ) → told_choice r.0 m result ≡ strong_doomed self.now.setting
-            (read_of (configuration_of self.now)) (configuration_of self.now).grips r.0 cause }
+        ensures { (m : ℕ) → told_choice r.0 m result
+            ≡ strong_doomed (point_of (configuration_of self.now)) r.0 cause }
     {
         let standing = self.standing();
         match next_undo(standing.table, r) {
@@ -124,7 +122,7 @@ impl<D: Device> OpenWindow<D> {
                 if self.is_out(d) {
                     Chosen::Waits(Why::Busy(d))
                 } else {
-                    Chosen::HandsOut(d, Purpose::Undo(value))
+                    Chosen::HandsOut(d, Purpose::Undoes(value))
                 }
             }
             Undo::Drop(d) => {
@@ -143,8 +141,8 @@ impl<D: Device> OpenWindow<D> {
     fn decide_answered(&self, r: RunNo) -> Chosen
         requires strong { is_weak self.now.setting.mode ≡ false }
         requires turn { IsUnderWay (read_of (configuration_of self.now)) r.0 }
-        ensures { (m : ℕ) → told_choice r.0 m result ≡ decide_answered self.now.setting
-            (read_of (configuration_of self.now)) (configuration_of self.now).grips r.0 }
+        ensures { (m : ℕ) → told_choice r.0 m result
+            ≡ decide_answered (point_of (configuration_of self.now)) r.0 }
     {
         let standing = self.standing();
         match down_at_end(self.history.model(), &standing, r) {
@@ -159,7 +157,7 @@ impl<D: Device> OpenWindow<D> {
         requires strong { is_weak self.now.setting.mode ≡ false }
         requires turn { IsUnderWay (read_of (configuration_of self.now)) r.0 }
         ensures { (m : ℕ) → told_choice r.0 m result
-            ≡ skipped_command self.now.setting (read_of (configuration_of self.now)) r.0 k }
+            ≡ skipped_command (point_of (configuration_of self.now)) r.0 k }
     {
         let standing = self.standing();
         match may_go(self.history.model(), &standing, r) {
@@ -176,8 +174,7 @@ impl<D: Device> OpenWindow<D> {
         requires turn { IsAtCommand (configuration_of self.now) r.0 k }
         requires command { command_at self.now.setting.runs r.0 k ≡ command }
         ensures { told_choice r.0 moment result
-            ≡ strong_command self.now.setting (read_of (configuration_of self.now))
-            (configuration_of self.now).grips r.0 moment k command }
+            ≡ strong_command (point_of (configuration_of self.now)) r.0 moment k command }
     {
         let d = command.device;
         match self.overdue_lease(r, d, moment) {
@@ -193,8 +190,8 @@ impl<D: Device> OpenWindow<D> {
         requires strong { is_weak self.now.setting.mode ≡ false }
         requires turn { IsAtCommand (configuration_of self.now) r.0 k }
         requires command { command_at self.now.setting.runs r.0 k ≡ command }
-        ensures { (m : ℕ) → told_choice r.0 m result ≡ current_command self.now.setting
-            (read_of (configuration_of self.now)) (configuration_of self.now).grips r.0 k command }
+        ensures { (m : ℕ) → told_choice r.0 m result
+            ≡ current_command (point_of (configuration_of self.now)) r.0 k command }
     {
         let standing = self.standing();
         match test_touch(&standing, r, k) {
@@ -217,8 +214,8 @@ impl<D: Device> OpenWindow<D> {
         requires strong { is_weak self.now.setting.mode ≡ false }
         requires turn { IsAtCommand (configuration_of self.now) r.0 k }
         requires command { command_at self.now.setting.runs r.0 k ≡ command }
-        ensures { (m : ℕ) → told_choice r.0 m result ≡ unbarred_command self.now.setting
-            (read_of (configuration_of self.now)) (configuration_of self.now).grips r.0 k command }
+        ensures { (m : ℕ) → told_choice r.0 m result
+            ≡ unbarred_command (point_of (configuration_of self.now)) r.0 k command }
     {
         let d = command.device;
         if sees_down(&self.order.table, r, d) {
@@ -228,7 +225,7 @@ impl<D: Device> OpenWindow<D> {
             return Chosen::Waits(Why::Busy(d));
         }
         if self.order.table.is_up(d) {
-            Chosen::HandsOut(d, Purpose::Command(k))
+            Chosen::HandsOut(d, Purpose::Commands(k))
         } else {
             Chosen::AnswersDown(k, command.must)
         }
@@ -253,15 +250,15 @@ impl<D: Device> OpenWindow<D> {
     /// What the grip of the run is to do for this purpose.
     #[inline(always)]
     pub(crate) fn task(&self, r: RunNo, purpose: Purpose) -> Task
-        requires command { (k : ℕ) → purpose_of purpose ≡ Commands k
+        requires command { (k : ℕ) → purpose ≡ Purpose.Commands k
             → IsTrue (is_run self.now.setting.runs r.0)
             × (k < length (commands_of self.now.setting.runs r.0)) }
-        ensures { result ≡ task_of (configuration_of self.now) r.0 (purpose_of purpose) }
+        ensures { result ≡ task_of (configuration_of self.now) r.0 purpose }
     {
         match purpose {
-            Purpose::Command(k) => self.command_task(r, k),
-            Purpose::Undo(value) => Task::Drive(value),
-            Purpose::Probe(value) => Task::Probe(value),
+            Purpose::Commands(k) => self.command_task(r, k),
+            Purpose::Undoes(value) => Task::Drive(value),
+            Purpose::Probes(value) => Task::Probe(value),
         }
     }
 

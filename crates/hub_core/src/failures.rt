@@ -1,5 +1,5 @@
 //! A device fails or comes back: line, table and history are told.
-ghost use Rattle.std.specs.Prelude.{◌≡◌, ◌+◌, ◌<◌, ◌≤◌, ◌^◌, IfSome, IsSome, IsTrue, None, Some, false, if◌then◌else◌, length, option_map, true};
+ghost use Rattle.std.specs.Prelude.{◌≡◌, ◌+◌, ◌<◌, ◌≤◌, ◌^◌, IfSome, IsSome, IsTrue, Some, false, length, option_map, true};
 ghost use Rattle.command_rules.specs.Rosters.{is_run};
 ghost use Rattle.failure_serialization.specs.Events.{lost_run};
 ghost use Rattle.history_book.specs.ReadHistories.{read_in, with_entry, with_lost};
@@ -21,16 +21,9 @@ pub(crate) struct Failure {
     pub(crate) lost: Option<RunNo>,
 }
 
-/// The run whose first access to a device has died, where this is `first`.
-pub(crate) fn first_death(r: RunNo, first: bool) -> Option<RunNo>
-    ensures { result ≡ (if first then Some r else None) }
-{
-    if first { Some(r) } else { None }
-}
-
 /// The device, which was counted up, has failed for the time of this number, counted from 1: the
 /// failure comes into the line, in which all before the first live run is sealed then, the device
-/// is counted down, and the history tells it.
+/// is counted down, and the history tells it. The run `first` has died there with its first access.
 pub(crate) fn note_fall(
     history: &mut ReadHistory,
     order: &mut KeptOrder,

@@ -1,20 +1,21 @@
 //! The runs that a step may have freed are blocked no more.
-ghost use Rattle.std.specs.Prelude.{◌≡◌, ◌≢◌, ◌&&◌, IsTrue, false, not, option_to_list, true, ◌⊎◌};
+ghost use Rattle.std.specs.Prelude.{false, not, option_to_list, true, ◌&&◌, ◌≡◌, ◌≢◌, ◌⊎◌};
 ghost use Rattle.command_rules.specs.Rosters.{touches};
 ghost use Rattle.history_book.specs.Histories.{entries_made};
 ghost use Rattle.history_book.specs.Settings.{is_strict};
-ghost use Rattle.hub_core.specs.BlockedMarks.{AreFreedWeakly, AreLeft, MayBeMarked, is_waiting};
-ghost use Rattle.hub_core.specs.BlockedRuns.{EndNoWait, IsPlacedLast, is_quiet};
+ghost use Rattle.hub_core.specs.BlockedMarks.{AreFreedWeakly, MayBeMarked, is_waiting};
+ghost use Rattle.blocked_runs.specs.Marks.{AreLeft};
+ghost use Rattle.hub_core.specs.BlockedRuns.{EndNoWait, is_quiet};
 ghost use Rattle.hub_core.specs.MarkedRuns.{IsAnsweredStill, is_out_for_command};
 ghost use Rattle.hub_core.specs.OpenHubs.{configuration_of};
 ghost use Rattle.lock_leasing.specs.Configurations.{read_of};
 ghost use Rattle.std.specs.List.{list_all};
 
-use crate::blocked_runs::BlockedRuns;
 use crate::open_windows::OpenWindow;
 use crate::turns::Turn;
+use blocked_runs::BlockedRuns;
 use device_states::Device;
-use history_book::{Entry, Made};
+use history_book::{Entry, Made, ReadHistory};
 use home_types::{DeviceNo, RunNo};
 
 /// The run waits: it is marked at the device of its next command, if it is at a command. A lender
@@ -77,28 +78,11 @@ pub(crate) fn free_back<D: Device>(
         (λ e. IsAnsweredStill (configuration_of window.now) d.0 (entries_made made.now)
         ⊎ ((e ≢ d.0) × (list_all (is_quiet window.now.setting e) (entries_made made.now) ≡ true))) }
 {
-    if is_answered_still(window, d, made) {
+    if window.is_answered_still(d, made) {
         return;
     }
     blocked.unmark_at(d);
-    free_each(blocked, window, made);
-}
-
-/// Whether a step has answered a command on the device, and made no other entry, and its run holds
-/// the device still.
-#[inline(always)]
-fn is_answered_still<D: Device>(window: &OpenWindow<D>, d: DeviceNo, made: &Made) -> bool
-    ensures { IsTrue result
-        → IsAnsweredStill (configuration_of window.now) d.0 (entries_made made.now) }
-{
-    match *made {
-        Made {
-            a: Some(Entry::Did(r, k, _)),
-            b: None,
-            c: None,
-        } => window.holds_still(r, k, d),
-        _ => false,
-    }
+    free_each(blocked, &window.history, made);
 }
 
 /// A run's step has made these entries. Where the run was placed at the end of the line, nobody is
@@ -108,47 +92,31 @@ pub(crate) fn free_made<D: Device>(blocked: &mut BlockedRuns, window: &OpenWindo
     ensures { AreLeft blocked.old blocked.new (λ d. EndNoWait window.now.setting
         (read_of (configuration_of window.now)) d (entries_made made.now)) }
 {
-    if is_placed_last(window, made) {
+    if window.is_placed_last(made) {
         return;
     }
-    free_each(blocked, window, made);
-}
-
-/// Whether a step has placed a run at the end of the line, and made no other entry.
-#[inline(always)]
-fn is_placed_last<D: Device>(window: &OpenWindow<D>, made: &Made) -> bool
-    ensures { IsTrue result
-        → IsPlacedLast (read_of (configuration_of window.now)) (entries_made made.now) }
-{
-    match *made {
-        Made {
-            a: Some(Entry::Placed(_, at, _)),
-            b: None,
-            c: None,
-        } => window.is_last_place(at),
-        _ => false,
-    }
+    free_each(blocked, &window.history, made);
 }
 
 /// A step has made these entries.
 #[inline(always)]
-fn free_each<D: Device>(blocked: &mut BlockedRuns, window: &OpenWindow<D>, made: &Made)
+fn free_each(blocked: &mut BlockedRuns, history: &ReadHistory, made: &Made)
     ensures { AreLeft blocked.old blocked.new
-        (λ d. list_all (is_quiet window.now.setting d) (entries_made made.now) ≡ true) }
+        (λ d. list_all (is_quiet history.now.setting d) (entries_made made.now) ≡ true) }
 {
-    free_some(blocked, window, made.a);
-    free_some(blocked, window, made.b);
-    free_some(blocked, window, made.c);
+    free_some(blocked, history, made.a);
+    free_some(blocked, history, made.b);
+    free_some(blocked, history, made.c);
 }
 
 /// A step has made this entry, where there is one.
 #[inline(always)]
-fn free_some<D: Device>(blocked: &mut BlockedRuns, window: &OpenWindow<D>, entry: Option<Entry>)
+fn free_some(blocked: &mut BlockedRuns, history: &ReadHistory, entry: Option<Entry>)
     ensures { AreLeft blocked.old blocked.new
-        (λ d. list_all (is_quiet window.now.setting d) (option_to_list entry) ≡ true) }
+        (λ d. list_all (is_quiet history.now.setting d) (option_to_list entry) ≡ true) }
 {
     if let Some(entry) = entry {
-        free_by(blocked, window, entry);
+        free_by(blocked, history, entry);
     }
 }
 
@@ -156,16 +124,16 @@ fn free_some<D: Device>(blocked: &mut BlockedRuns, window: &OpenWindow<D>, entry
 /// may a placing and an end, which free everybody under the two strict models; an entry on a device
 /// those that are blocked there.
 #[inline(always)]
-fn free_by<D: Device>(blocked: &mut BlockedRuns, window: &OpenWindow<D>, entry: Entry)
-    ensures { AreLeft blocked.old blocked.new (λ d. is_quiet window.now.setting d entry ≡ true) }
+fn free_by(blocked: &mut BlockedRuns, history: &ReadHistory, entry: Entry)
+    ensures { AreLeft blocked.old blocked.new (λ d. is_quiet history.now.setting d entry ≡ true) }
 {
     match entry {
         Entry::Arrived(..) => {}
-        Entry::Placed(r, ..) => free_passed(blocked, window, r),
-        Entry::Doomed(r, _) => free_beside(blocked, window, r),
-        Entry::Ended(r, _) => free_passed(blocked, window, r),
+        Entry::Placed(r, ..) => free_passed(blocked, history, r),
+        Entry::Doomed(r, _) => free_beside(blocked, history, r),
+        Entry::Ended(r, _) => free_passed(blocked, history, r),
         Entry::Undid(_, d, _) | Entry::Fell(d) | Entry::Rose(d) => blocked.unmark_at(d),
-        Entry::Did(r, k, _) => match window.device_of(r, k) {
+        Entry::Did(r, k, _) => match history.device_of(r, k) {
             Some(d) => blocked.unmark_at(d),
             // There is such a command.
             None => blocked.unmark_all(),
@@ -174,25 +142,25 @@ fn free_by<D: Device>(blocked: &mut BlockedRuns, window: &OpenWindow<D>, entry: 
 }
 
 /// The run stands where it did not, or stands before the others no more.
-fn free_passed<D: Device>(blocked: &mut BlockedRuns, window: &OpenWindow<D>, r: RunNo)
+fn free_passed(blocked: &mut BlockedRuns, history: &ReadHistory, r: RunNo)
     ensures { AreLeft blocked.old blocked.new (λ d.
-        (not (is_strict window.now.setting.mode) && not (touches window.now.setting.runs r.0 d))
+        (not (is_strict history.now.setting.mode) && not (touches history.now.setting.runs r.0 d))
         ≡ true) }
 {
-    if window.is_strict() {
+    if history.is_strict() {
         return blocked.unmark_all();
     }
-    free_beside(blocked, window, r);
+    free_beside(blocked, history, r);
 }
 
 /// Those that are blocked at the devices of the run are free.
-fn free_beside<D: Device>(blocked: &mut BlockedRuns, window: &OpenWindow<D>, r: RunNo)
+fn free_beside(blocked: &mut BlockedRuns, history: &ReadHistory, r: RunNo)
     ensures { AreLeft blocked.old blocked.new
-        (λ d. not (touches window.now.setting.runs r.0 d) ≡ true) }
+        (λ d. not (touches history.now.setting.runs r.0 d) ≡ true) }
 {
-    if !window.has_run(r) {
+    if !history.has_run(r) {
         // There is such a run.
         return blocked.unmark_all();
     }
-    blocked.unmark_among(window.roster(), r);
+    blocked.unmark_among(history.indexed_roster(), r);
 }

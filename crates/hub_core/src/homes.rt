@@ -37,7 +37,7 @@ impl<D: Device> Model for Home<D> {
       opened = h.opened;
     } };
 
-    ghost invariant = { λ h. HomeIsKept D.tag D.stands D.turns D.probes D.faults (record {
+    ghost invariant = { λ h. HomeIsKept D.shows (record {
       kinds = h.kinds.items;
       world = h.world.devices.items;
       devices = h.devices.items;
@@ -58,9 +58,8 @@ impl<D: Device> Home<D> {
         ensures kinds { IfOk result (λ home. home.kinds ≡ kinds_of script.now) }
         ensures world { IfOk result (λ home. home.world ≡ start_home script.now) }
         ensures opened { IfOk result (λ home. home.opened ≡ 0) }
-        ensures devices { IfOk result (λ home.
-            AreNew D.tag D.plan D.stands D.turns D.probes D.faults
-            script.now.devices.items home.devices) }
+        ensures devices { IfOk result
+            (λ home. AreNew D.shows script.now.devices.items home.devices) }
     {
         let devices = build_devices(alloc, script, bench)?;
         let world = start_world(alloc, script)?;
@@ -91,7 +90,7 @@ impl<D: Device> Home<D> {
 
     /// Does nothing. Its contract is what holds of every home.
     pub fn kept(&self)
-        ensures { HomeIsKept D.tag D.stands D.turns D.probes D.faults self.now }
+        ensures { HomeIsKept D.shows self.now }
     {
         let _ = &self.opened;
     }
@@ -99,7 +98,7 @@ impl<D: Device> Home<D> {
     /// The devices, in the order of their numbers.
     pub fn into_devices(self) -> List<D>
         ensures devices { result.items ≡ self.devices }
-        ensures kept { HomeIsKept D.tag D.stands D.turns D.probes D.faults self }
+        ensures kept { HomeIsKept D.shows self }
     {
         let Home {
             kinds: _,
@@ -118,9 +117,7 @@ fn build_devices<B: Bench>(
     bench: &mut B,
 ) -> Result<List<B::Dev>, NoMemory>
     requires few { length script.now.devices.items ≤ most_devices }
-    ensures { IfOk result (λ devices.
-        AreNew B.Dev.tag B.Dev.plan B.Dev.stands B.Dev.turns B.Dev.probes B.Dev.faults
-        script.now.devices.items devices.items) }
+    ensures { IfOk result (λ devices. AreNew B.Dev.shows script.now.devices.items devices.items) }
 {
     let mut devices = List::new(alloc);
     'texts: for (number, text) in script.devices.as_slice().iter().enumerate() {

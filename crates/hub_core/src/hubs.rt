@@ -1,9 +1,9 @@
 //! A hub: an open window with the marks of its blocked runs, and what is asked of it.
-ghost use Rattle.std.specs.Prelude.{◌≡◌, ◌≤◌, ◌↔◌, IfErr, IfOk, IsTrue, None, Some, [], false, length, slice_get, take, true, ℕ};
+ghost use Rattle.std.specs.Prelude.{IfErr, IfOk, IsTrue, None, Some, [], false, length, slice_get, take, true, ℕ, ◌↔◌, ◌≡◌, ◌≤◌};
 ghost use Rattle.history_book.specs.Histories.{entries_of, line_of};
 ghost use Rattle.history_book.specs.Sealed.{BeginsWithSealed, sealed_of};
 ghost use Rattle.history_book.specs.Settings.{is_weak};
-ghost use Rattle.hub_core.specs.BlockedMarks.{has_run};
+ghost use Rattle.blocked_runs.specs.RunBits.{has_run};
 ghost use Rattle.hub_core.specs.BlockedRuns.{IsBlocked};
 ghost use Rattle.hub_core.specs.Bounds.{IsBounded};
 ghost use Rattle.hub_core.specs.HubCalls.{HubStands, SomeRunMoves, WindowIsClosed, grip_takes, is_past};
@@ -12,20 +12,20 @@ ghost use Rattle.hub_core.specs.OpenHubs.{configuration_of};
 ghost use Rattle.hub_core.specs.Steps.{not_quiet, opened};
 ghost use Rattle.lineage_table.specs.Accesses.{IsDisciplined};
 ghost use Rattle.lineage_table.specs.Lineages.{accesses_at};
-ghost use Rattle.lock_leasing.specs.Configurations.{read_of};
+ghost use Rattle.lock_leasing.specs.Configurations.{point_of};
 ghost use Rattle.lock_leasing.specs.Tables.{Represents};
 
-use crate::blocked_runs::BlockedRuns;
 use crate::homes::Home;
 use crate::open_windows::OpenWindow;
 use crate::refusals::NotQuiet;
+use blocked_runs::BlockedRuns;
 use device_states::Device;
 use history_book::WindowRecord;
 use home_types::{DeviceNo, Item, RunNo};
 use lineage_table::Table;
+use lock_leasing::Purpose;
 use std::marker::Model;
 use timeline_scheduler::Scratch;
-use window_order::Purpose;
 
 /// An open window.
 ///
@@ -56,7 +56,7 @@ impl<D: Device> Model for Hub<D> {
 impl<D: Device> Hub<D> {
     /// Does nothing. Its contract is what holds of every hub.
     pub fn kept(&self)
-        ensures { HubStands D.tag D.stands D.turns D.probes D.faults self.now }
+        ensures { HubStands D.shows self.now }
     {
         let window = &self.window;
         window.away.gate.numbered();
@@ -66,7 +66,8 @@ impl<D: Device> Hub<D> {
     pub fn progress(&self)
         ensures { SomeRunMoves (configuration_of self.now) }
     {
-        self.window.progress();
+        let window = &self.window;
+        let _ = &window.moment;
     }
 
     /// Does nothing. Its contract is how long history and line become.
@@ -79,8 +80,8 @@ impl<D: Device> Hub<D> {
     /// The lineage table of the window. It has at most one access of each run on a device, under
     /// the weak model none, and outside it it represents the configuration.
     pub fn table(&self) -> &Table
-        ensures represents { is_weak self.now.setting.mode ≡ false → Represents self.now.setting
-            (read_of (configuration_of self.now)) (configuration_of self.now).grips result.now }
+        ensures represents { is_weak self.now.setting.mode ≡ false
+            → Represents (point_of (configuration_of self.now)) result.now }
         ensures few { (d : ℕ) → length (accesses_at result.now d) ≤ length self.now.setting.runs }
         ensures disciplined { (d : ℕ) → IsDisciplined (accesses_at result.now d) }
         ensures bare { is_weak self.now.setting.mode ≡ true
@@ -169,7 +170,14 @@ impl<D: Device> Hub<D> {
     pub fn quiet(&self) -> Option<NotQuiet>
         ensures { result ≡ not_quiet (configuration_of self.now) }
     {
-        self.window.quiet()
+        let window = &self.window;
+        if let Some(r) = window.history.first_unended() {
+            return Some(NotQuiet::StillLive(r));
+        }
+        match window.away.gate.first_out() {
+            Some(d) => Some(NotQuiet::StillOut(d)),
+            None => None,
+        }
     }
 
     /// Whether nothing is left to do for the run: the window has no such run, or it has ended.
@@ -203,8 +211,8 @@ impl<D: Device> Hub<D> {
             return 0;
         };
         match window.away.known(d).purpose {
-            Purpose::Command(k) => window.history.command(RunNo(slip.maker), k).takes,
-            Purpose::Undo(_) | Purpose::Probe(_) => 0,
+            Purpose::Commands(k) => window.history.command(RunNo(slip.maker), k).takes,
+            Purpose::Undoes(_) | Purpose::Probes(_) => 0,
         }
     }
 
@@ -214,8 +222,7 @@ impl<D: Device> Hub<D> {
     /// weak model the order of the record begins with the items that were final at each point of
     /// the window.
     pub fn close_window(self) -> Result<(Home<D>, WindowRecord), (Hub<D>, NotQuiet)>
-        ensures closed { IfOk result
-            (λ closed. WindowIsClosed D.turns D.probes D.faults self closed.0 closed.1) }
+        ensures closed { IfOk result (λ closed. WindowIsClosed D.shows self closed.0 closed.1) }
         ensures sealed { IfOk result (λ closed. is_weak self.setting.mode ≡ false
             → BeginsWithSealed self.setting (history_of closed.1) closed.1.order.items) }
         ensures quiet { IfOk result (λ closed. not_quiet (configuration_of self) ≡ None) }
@@ -223,21 +230,10 @@ impl<D: Device> Hub<D> {
         ensures refused { IfErr result
             (λ refused. not_quiet (configuration_of self) ≡ Some refused.1) }
     {
-        let Hub {
-            window,
-            blocked,
-            scratch,
-        } = self;
-        match window.close_window() {
-            Ok(closed) => Ok(closed),
-            Err((window, why)) => Err((
-                Hub {
-                    window,
-                    blocked,
-                    scratch,
-                },
-                why,
-            )),
+        if let Some(why) = self.quiet() {
+            return Err((self, why));
         }
+        let Hub { window, .. } = self;
+        Ok(window.closed())
     }
 }

@@ -4,7 +4,7 @@ ghost use Rattle.hub_core.specs.Away.{events_after};
 
 use device_gate::{Task, Told};
 use home_types::Value;
-use window_order::Purpose;
+use lock_leasing::Purpose;
 
 /// The three counts of a device.
 #[derive(Clone, Copy, Debug, PartialEq, Eq)]

@@ -4,7 +4,7 @@ ghost use Rattle.std.specs.Prelude.{◌≡◌, Some, false};
 ghost use Rattle.history_book.specs.Settings.{is_weak};
 ghost use Rattle.hub_core.specs.BlockedRuns.{NeverRevokes, next_device};
 ghost use Rattle.hub_core.specs.OpenHubs.{configuration_of};
-ghost use Rattle.lock_leasing.specs.Configurations.{read_of};
+ghost use Rattle.lock_leasing.specs.Configurations.{point_of};
 ghost use Rattle.lock_leasing.specs.Leases.{overdue_lease};
 ghost use Rattle.lock_leasing.specs.Standings.{IsAsking};
 
@@ -21,8 +21,7 @@ impl<D: Device> OpenWindow<D> {
     pub(crate) fn overdue_lease(&self, r: RunNo, d: DeviceNo, moment: u64) -> Option<(RunNo, u64)>
         requires strong { is_weak self.now.setting.mode ≡ false }
         requires turn { IsAsking (configuration_of self.now) r.0 d.0 }
-        ensures { result ≡ overdue_lease self.now.setting (read_of (configuration_of self.now))
-            (configuration_of self.now).grips r.0 d.0 moment }
+        ensures { result ≡ overdue_lease (point_of (configuration_of self.now)) r.0 d.0 moment }
     {
         match self.history.scheduler() {
             Scheduler::Fcfs => None,

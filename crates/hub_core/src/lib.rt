@@ -3,7 +3,6 @@
 #![tactic(auto)]
 
 mod away;
-mod blocked_runs;
 mod causes;
 mod changes;
 mod close_calls;

@@ -1,11 +1,11 @@
 //! Opening a window, which takes all of its memory.
-ghost use Rattle.std.specs.Prelude.{◌≡◌, ◌<◌, ◌≤◌, ◌^◌, IfErr, IfOk, None, [], length, replicate, slice_get, ℕ};
+ghost use Rattle.std.specs.Prelude.{IfErr, IfOk, None, [], length, replicate, slice_get, ℕ, ◌<◌, ◌^◌, ◌≡◌, ◌≤◌};
 ghost use Rattle.command_rules.specs.Footprints.{FitsIndex};
 ghost use Rattle.command_rules.specs.Rosters.{runs_of};
 ghost use Rattle.device_gate.specs.Places.{all_home};
 ghost use Rattle.home_types.specs.HomeStates.{stand_at};
 ghost use Rattle.home_types.specs.Limits.{most_devices, most_probes, most_runs};
-ghost use Rattle.hub_core.specs.BlockedMarks.{NoneMarked};
+ghost use Rattle.blocked_runs.specs.Marks.{NoneMarked};
 ghost use Rattle.hub_core.specs.Bounds.{most_entries, most_items};
 ghost use Rattle.hub_core.specs.HubCalls.{IsOpened};
 ghost use Rattle.hub_core.specs.Homes.{HomeIsKept, setting_for};
@@ -13,19 +13,20 @@ ghost use Rattle.hub_core.specs.OpeningRooms.{AreKnown, IsClosingRoom, IsOrderRo
 ghost use Rattle.hub_core.specs.Openings.{MayOpen};
 
 use crate::away::Away;
-use crate::blocked_runs::BlockedRuns;
 use crate::homes::Home;
 use crate::hubs::Hub;
 use crate::known::{DeviceCallCounts, DeviceProgress, NO_EVENTS};
 use crate::open_windows::{ClosingLists, OpenWindow};
+use blocked_runs::BlockedRuns;
 use command_rules::{IndexedRoster, Roster};
 use device_gate::Gate;
 use device_states::Device;
 use history_book::{Book, ReadHistory};
 use home_types::{DeviceNo, Kind, List, Mode, NoMemory, World};
+use lock_leasing::Purpose;
 use std::alloc::Global;
 use timeline_scheduler::Scratch;
-use window_order::{KeptOrder, Purpose};
+use window_order::KeptOrder;
 
 /// The memory of what a window keeps of its runs and its devices.
 #[derive(Drop)]
@@ -78,8 +79,8 @@ impl<D: Device> Home<D> {
         rounds: u32,
     ) -> Result<Hub<D>, (Home<D>, NoMemory)>
         requires may { MayOpen (setting_for self roster mode) rounds self.opened }
-        ensures opened { IfOk result (λ hub. IsOpened D.turns D.probes D.faults
-            (setting_for self roster mode) rounds self hub) }
+        ensures opened { IfOk result
+            (λ hub. IsOpened D.shows (setting_for self roster mode) rounds self hub) }
         ensures refused { IfErr result (λ refused. refused.0 ≡ self) }
     {
         let Ok(room) = self.room(alloc, &roster, rounds) else {
@@ -129,7 +130,7 @@ impl<D: Device> Home<D> {
         ensures opened { IfOk result (λ home. home.opened ≡ self.opened) }
         ensures places { IfOk result (λ home. home.gate.places ≡ all_home self.devices) }
         ensures tickets { IfOk result (λ home. home.gate.tickets ≡ 0) }
-        ensures kept { HomeIsKept D.tag D.stands D.turns D.probes D.faults self }
+        ensures kept { HomeIsKept D.shows self }
         ensures refused { IfErr result (λ home. home ≡ self) }
     {
         let Home {
@@ -165,7 +166,7 @@ impl<D: Device> Home<D> {
         ensures order { IfOk result (λ room.
             IsOrderRoom (most_items (length roster.now.runs.items) (length self.now.world) rounds)
             (runs_of roster.now) self.now.world room.state.order.line room.state.order.table) }
-        ensures devices { IfOk result (λ room. AreKnown D.turns D.probes D.faults self.now rounds
+        ensures devices { IfOk result (λ room. AreKnown D.shows self.now rounds
             (length self.now.devices) room.state.devices.items) }
         ensures hands { IfOk result
             (λ room. room.state.hands.items ≡ replicate (length roster.now.runs.items) None) }
@@ -228,7 +229,7 @@ impl<D: Device> Home<D> {
         ensures book { IfOk result (λ state. IsRoomFor state.book bounds.entries) }
         ensures order { IfOk result (λ state. IsOrderRoom bounds.items
             (runs_of roster.now) self.now.world state.order.line state.order.table) }
-        ensures devices { IfOk result (λ state. AreKnown D.turns D.probes D.faults self.now rounds
+        ensures devices { IfOk result (λ state. AreKnown D.shows self.now rounds
             (length self.now.devices) state.devices.items) }
         ensures hands { IfOk result
             (λ state. state.hands.items ≡ replicate (length roster.now.runs.items) None) }
@@ -269,8 +270,8 @@ impl<D: Device> Home<D> {
 
     /// What is known of each device as the window opens.
     fn known_devices(&self, alloc: Global, rounds: u32) -> Result<List<DeviceProgress>, NoMemory>
-        ensures { IfOk result (λ known. AreKnown D.turns D.probes D.faults self.now rounds
-            (length self.now.devices) known.items) }
+        ensures { IfOk result
+            (λ known. AreKnown D.shows self.now rounds (length self.now.devices) known.items) }
     {
         let mut known = roomy_list(alloc, self.devices.len())?;
         'devices: for at in 0..self.devices.len() {
@@ -283,15 +284,15 @@ impl<D: Device> Home<D> {
     fn known_device(&self, at: u64, rounds: u32) -> DeviceProgress
         requires { at < length self.now.devices }
         ensures { (device : D) → slice_get self.now.devices at ≡ Some device
-            → result ≡ known_first rounds (stand_at self.now.world at).value (D.turns device)
-            (D.probes device) (D.faults device) }
+            → result ≡ known_first rounds (stand_at self.now.world at).value (D.shows device).turns
+            (D.shows device).probes (D.shows device).faults }
     {
         let device = self.devices.get(at).unwrap();
         let stand = self.world.devices.get(at).unwrap();
         DeviceProgress {
             held: stand.value,
             probes_left: rounds,
-            purpose: Purpose::Command(0),
+            purpose: Purpose::Commands(0),
             at_opening: DeviceCallCounts {
                 turns: device.turns(),
                 probes: device.probes(),

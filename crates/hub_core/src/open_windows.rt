@@ -1,25 +1,22 @@
 //! An open window: its parts, and what is asked of them.
-ghost use Rattle.std.specs.Prelude.{◌≡◌, ◌+◌, ◌-◌, ◌<◌, ◌↔◌, IfSome, IsTrue, None, false, length, option_map, true, ℕ};
-ghost use Rattle.command_rules.specs.Rosters.{command_at, is_run, runs_of};
-ghost use Rattle.history_book.specs.Settings.{is_strict, is_weak};
-ghost use Rattle.hub_core.specs.BlockedRuns.{next_device};
-ghost use Rattle.hub_core.specs.HubCalls.{SomeRunMoves};
+ghost use Rattle.std.specs.Prelude.{IsTrue, None, false, length, option_map, ℕ, ◌-◌, ◌<◌, ◌↔◌, ◌≡◌};
+ghost use Rattle.command_rules.specs.Rosters.{runs_of};
+ghost use Rattle.history_book.specs.Histories.{entries_made};
+ghost use Rattle.history_book.specs.Settings.{is_weak};
+ghost use Rattle.hub_core.specs.BlockedRuns.{IsPlacedLast, next_device};
 ghost use Rattle.hub_core.specs.HubsKept.{HubIsKept};
-ghost use Rattle.hub_core.specs.MarkedRuns.{HoldsStill, is_out_for_command};
+ghost use Rattle.hub_core.specs.MarkedRuns.{IsAnsweredStill, is_out_for_command};
 ghost use Rattle.hub_core.specs.OpenHubs.{configuration_of, progress_at};
-ghost use Rattle.hub_core.specs.Steps.{not_quiet};
 ghost use Rattle.lock_leasing.specs.Configurations.{read_of};
 ghost use Rattle.lock_leasing.specs.Standings.{IsStandingOf};
 
 use crate::away::Away;
-use crate::refusals::NotQuiet;
-use command_rules::IndexedRoster;
 use device_states::Device;
-use history_book::ReadHistory;
+use history_book::{Entry, Made, ReadHistory};
 use home_types::{DeviceNo, Item, List, RunNo, Stand};
-use lock_leasing::Standing;
+use lock_leasing::{Purpose, Standing};
 use std::marker::Model;
-use window_order::{KeptOrder, Purpose};
+use window_order::KeptOrder;
 
 /// The lists that closing a window fills: empty, each with room for every device, but for the
 /// order.
@@ -58,20 +55,13 @@ impl<D: Device> Model for OpenWindow<D> {
 
     ghost view = { open_of };
 
-    ghost invariant = { IsWhole D.stands D.turns D.probes D.faults };
+    ghost invariant = { IsWhole D.shows };
 }
 
 impl<D: Device> OpenWindow<D> {
     /// Does nothing. Its contract is what is kept of every window.
     pub(crate) fn whole(&self)
-        ensures { HubIsKept D.stands D.turns D.probes D.faults self.now }
-    {
-        let _ = &self.moment;
-    }
-
-    /// Does nothing. Its contract is that a window is never stuck.
-    pub(crate) fn progress(&self)
-        ensures { SomeRunMoves (configuration_of self.now) }
+        ensures { HubIsKept D.shows self.now }
     {
         let _ = &self.moment;
     }
@@ -98,32 +88,20 @@ impl<D: Device> OpenWindow<D> {
         self.history.is_weak()
     }
 
-    /// Whether the window is one of the two models under which runs do not overlap.
-    pub(crate) fn is_strict(&self) -> bool
-        ensures { result ≡ is_strict self.now.setting.mode }
+    /// Whether a step has placed a run at the end of the line, and made no other entry.
+    #[inline(always)]
+    pub(crate) fn is_placed_last(&self, made: &Made) -> bool
+        ensures { IsTrue result
+            → IsPlacedLast (read_of (configuration_of self.now)) (entries_made made.now) }
     {
-        self.history.is_strict()
-    }
-
-    /// Whether the window has the run.
-    pub(crate) fn has_run(&self, r: RunNo) -> bool
-        ensures { result ≡ is_run self.now.setting.runs r.0 }
-    {
-        self.history.has_run(r)
-    }
-
-    /// The runs of the window, with their footprints.
-    pub(crate) fn roster(&self) -> &IndexedRoster
-        ensures { runs_of result.now ≡ self.now.setting.runs }
-    {
-        self.history.indexed_roster()
-    }
-
-    /// Whether this is the last place of the line, counted from 0.
-    pub(crate) fn is_last_place(&self, at: u32) -> bool
-        ensures { IsTrue result → length (read_of (configuration_of self.now)).line ≡ at + 1 }
-    {
-        self.order.line.len() as u64 == at as u64 + 1
+        match *made {
+            Made {
+                a: Some(Entry::Placed(_, at, _)),
+                b: None,
+                c: None,
+            } => self.order.line.len() as u64 == at as u64 + 1,
+            _ => false,
+        }
     }
 
     /// Whether no probe of a device was taken.
@@ -135,20 +113,6 @@ impl<D: Device> OpenWindow<D> {
         known.iter().all(|device| device.probes_left == self.rounds)
     }
 
-    /// Why the window cannot be closed: the smallest run that has not ended, else the smallest
-    /// device that is out.
-    pub(crate) fn quiet(&self) -> Option<NotQuiet>
-        ensures { result ≡ not_quiet (configuration_of self.now) }
-    {
-        if let Some(r) = self.history.first_unended() {
-            return Some(NotQuiet::StillLive(r));
-        }
-        match self.away.gate.first_out() {
-            Some(d) => Some(NotQuiet::StillOut(d)),
-            None => None,
-        }
-    }
-
     /// Whether the device is out for a command.
     #[inline(always)]
     pub(crate) fn is_out_for_command(&self, d: DeviceNo) -> bool
@@ -158,8 +122,8 @@ impl<D: Device> OpenWindow<D> {
             return false;
         }
         match self.away.known(d).purpose {
-            Purpose::Command(_) => true,
-            Purpose::Undo(_) | Purpose::Probe(_) => false,
+            Purpose::Commands(_) => true,
+            Purpose::Undoes(_) | Purpose::Probes(_) => false,
         }
     }
 
@@ -184,31 +148,27 @@ impl<D: Device> OpenWindow<D> {
         }
     }
 
-    /// The device of the run's command with the number `k`; none where there is no such command.
-    pub(crate) fn device_of(&self, r: RunNo, k: u32) -> Option<DeviceNo>
-        ensures { IfSome result (λ d. d ≡ (command_at self.now.setting.runs r.0 k).device) }
-    {
-        self.history.device_of(r, k)
-    }
-
-    /// Whether the run, whose last answered command is the one with the number `k`, on this device,
+    /// Whether a step has answered a command on the device, and made no other entry, and its run
     /// holds the device still: it is not doomed and has a later command there.
     #[inline(always)]
-    pub(crate) fn holds_still(&self, r: RunNo, k: u32, d: DeviceNo) -> bool
-        ensures { IsTrue result → HoldsStill (configuration_of self.now) r.0 k d.0 }
+    pub(crate) fn is_answered_still(&self, d: DeviceNo, made: &Made) -> bool
+        ensures { IsTrue result
+            → IsAnsweredStill (configuration_of self.now) d.0 (entries_made made.now) }
     {
+        let Made {
+            a: Some(Entry::Did(r, k, _)),
+            b: None,
+            c: None,
+        } = *made
+        else {
+            return false;
+        };
         let Some(device) = self.history.device_of(r, k) else {
             return false;
         };
-        if device != d {
-            return false;
-        }
-        if !self.history.is_going(r) {
-            return false;
-        }
-        if self.history.progress(r).answered != k as u64 + 1 {
-            return false;
-        }
-        !self.history.is_done(r, k, d)
+        device == d
+            && self.history.is_going(r)
+            && self.history.progress(r).answered == k as u64 + 1
+            && !self.history.is_done(r, k, d)
     }
 }

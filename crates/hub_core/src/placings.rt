@@ -8,7 +8,7 @@ ghost use Rattle.hub_core.specs.OpenHubs.{configuration_of};
 ghost use Rattle.hub_core.specs.PlannedPlaces.{HasSameRoom, HoldsChosen, IsForHome};
 ghost use Rattle.hub_core.specs.Steps.{decide_arrived, place_choice};
 ghost use Rattle.jit_scheduler.specs.Admissions.{IsToBePlaced};
-ghost use Rattle.lock_leasing.specs.Configurations.{read_of};
+ghost use Rattle.lock_leasing.specs.Configurations.{point_of, read_of};
 ghost use Rattle.lock_leasing.specs.Places.{just_in_time, scheduled_place};
 ghost use Rattle.lock_leasing.specs.Waits.{follow_wait};
 
@@ -38,8 +38,8 @@ impl<D: Device> OpenWindow<D> {
         requires run { IsTrue (is_run self.now.setting.runs r.0) }
         requires turn { IsToBePlaced (read_of (configuration_of self.now)) r.0 arrived }
         requires scratch { IsForHome self.now.setting self.now.rounds scratch.old }
-        ensures choice { told_choice r.0 moment result ≡ decide_arrived self.now.setting
-            (read_of (configuration_of self.now)) (configuration_of self.now).grips r.0 moment }
+        ensures choice { told_choice r.0 moment result
+            ≡ decide_arrived (point_of (configuration_of self.now)) r.0 moment }
         ensures planned { HoldsChosen scratch.new (configuration_of self.now) r.0 moment result }
         ensures size { HasSameRoom scratch.old scratch.new }
     {
@@ -54,9 +54,8 @@ impl<D: Device> OpenWindow<D> {
         requires run { IsTrue (is_run self.now.setting.runs r.0) }
         requires turn { IsToBePlaced (read_of (configuration_of self.now)) r.0 arrived }
         requires scratch { IsForHome self.now.setting self.now.rounds scratch.old }
-        ensures choice { told_choice r.0 moment result
-            ≡ place_choice r.0 moment (scheduled_place self.now.setting
-            (read_of (configuration_of self.now)) (configuration_of self.now).grips r.0 moment) }
+        ensures choice { told_choice r.0 moment result ≡ place_choice r.0 moment
+            (scheduled_place (point_of (configuration_of self.now)) r.0 moment) }
         ensures planned { HoldsChosen scratch.new (configuration_of self.now) r.0 moment result }
         ensures size { HasSameRoom scratch.old scratch.new }
     {
@@ -75,9 +74,8 @@ impl<D: Device> OpenWindow<D> {
         requires strong { is_weak self.now.setting.mode ≡ false }
         requires run { IsTrue (is_run self.now.setting.runs r.0) }
         requires turn { IsToBePlaced (read_of (configuration_of self.now)) r.0 arrived }
-        ensures { told_choice r.0 moment result
-            ≡ place_choice r.0 moment (just_in_time self.now.setting
-            (read_of (configuration_of self.now)) (configuration_of self.now).grips r.0 moment) }
+        ensures { told_choice r.0 moment result ≡ place_choice r.0 moment
+            (just_in_time (point_of (configuration_of self.now)) r.0 moment) }
     {
         match admit(&self.standing(), r, arrived, moment) {
             Admit::At(place) => Chosen::Joins(place),

@@ -1,5 +1,5 @@
 //! The detector takes a device for a probe, and gives it back.
-ghost use Rattle.std.specs.Prelude.{◌≡◌, ◌<◌, Some, false, length, not, true, ℕ};
+ghost use Rattle.std.specs.Prelude.{Some, false, length, not, true, ℕ, ◌<◌, ◌≡◌};
 ghost use Rattle.device_gate.specs.Calls.{has_died};
 ghost use Rattle.device_gate.specs.Places.{IsKept};
 ghost use Rattle.history_book.specs.Settings.{is_device};
@@ -16,7 +16,7 @@ use device_gate::{Done, Grip, Ready, Stranger, Task};
 use device_states::Device;
 use history_book::Made;
 use home_types::{DeviceNo, Value};
-use window_order::Purpose;
+use lock_leasing::Purpose;
 
 impl<D: Device> OpenWindow<D> {
     /// Hands out a probe of the device: none where it is out or no device of the home, or no probe
@@ -52,7 +52,15 @@ impl<D: Device> OpenWindow<D> {
             let stranger = self.away.gate.stranger(&grip);
             return Err((grip, stranger));
         }
-        Ok(self.end_probe(grip))
+        let up = self.order.table.is_up(grip.slip().device);
+        let died = grip.told().died();
+        if up != died {
+            Ok(self.find_same(grip))
+        } else if died {
+            Ok(self.find_dead(grip))
+        } else {
+            Ok(self.find_back(grip))
+        }
     }
 
     /// Whether a probe of the device may go out: it is home, and a probe of it is left.
@@ -72,7 +80,7 @@ impl<D: Device> OpenWindow<D> {
         let known = self.away.known(d);
         let sent = DeviceProgress {
             probes_left: known.probes_left - 1,
-            purpose: Purpose::Probe(value),
+            purpose: Purpose::Probes(value),
             ..known
         };
         self.away.send(d, 0, sent, Task::Probe(value))
@@ -91,24 +99,6 @@ impl<D: Device> OpenWindow<D> {
             Some(self.away.known(d).held)
         } else {
             Some(self.order.table.stand(d))
-        }
-    }
-
-    /// A probe comes home.
-    fn end_probe(&mut self, grip: Grip<D, Done>) -> Made
-        requires kept { IsKept self.old.places grip.slip grip.task }
-        requires maker { grip.slip.maker ≡ 0 }
-        ensures given { IsProbeGiven self.old grip (Ok result) self.new }
-        ensures window { SameWindow self.old self.new }
-    {
-        let up = self.order.table.is_up(grip.slip().device);
-        let died = grip.told().died();
-        if up != died {
-            self.find_same(grip)
-        } else if died {
-            self.find_dead(grip)
-        } else {
-            self.find_back(grip)
         }
     }
 

@@ -33,10 +33,10 @@ impl<D: Device> Home<D> {
     pub fn restand(&mut self, d: DeviceNo, device: D, value: Value)
         requires there { d.0 < length self.old.devices }
         requires value { IsTrue (has_value (kind_at self.old.kinds d.0) value) }
-        requires stands { D.stands device ≡ value }
-        requires tag { D.tag device ≡ d.0 }
-        requires counts { CountsAreLow self.old.opened (D.turns device) (D.probes device)
-            (D.faults device) }
+        requires stands { (D.shows device).stands ≡ value }
+        requires tag { (D.shows device).tag ≡ d.0 }
+        requires counts { CountsAreLow self.old.opened (D.shows device).turns
+            (D.shows device).probes (D.shows device).faults }
         ensures { self.new ≡ restood self.old d.0 device value }
     {
         self.world

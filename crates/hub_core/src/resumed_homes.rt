@@ -37,11 +37,10 @@ impl<D: Device> Home<D> {
         ensures opened { IfOk result (λ home. home.opened ≡ 0) }
         ensures world { IfOk result (λ home. IsStateResumed world.now.devices.items home.world) }
         // With them begins the day behind so many windows, as many as one likes.
-        ensures devices { (k : ℕ) → IfOk result (λ home.
-            AreLeftFrom D.tag D.plan D.stands D.turns D.faults
+        ensures devices { (k : ℕ) → IfOk result (λ home. AreLeftFrom D.shows
             (resumed_day script.now k world.now.devices.items home.world) [] home.devices) }
-        ensures unprobed { IfOk result (λ home. (d : ℕ) (device : D)
-            → slice_get home.devices d ≡ Some device → D.probes device ≡ 0) }
+        ensures unprobed { IfOk result (λ home. (d : ℕ) (device : D) → slice_get home.devices d
+            ≡ Some device → (D.shows device).probes ≡ 0) }
     {
         let (devices, world) = resume_devices(alloc, script, world, bench)?;
         let kinds = script_kinds(alloc, script)?;
@@ -64,10 +63,9 @@ fn resume_devices<B: Bench>(
 ) -> Result<(List<B::Dev>, World), NoMemory>
     requires few { length script.now.devices.items ≤ most_devices }
     requires size { length world.now.devices.items ≡ length script.now.devices.items }
-    ensures { IfOk result (λ resumed.
-        AreResumed B.Dev.tag B.Dev.plan B.Dev.stands B.Dev.turns B.Dev.probes B.Dev.faults
-        script.now.devices.items world.now.devices.items (length script.now.devices.items)
-        resumed.1.devices.items resumed.0.items) }
+    ensures { IfOk result
+        (λ resumed. AreResumed B.Dev.shows script.now.devices.items world.now.devices.items
+        (length script.now.devices.items) resumed.1.devices.items resumed.0.items) }
 {
     let stood = world.devices.as_slice();
     let mut devices = List::new(alloc);
@@ -90,9 +88,8 @@ fn resume_device<B: Bench>(
     stood: Stand,
     bench: &mut B,
 ) -> Result<(B::Dev, Stand), NoMemory>
-    ensures { IfOk result (λ resumed.
-        IsDeviceResumed B.Dev.tag B.Dev.plan B.Dev.stands B.Dev.turns B.Dev.probes B.Dev.faults
-        text.now number.0 stood resumed.1 resumed.0) }
+    ensures { IfOk result
+        (λ resumed. IsDeviceResumed B.Dev.shows text.now number.0 stood resumed.1 resumed.0) }
 {
     let mut device = bench.build(alloc, number, text.start, text.downs.as_slice())?;
     if !stood.up {

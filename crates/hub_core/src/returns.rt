@@ -7,17 +7,16 @@ ghost use Rattle.lock_leasing.specs.Configurations.{is_undo};
 ghost use Rattle.lock_leasing.specs.Tables.{view_when};
 ghost use Rattle.hub_core.specs.HubCalls.{IsGiven, SameWindow};
 ghost use Rattle.hub_core.specs.OpenHubs.{progress_at};
-ghost use Rattle.window_order.specs.KeptOrders.{purpose_of};
 
 use crate::causes::{died_by, refuted};
 use crate::changes::{doom_for, note_answer, one_made};
-use crate::failures::{first_death, note_fall};
+use crate::failures::note_fall;
 use crate::open_windows::OpenWindow;
 use device_gate::{Done, Grip};
 use device_states::Device;
 use history_book::{Entry, Made};
 use home_types::{Answer, RunNo, View};
-use window_order::Purpose;
+use lock_leasing::Purpose;
 
 impl<D: Device> OpenWindow<D> {
     /// The device of a run's grip comes home.
@@ -28,33 +27,25 @@ impl<D: Device> OpenWindow<D> {
         ensures given { IsGiven self.old grip moment (Ok result) self.new }
         ensures window { SameWindow self.old self.new }
     {
+        let died = grip.told().died();
+        // But for a command's answer the entries are taken apart, so that those of a call that
+        // worked need no place in memory.
         match self.away.known(grip.slip().device).purpose {
-            Purpose::Command(k) => self.answer(grip, moment, k),
-            Purpose::Undo(_) => {
-                let Made { a, b, c } = self.undo(grip, moment);
+            Purpose::Commands(k) if died => {
+                let Made { a, b, c } = self.answer_died(grip, moment, k);
+                Made { a, b, c }
+            }
+            Purpose::Commands(k) => self.answer_lived(grip, moment, k),
+            Purpose::Undoes(_) if died => {
+                let Made { a, b, c } = self.undo_died(grip, moment);
+                Made { a, b, c }
+            }
+            Purpose::Undoes(_) => {
+                let Made { a, b, c } = self.undo_lived(grip, moment);
                 Made { a, b, c }
             }
             // The detector's grip is no run's.
-            Purpose::Probe(_) => unreachable!(),
-        }
-    }
-
-    /// The device of the run's command with the number `k` comes home.
-    #[inline(always)]
-    fn answer(&mut self, grip: Grip<D, Done>, moment: u64, k: u32) -> Made
-        requires kept { IsKept self.old.places grip.slip grip.task }
-        requires maker { 0 < grip.slip.maker }
-        requires purpose { (progress_at self.old.devices grip.slip.device.0).purpose
-            ≡ Purpose.Command k }
-        ensures given { IsGiven self.old grip moment (Ok result) self.new }
-        ensures window { SameWindow self.old self.new }
-    {
-        if grip.told().died() {
-            // Taken apart, so that the entries of a call that worked need no place in memory.
-            let Made { a, b, c } = self.answer_died(grip, moment, k);
-            Made { a, b, c }
-        } else {
-            self.answer_lived(grip, moment, k)
+            Purpose::Probes(_) => unreachable!(),
         }
     }
 
@@ -65,7 +56,7 @@ impl<D: Device> OpenWindow<D> {
         requires kept { IsKept self.old.places grip.slip grip.task }
         requires maker { 0 < grip.slip.maker }
         requires purpose { (progress_at self.old.devices grip.slip.device.0).purpose
-            ≡ Purpose.Command k }
+            ≡ Purpose.Commands k }
         requires lives { has_died grip.stage.told ≡ false }
         ensures given { IsGiven self.old grip moment (Ok result) self.new }
         ensures window { SameWindow self.old self.new }
@@ -94,7 +85,7 @@ impl<D: Device> OpenWindow<D> {
         requires kept { IsKept self.old.places grip.slip grip.task }
         requires maker { 0 < grip.slip.maker }
         requires purpose { (progress_at self.old.devices grip.slip.device.0).purpose
-            ≡ Purpose.Command k }
+            ≡ Purpose.Commands k }
         requires died { has_died grip.stage.told ≡ true }
         ensures given { IsGiven self.old grip moment (Ok result) self.new }
         ensures window { SameWindow self.old self.new }
@@ -112,7 +103,7 @@ impl<D: Device> OpenWindow<D> {
             slip.maker,
             d,
             came.events.fell,
-            first_death(r, first),
+            first.then_some(r),
         );
         let entry = Entry::Did(r, k, Answer::Down);
         self.history.push(r.0, entry);
@@ -133,28 +124,12 @@ impl<D: Device> OpenWindow<D> {
         }
     }
 
-    /// The device on which a run is undone comes home.
-    fn undo(&mut self, grip: Grip<D, Done>, moment: u64) -> Made
-        requires kept { IsKept self.old.places grip.slip grip.task }
-        requires maker { 0 < grip.slip.maker }
-        requires purpose { is_undo
-            (purpose_of (progress_at self.old.devices grip.slip.device.0).purpose) ≡ true }
-        ensures given { IsGiven self.old grip moment (Ok result) self.new }
-        ensures window { SameWindow self.old self.new }
-    {
-        if grip.told().died() {
-            self.undo_died(grip, moment)
-        } else {
-            self.undo_lived(grip, moment)
-        }
-    }
-
     /// The drive that undoes a run's write worked.
     fn undo_lived(&mut self, grip: Grip<D, Done>, moment: u64) -> Made
         requires kept { IsKept self.old.places grip.slip grip.task }
         requires maker { 0 < grip.slip.maker }
         requires purpose { is_undo
-            (purpose_of (progress_at self.old.devices grip.slip.device.0).purpose) ≡ true }
+            (progress_at self.old.devices grip.slip.device.0).purpose ≡ true }
         requires lives { has_died grip.stage.told ≡ false }
         ensures given { IsGiven self.old grip moment (Ok result) self.new }
         ensures window { SameWindow self.old self.new }
@@ -172,7 +147,7 @@ impl<D: Device> OpenWindow<D> {
         requires kept { IsKept self.old.places grip.slip grip.task }
         requires maker { 0 < grip.slip.maker }
         requires purpose { is_undo
-            (purpose_of (progress_at self.old.devices grip.slip.device.0).purpose) ≡ true }
+            (progress_at self.old.devices grip.slip.device.0).purpose ≡ true }
         requires died { has_died grip.stage.told ≡ true }
         ensures given { IsGiven self.old grip moment (Ok result) self.new }
         ensures window { SameWindow self.old self.new }

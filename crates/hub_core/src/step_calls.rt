@@ -12,12 +12,12 @@ ghost use Rattle.hub_core.specs.PlannedPlaces.{HasSameRoom, HoldsChosen};
 ghost use Rattle.hub_core.specs.Steps.{choice_of};
 ghost use Rattle.lock_leasing.specs.Configurations.{read_of};
 
-use crate::blocked_runs::BlockedRuns;
 use crate::decisions::Chosen;
 use crate::freed_runs::{free_back, free_going, free_made, free_weakly, mark_waiting};
 use crate::hubs::Hub;
 use crate::open_windows::OpenWindow;
 use crate::turns::Turn;
+use blocked_runs::BlockedRuns;
 use device_gate::{Done, Grip, Ready, Stranger};
 use device_states::Device;
 use history_book::Made;
@@ -173,7 +173,7 @@ fn make_step<D: Device>(
     ensures turn { IsTurn window.old r.0 moment result window.new }
     ensures window { SameWindow window.old window.new }
     ensures size { HasSameRoom scratch.old scratch.new }
-    ensures kept { HubIsKept D.stands D.turns D.probes D.faults window.new }
+    ensures kept { HubIsKept D.shows window.new }
     ensures marks { AreBlocked (configuration_of window.new) blocked.new }
 {
     window.whole();

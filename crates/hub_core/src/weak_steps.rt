@@ -9,7 +9,7 @@ ghost use Rattle.hub_core.specs.HubCalls.{Answers, IsPacked, SameWindow};
 ghost use Rattle.hub_core.specs.OpenHubs.{configuration_of};
 ghost use Rattle.hub_core.specs.Steps.{Moves, choice_of};
 ghost use Rattle.hub_core.specs.WeakSteps.{weak_rest};
-ghost use Rattle.lock_leasing.specs.Configurations.{read_of};
+ghost use Rattle.lock_leasing.specs.Configurations.{point_of, read_of};
 
 use crate::changes::one_made;
 use crate::decisions::Chosen;
@@ -18,7 +18,7 @@ use crate::waits::Why;
 use device_states::Device;
 use history_book::{Entry, Made, RunProgress};
 use home_types::{Item, RunNo};
-use window_order::Purpose;
+use lock_leasing::Purpose;
 
 impl<D: Device> OpenWindow<D> {
     /// What the run is to do, which is placed and has not ended: it ends at once where it is
@@ -27,8 +27,8 @@ impl<D: Device> OpenWindow<D> {
     pub(crate) fn decide_weakly(&self, r: RunNo, progress: RunProgress) -> Chosen
         requires run { is_run self.now.setting.runs r.0 ≡ true }
         requires known { progress ≡ progress_of ((read_of (configuration_of self.now)).run r.0) }
-        ensures { (m : ℕ) → told_choice r.0 m result ≡ weak_rest self.now.setting
-            (read_of (configuration_of self.now)) (configuration_of self.now).grips r.0 }
+        ensures { (m : ℕ) → told_choice r.0 m result
+            ≡ weak_rest (point_of (configuration_of self.now)) r.0 }
     {
         if let Some(cause) = progress.doomed {
             return Chosen::Aborts(cause);
@@ -45,7 +45,7 @@ impl<D: Device> OpenWindow<D> {
             return Chosen::Waits(Why::Busy(d));
         }
         if self.order.table.is_up(d) {
-            Chosen::HandsOut(d, Purpose::Command(k))
+            Chosen::HandsOut(d, Purpose::Commands(k))
         } else {
             Chosen::AnswersDown(k, command.must)
         }

@@ -80,8 +80,8 @@ impl<D: Device> Table<D> {
         rounds: u32,
     ) -> Result<Table<D>, (Home<D>, NoMemory)>
         requires may { MayOpen (setting_for home roster mode) rounds home.opened }
-        ensures opened { IfOk result (λ table. IsOpened D.turns D.probes D.faults
-            (setting_for home roster mode) rounds home table) }
+        ensures opened { IfOk result
+            (λ table. IsOpened D.shows (setting_for home roster mode) rounds home table) }
         ensures refused { IfErr result (λ refused. refused.0 ≡ home) }
     {
         home.kept();
@@ -106,8 +106,7 @@ impl<D: Device> Table<D> {
     ///
     /// Refused where something is left to do: the table comes back as it is. Takes no memory.
     pub fn close(self) -> Result<(Home<D>, WindowRecord), (Table<D>, NotQuiet)>
-        ensures closed { IfOk result
-            (λ closed. WindowIsClosed D.turns D.probes D.faults self closed.0 closed.1) }
+        ensures closed { IfOk result (λ closed. WindowIsClosed D.shows self closed.0 closed.1) }
         ensures sealed { IfOk result (λ closed. is_weak self.setting.mode ≡ false
             → BeginsWithSealed self.setting (history_of closed.1) closed.1.order.items) }
         ensures quiet { IfOk result (λ closed. not_quiet (configuration_of self) ≡ None) }

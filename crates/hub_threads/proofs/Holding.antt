@@ -1,12 +1,13 @@
 -- What is kept of what lies under the lock, after each step of the hub.
 use Rattle.device_gate.specs.Grips.{Gripped}
+use Rattle.device_states.specs.Devices.{Shown}
 use Rattle.grip_seats.specs.Desks.{DeskName, DeskState}
 use Rattle.device_gate.specs.declared.grips.Done.{Done}
 use Rattle.device_gate.specs.declared.grips.Ready.{Ready}
 use Rattle.history_book.specs.declared.entries.Entry.{Entry}
 use Rattle.history_book.specs.declared.entries.Made.{Made}
 use Rattle.hub_core.proofs.waiting.Sleepers.{sleepers_later}
-use Rattle.hub_core.specs.BlockedMarks.{has_run}
+use Rattle.blocked_runs.specs.RunBits.{has_run}
 use Rattle.hub_core.specs.HubCalls.{IsGiven, IsProbeGiven, IsProbed, IsTurn, SameWindow}
 use Rattle.hub_core.specs.OpenHubs.{OpenHub, configuration_of}
 use Rattle.hub_core.specs.Steps.{Absent as IsAbsent, Waits}
@@ -17,7 +18,7 @@ use Rattle.hub_threads.proofs.Named.{given_named, probe_given_named, probed_name
 use Rattle.hub_threads.proofs.Passes.{given_out, probe_given_out, probe_out, turn_out}
 use Rattle.hub_threads.specs.Holding.{IsHeld}
 use Rattle.hub_threads.specs.Named.{HasPlan, is_idle, turn_entries}
-use Rattle.hub_threads.specs.Names.{IsWithin, NamedWindow, Plan}
+use Rattle.hub_threads.specs.Names.{IsWithin, NamedWindow}
 use Rattle.hub_threads.specs.Passes.{Lent, out_after}
 use Rattle.hub_threads.specs.Sleepers.{SleepersAreBlocked}
 use Rattle.lock_leasing.specs.Configurations.{Configuration}
@@ -30,13 +31,13 @@ counted_more : {D : Type 0} (s t : OpenHub D) (maker moment told now : ℕ) (ent
 counted_more s t maker moment told now entries counted is adds = is ∙ ap (λ n. n + length entries) counted ∙ sym (more_entries s.history maker entries) ∙ sym (ap length adds.history)
 
 -- a step of a run
-pub turn_held : {D : Type 0} (plan : D → Plan) (window : NamedWindow) (name : DeskName) (s t : OpenHub D) (r m : ℕ) (turn : Turn D) (told now asleep left : ℕ) (desk desk_now : DeskState Lent)
-    → IsHeld plan window name s told asleep desk → IsTurn s r m turn t → SameWindow s t → IsWithin window m → now ≡ told + turn_entries turn
+pub turn_held : {D : Type 0} (shows : D → Shown) (window : NamedWindow) (name : DeskName) (s t : OpenHub D) (r m : ℕ) (turn : Turn D) (told now asleep left : ℕ) (desk desk_now : DeskState Lent)
+    → IsHeld shows window name s told asleep desk → IsTurn s r m turn t → SameWindow s t → IsWithin window m → now ≡ told + turn_entries turn
     → SleepersAreBlocked (configuration_of t) left → desk_now.name ≡ desk.name → desk_now.out ≡ out_after desk.out turn
-    → IsHeld plan window name t now left desk_now
-turn_held plan window name s t r m turn told now asleep left desk desk_now held is same early more are named goes = record {
+    → IsHeld shows window name t now left desk_now
+turn_held shows window name s t r m turn told now asleep left desk desk_now held is same early more are named goes = record {
   counted = counted_more s t r _ told now _ held.counted more (turn_adds s t r m turn is);
-  named = turn_named plan window s t r m turn held.named is same early;
+  named = turn_named shows window s t r m turn held.named is same early;
   sleepers = are;
   desk_is = named ∙ held.desk_is;
   out = goes ∙ ap (λ o. out_after o turn) held.out ∙ sym (turn_out s t r m turn is);
@@ -51,38 +52,38 @@ idle_sleepers s t r m (Over end made) asleep is idle are = absurd (cc)
 idle_sleepers s t r m Absent asleep is idle are = subst (λ (x : Configuration). SleepersAreBlocked x asleep) (sym (took s t r m some_slip IsAbsent (is.0.step some_slip))) (sleepers_later (configuration_of s) m (has_run asleep) are)
 
 -- a grip that comes back
-pub given_held : {D : Type 0} (plan : D → Plan) (window : NamedWindow) (name : DeskName) (s t : OpenHub D) (grip : Gripped D Done) (m : ℕ) (made : Made) (told now asleep left : ℕ) (desk desk_now : DeskState Lent)
-    → IsHeld plan window name s told asleep desk → IsGiven s grip m (Ok made) t → SameWindow s t → HasPlan plan window.plans grip → IsWithin window m
+pub given_held : {D : Type 0} (shows : D → Shown) (window : NamedWindow) (name : DeskName) (s t : OpenHub D) (grip : Gripped D Done) (m : ℕ) (made : Made) (told now asleep left : ℕ) (desk desk_now : DeskState Lent)
+    → IsHeld shows window name s told asleep desk → IsGiven s grip m (Ok made) t → SameWindow s t → HasPlan shows window.plans grip → IsWithin window m
     → now ≡ told + length (entries_made made) → SleepersAreBlocked (configuration_of t) left → desk_now.name ≡ desk.name
-    → desk_now.out ≡ slice_set desk.out grip.slip.device.0 None → IsHeld plan window name t now left desk_now
-given_held plan window name s t grip m made told now asleep left desk desk_now held is same own early more are named comes = record {
+    → desk_now.out ≡ slice_set desk.out grip.slip.device.0 None → IsHeld shows window name t now left desk_now
+given_held shows window name s t grip m made told now asleep left desk desk_now held is same own early more are named comes = record {
   counted = counted_more s t grip.slip.maker _ told now _ held.counted more (given_adds s t grip m made is);
-  named = given_named plan window s t grip m made held.named is same own early;
+  named = given_named shows window s t grip m made held.named is same own early;
   sleepers = are;
   desk_is = named ∙ held.desk_is;
   out = comes ∙ ap (λ o. slice_set o grip.slip.device.0 None) held.out ∙ sym (given_out s t grip m made is);
 }
 
 -- a probe that goes out
-pub probed_held : {D : Type 0} (plan : D → Plan) (window : NamedWindow) (name : DeskName) (s t : OpenHub D) (d : ℕ) (grip : Gripped D Ready) (told asleep left : ℕ) (desk desk_now : DeskState Lent)
-    → IsHeld plan window name s told asleep desk → IsProbed s d (Some grip) t → SameWindow s t → SleepersAreBlocked (configuration_of t) left → desk_now.name
-    ≡ desk.name → desk_now.out ≡ slice_set desk.out grip.slip.device.0 (Some (grip.slip, grip.task)) → IsHeld plan window name t told left desk_now
-probed_held plan window name s t d grip told asleep left desk desk_now held is same are named goes = record {
+pub probed_held : {D : Type 0} (shows : D → Shown) (window : NamedWindow) (name : DeskName) (s t : OpenHub D) (d : ℕ) (grip : Gripped D Ready) (told asleep left : ℕ) (desk desk_now : DeskState Lent)
+    → IsHeld shows window name s told asleep desk → IsProbed s d (Some grip) t → SameWindow s t → SleepersAreBlocked (configuration_of t) left → desk_now.name
+    ≡ desk.name → desk_now.out ≡ slice_set desk.out grip.slip.device.0 (Some (grip.slip, grip.task)) → IsHeld shows window name t told left desk_now
+probed_held shows window name s t d grip told asleep left desk desk_now held is same are named goes = record {
   counted = held.counted ∙ sym (ap length (probed_adds s t d (Some grip) is).0);
-  named = probed_named plan window s t d (Some grip) held.named is same;
+  named = probed_named shows window s t d (Some grip) held.named is same;
   sleepers = are;
   desk_is = named ∙ held.desk_is;
   out = goes ∙ ap (λ o. slice_set o grip.slip.device.0 (Some (grip.slip, grip.task))) held.out ∙ sym (probe_out s t d grip is);
 }
 
 -- the detector's grip that comes back
-pub probe_given_held : {D : Type 0} (plan : D → Plan) (window : NamedWindow) (name : DeskName) (s t : OpenHub D) (grip : Gripped D Done) (made : Made) (told now asleep left : ℕ) (desk desk_now : DeskState Lent)
-    → IsHeld plan window name s told asleep desk → IsProbeGiven s grip (Ok made) t → SameWindow s t → HasPlan plan window.plans grip
+pub probe_given_held : {D : Type 0} (shows : D → Shown) (window : NamedWindow) (name : DeskName) (s t : OpenHub D) (grip : Gripped D Done) (made : Made) (told now asleep left : ℕ) (desk desk_now : DeskState Lent)
+    → IsHeld shows window name s told asleep desk → IsProbeGiven s grip (Ok made) t → SameWindow s t → HasPlan shows window.plans grip
     → now ≡ told + length (entries_made made) → SleepersAreBlocked (configuration_of t) left → desk_now.name ≡ desk.name
-    → desk_now.out ≡ slice_set desk.out grip.slip.device.0 None → IsHeld plan window name t now left desk_now
-probe_given_held plan window name s t grip made told now asleep left desk desk_now held is same own more are named comes = record {
+    → desk_now.out ≡ slice_set desk.out grip.slip.device.0 None → IsHeld shows window name t now left desk_now
+probe_given_held shows window name s t grip made told now asleep left desk desk_now held is same own more are named comes = record {
   counted = counted_more s t 0 _ told now _ held.counted more (probe_given_adds s t grip made is);
-  named = probe_given_named plan window s t grip made held.named is same own;
+  named = probe_given_named shows window s t grip made held.named is same own;
   sleepers = are;
   desk_is = named ∙ held.desk_is;
   out = comes ∙ ap (λ o. slice_set o grip.slip.device.0 None) held.out ∙ sym (probe_given_out s t grip made is);

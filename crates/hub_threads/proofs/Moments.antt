@@ -27,7 +27,9 @@ use Rattle.hub_core.specs.declared.turns.Turn.{Turn}
 use Rattle.hub_threads.proofs.Added.{chosen_entries, given_entries_are, probe_given_entries_are, some_slip}
 use Rattle.hub_threads.specs.Moments.{AreWithin, TellsWithin, moment_told}
 use Rattle.hub_threads.specs.Named.{entries_told}
-use Rattle.lock_leasing.specs.Configurations.{Commands, Configuration, Grip, Probes, Purpose, Undoes, read_of}
+use Rattle.lock_leasing.specs.Configurations.{Configuration, Grip, read_of}
+use Rattle.lock_leasing.specs.declared.purposes.Purpose.TheVariants.{Commands, Probes, Undoes}
+use Rattle.lock_leasing.specs.declared.purposes.Purpose.{Purpose}
 use Rattle.lock_leasing.specs.Waits.{lost_by}
 use Rattle.lock_leasing.specs.Words.{lease_deadline}
 use Rattle.std.proofs.Common.{arith, refl, subst, sym}

@@ -3,8 +3,8 @@ use Rattle.device_gate.specs.declared.gates.Place.TheVariants.{Home, Out}
 use Rattle.device_gate.specs.declared.gates.Place.{Place}
 use Rattle.device_gate.specs.declared.slips.Slip.{Slip}
 use Rattle.device_gate.specs.declared.slips.Task.{Task}
+use Rattle.device_states.specs.Devices.{Plan, Shown}
 use Rattle.hub_threads.specs.Named.{PlacesHavePlans}
-use Rattle.hub_threads.specs.Names.{Plan}
 use Rattle.std.proofs.Common.{ap, inl, inr, refl, sym, ◌∙◌}
 use Rattle.std.specs.Prelude.{List, Some, [], slice_get, slice_set, suc, zero, ℕ, ◌∷◌, ◌≡◌, ◌⊎◌}
 
@@ -26,15 +26,15 @@ never_home : {D : Type 0} (slip : Slip) (task : Task) (device : D) → Out slip 
 never_home slip task device same = cc
 
 -- a device goes out
-pub plans_out : {D : Type 0} (plan : D → Plan) (plans : ℕ → Plan) (places : List (Place D)) (d : ℕ) (slip : Slip) (task : Task) → PlacesHavePlans plan plans places → PlacesHavePlans plan plans (slice_set places d (Out slip task))
-plans_out plan plans places d slip task have e device home = elim (there_or places d e (Out slip task) (Home device) home) [
+pub plans_out : {D : Type 0} (shows : D → Shown) (plans : ℕ → Plan) (places : List (Place D)) (d : ℕ) (slip : Slip) (task : Task) → PlacesHavePlans shows plans places → PlacesHavePlans shows plans (slice_set places d (Out slip task))
+plans_out shows plans places d slip task have e device home = elim (there_or places d e (Out slip task) (Home device) home) [
   | inl p ↦ absurd (never_home slip task device p.1)
   | inr there ↦ have e device there
 ]
 
 -- a device that has the plan of its place comes home
-pub plans_home : {D : Type 0} (plan : D → Plan) (plans : ℕ → Plan) (places : List (Place D)) (d : ℕ) (back : D) → PlacesHavePlans plan plans places → plan back ≡ plans d → PlacesHavePlans plan plans (slice_set places d (Home back))
-plans_home plan plans places d back have own e device home = elim (there_or places d e (Home back) (Home device) home) [
-  | inl p ↦ ap plan (sym (one_home back device p.1)) ∙ own ∙ ap plans (sym p.0)
+pub plans_home : {D : Type 0} (shows : D → Shown) (plans : ℕ → Plan) (places : List (Place D)) (d : ℕ) (back : D) → PlacesHavePlans shows plans places → (shows back).plan ≡ plans d → PlacesHavePlans shows plans (slice_set places d (Home back))
+plans_home shows plans places d back have own e device home = elim (there_or places d e (Home back) (Home device) home) [
+  | inl p ↦ ap (λ device. (shows device).plan) (sym (one_home back device p.1)) ∙ own ∙ ap plans (sym p.0)
   | inr there ↦ have e device there
 ]

@@ -1,15 +1,12 @@
 -- What the name of a window says.
+use Rattle.device_states.specs.Devices.{Plan}
 use Rattle.history_book.specs.Settings.{Setting}
 use Rattle.home_types.specs.Numbers.{DeviceId, Moment}
 use Rattle.home_types.specs.declared.modes.Scheduler.TheVariants.{Fcfs}
 use Rattle.home_types.specs.declared.modes.Visibility.TheVariants.{Weak}
 use Rattle.hub_core.specs.OpenHubs.{no_counts}
 use Rattle.hub_core.specs.declared.known.DeviceCallCounts.{DeviceCallCounts}
-use Rattle.std.specs.Prelude.{List, None, Option, [], ℕ, ◌≡◌, ◌≤◌}
-
--- a device's plan, where it tells one
-abbrev pub Plan : Type 0
-Plan = Option (List (ℕ × ℕ))
+use Rattle.std.specs.Prelude.{None, [], ℕ, ◌≡◌, ◌≤◌}
 
 -- what the hub of a window keeps from its opening on, and between which moments it is worked
 pub record NamedWindow : Type 0 where

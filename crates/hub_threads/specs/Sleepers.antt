@@ -3,7 +3,7 @@ use Rattle.history_book.specs.declared.entries.Entry.TheVariants.{Arrived, Did, 
 use Rattle.history_book.specs.declared.entries.Entry.{Entry}
 use Rattle.history_book.specs.declared.entries.Made.{Made}
 use Rattle.home_types.specs.Numbers.{RunId}
-use Rattle.hub_core.specs.BlockedMarks.{has_run}
+use Rattle.blocked_runs.specs.RunBits.{has_run}
 use Rattle.hub_core.specs.BlockedRuns.{IsBlocked}
 use Rattle.hub_core.specs.declared.waits.Why.TheVariants.{Behind, Busy, Denied, Dirty, Follow, Strict}
 use Rattle.hub_core.specs.declared.waits.Why.{Why}

@@ -61,14 +61,15 @@ pub trait Steps<D: Device, N: Name, G: DoneGrip<D>>: Drop {
         requires moment { IsWithin N.window moment }
         ensures told { share.new.amount ≡ share.old.amount + turn_entries result.0 }
         ensures parts { share.new.parts ≡ share.old.parts }
-        ensures plan { TurnHasPlan D.plan N.window.plans result.0 }
+        ensures plan { TurnHasPlan D.shows N.window.plans result.0 }
         ensures pass { GoesWith (IsRunsPass N.desk) result.0 result.1 };
 
     /// The step back of a run's grip.
     fn give(&mut self, share: &mut Share<N>, grip: G, pass: Pass<Lent>, moment: u64) -> Made
         requires share { 0 < share.old.parts }
         requires moment { IsWithin N.window moment }
-        requires plan { D.plan (G.device grip) ≡ N.window.plans (G.carried grip).slip.device.0 }
+        requires plan { (D.shows (G.device grip)).plan
+            ≡ N.window.plans (G.carried grip).slip.device.0 }
         requires pass { IsRunsPass N.desk (G.carried grip) pass }
         ensures told { share.new.amount ≡ share.old.amount + length (entries_made result) }
         ensures parts { share.new.parts ≡ share.old.parts };
@@ -82,14 +83,15 @@ pub trait Steps<D: Device, N: Name, G: DoneGrip<D>>: Drop {
         requires share { 0 < share.old.parts }
         ensures told { share.new.amount ≡ share.old.amount }
         ensures parts { share.new.parts ≡ share.old.parts }
-        ensures plan { IfSome result (λ probe. HasPlan D.plan N.window.plans probe.0) }
+        ensures plan { IfSome result (λ probe. HasPlan D.shows N.window.plans probe.0) }
         ensures pass { IfSome result (λ probe.
             IsDetectorsPass N.desk (carried_by probe.0) probe.1) };
 
     /// The step back of the detector's grip.
     fn give_probe(&mut self, share: &mut Share<N>, grip: G, pass: Pass<Lent>) -> Made
         requires share { 0 < share.old.parts }
-        requires plan { D.plan (G.device grip) ≡ N.window.plans (G.carried grip).slip.device.0 }
+        requires plan { (D.shows (G.device grip)).plan
+            ≡ N.window.plans (G.carried grip).slip.device.0 }
         requires pass { IsDetectorsPass N.desk (G.carried grip) pass }
         ensures told { share.new.amount ≡ share.old.amount + length (entries_made result) }
         ensures parts { share.new.parts ≡ share.old.parts };
@@ -128,8 +130,8 @@ impl<D: Device, N: Name> Model for Held<D, N> {
 
     ghost view = { λ h. h.hub };
 
-    ghost invariant = { λ h.
-        IsHeld D.plan N.window N.desk h.hub h.book.total h.sleepers.blocked h.desk };
+    ghost invariant = { λ h. IsHeld D.shows N.window N.desk h.hub h.book.total
+        h.sleepers.blocked h.desk };
 }
 
 impl<D: Device, N: Name> Steps<D, N, Grip<D, Done>> for Held<D, N> {
@@ -142,7 +144,7 @@ impl<D: Device, N: Name> Steps<D, N, Grip<D, Done>> for Held<D, N> {
             ≡ self.old.history ++ kept_by r.0 (entries_told result.0) }
         ensures told { share.new.amount ≡ share.old.amount + turn_entries result.0 }
         ensures parts { share.new.parts ≡ share.old.parts }
-        ensures plan { TurnHasPlan D.plan N.window.plans result.0 }
+        ensures plan { TurnHasPlan D.shows N.window.plans result.0 }
         ensures pass { GoesWith (IsRunsPass N.desk) result.0 result.1 }
     {
         let Held {
@@ -170,7 +172,7 @@ impl<D: Device, N: Name> Steps<D, N, Grip<D, Done>> for Held<D, N> {
     ) -> Made
         requires share { 0 < share.old.parts }
         requires moment { IsWithin N.window moment }
-        requires plan { HasPlan D.plan N.window.plans grip }
+        requires plan { HasPlan D.shows N.window.plans grip }
         requires pass { IsRunsPass N.desk (carried_by grip) pass }
         ensures given { IsGiven self.old grip moment (Ok result) self.new }
         ensures window { SameWindow self.old self.new }
@@ -206,7 +208,7 @@ impl<D: Device, N: Name> Steps<D, N, Grip<D, Done>> for Held<D, N> {
         ensures appended { self.new.history ≡ self.old.history }
         ensures told { share.new.amount ≡ share.old.amount }
         ensures parts { share.new.parts ≡ share.old.parts }
-        ensures plan { IfSome result (λ probe. HasPlan D.plan N.window.plans probe.0) }
+        ensures plan { IfSome result (λ probe. HasPlan D.shows N.window.plans probe.0) }
         ensures pass { IfSome result (λ probe.
             IsDetectorsPass N.desk (carried_by probe.0) probe.1) }
     {
@@ -225,7 +227,7 @@ impl<D: Device, N: Name> Steps<D, N, Grip<D, Done>> for Held<D, N> {
 
     fn give_probe(&mut self, share: &mut Share<N>, grip: Grip<D, Done>, pass: Pass<Lent>) -> Made
         requires share { 0 < share.old.parts }
-        requires plan { HasPlan D.plan N.window.plans grip }
+        requires plan { HasPlan D.shows N.window.plans grip }
         requires pass { IsDetectorsPass N.desk (carried_by grip) pass }
         ensures given { IsProbeGiven self.old grip (Ok result) self.new }
         ensures window { SameWindow self.old self.new }
@@ -287,7 +289,7 @@ impl<D: Device, N: Name> Steps<D, N, Grip<D, Done>> for Held<D, N> {
 impl<D: Device, N: Name> Held<D, N> {
     /// Nobody sleeps yet.
     pub fn new(hub: Hub<D>, book: Book<N>, desk: Desk<Lent>) -> Held<D, N>
-        requires named { IsNamed D.plan N.window hub }
+        requires named { IsNamed D.shows N.window hub }
         requires counted { book.total ≡ length hub.history }
         requires desk { desk.name ≡ N.desk }
         requires out { desk.out ≡ what_is_out hub.places }
@@ -305,7 +307,7 @@ impl<D: Device, N: Name> Held<D, N> {
     pub fn ended(self, all: &mut Share<N>) -> Hub<D>
         requires { all.old.parts ≡ N.parts }
         ensures hub { result ≡ self }
-        ensures named { IsNamed D.plan N.window result }
+        ensures named { IsNamed D.shows N.window result }
         ensures counted { length result.history ≡ all.new.amount }
     {
         let Held {

@@ -45,18 +45,16 @@ pub fn run_kept_window<R: Threads + Wait + Sync, D: Device + Send, C: Clock + Sy
         → (configuration_of hub).probes d ≡ rounds }
     requires kinds { journal.kinds ≡ hub.setting.kinds }
     requires next { journal.kept < journal.most }
-    ensures worked { IfOk result (λ done.
-        IsWorked D.tag D.plan D.turns D.probes D.faults (C.earliest clock.now) (C.latest clock.now)
-        hub done.0 done.1) }
+    ensures worked { IfOk result
+        (λ done. IsWorked D.shows (C.earliest clock.now) (C.latest clock.now) hub done.0 done.1) }
     ensures last { IfOk result (λ done. KeepsOneMore journal done.2 done.1.last.devices.items) }
     ensures kept { Q.told ≡ true → IfOk result (λ done. AddsStates (states_kept Q.seen journal)
         (states_kept Q.seen done.2) (done.1.last.devices.items ∷ [])) }
     // A crash at any moment of the call leaves what was kept, with the new state or without.
     ensures any_moment { Q.told ≡ true → IfOk result (λ done. LeavesFirst Q.seen Q.moment
         Q.images_since journal done.2.disk (done.1.last.devices.items ∷ [])) }
-    ensures fails { IfErr result (λ fault.
-        KeepFails D.tag D.plan D.turns D.probes D.faults (C.earliest clock.now) (C.latest clock.now)
-        Q.told Q.seen Q.moment Q.images_since Q.faults hub journal fault) }
+    ensures fails { IfErr result (λ fault. KeepFails D.shows (C.earliest clock.now)
+        (C.latest clock.now) Q.told Q.seen Q.moment Q.images_since Q.faults hub journal fault) }
 {
     match run_window(rt, alloc, hub, rounds, clock) {
         Ok((home, closed)) => {

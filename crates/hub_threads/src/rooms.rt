@@ -65,8 +65,8 @@ fn run_room<R: Threads + Wait + Sync, D: Device + Send, C: Clock + Sync>(
     clock: &C,
 ) -> Result<RoomDone<D>, NoMemory>
     requires { IsReady rounds job }
-    ensures { IfOk result (λ done. IsRoomWorked D.tag D.plan D.turns D.probes D.faults
-        (C.earliest clock.now) (C.latest clock.now) job done) }
+    ensures { IfOk result
+        (λ done. IsRoomWorked D.shows (C.earliest clock.now) (C.latest clock.now) job done) }
 {
     let RoomHub { roster, hub } = job;
     match run_window(rt, alloc, hub, rounds, clock) {
@@ -93,17 +93,16 @@ fn run_all<R: Threads + Wait + Sync, D: Device + Send, C: Clock + Sync>(
     requires { All (IsReady rounds) jobs.items }
     ensures len { IfOk result (λ answers. length answers.items ≡ length jobs.items) }
     ensures each { IfOk result (λ answers. (i : ℕ) (d : _) (e : _) → i < length jobs.items
-        → IfOk (slice_index_or answers.items i d)
-        (λ done. IsRoomWorked D.tag D.plan D.turns D.probes D.faults (C.earliest clock.now)
-        (C.latest clock.now) (slice_index_or jobs.items i e) done)) }
+        → IfOk (slice_index_or answers.items i d) (λ done. IsRoomWorked D.shows
+        (C.earliest clock.now) (C.latest clock.now) (slice_index_or jobs.items i e) done)) }
 {
     thread::map_vec(
         rt,
         jobs,
         &|job: RoomHub<D>| -> Result<RoomDone<D>, NoMemory>
             requires { IsReady rounds job }
-            ensures { IfOk result (λ done. IsRoomWorked D.tag D.plan D.turns D.probes D.faults
-                (C.earliest clock.entry.now) (C.latest clock.entry.now) job done) }
+            ensures { IfOk result (λ done. IsRoomWorked D.shows (C.earliest clock.entry.now)
+                (C.latest clock.entry.now) job done) }
         { run_room(rt, alloc, job, rounds, clock) },
     )
 }
@@ -122,8 +121,8 @@ pub fn run_rooms<R: Threads + Wait + Sync, D: Device + Send, C: Clock + Sync>(
     clock: &C,
 ) -> Result<List<RoomDone<D>>, NoMemory>
     requires { All (IsReady rounds) hubs.items }
-    ensures { IfOk result (λ done. AreRoomsWorked D.tag D.plan D.turns D.probes D.faults
-        (C.earliest clock.now) (C.latest clock.now) hubs.items done.items) }
+    ensures { IfOk result (λ done. AreRoomsWorked D.shows (C.earliest clock.now)
+        (C.latest clock.now) hubs.items done.items) }
 {
     match into_vec(alloc, hubs) {
         Ok(jobs) => match run_all(rt, alloc, jobs, rounds, clock) {

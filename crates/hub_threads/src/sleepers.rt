@@ -1,8 +1,8 @@
 //! The runs that sleep, and those that are to be called.
-ghost use Rattle.std.specs.Prelude.{◌≡◌, ◌&&◌, ◌||◌, ◌==◌, if◌then◌else◌, not, true, ℕ};
-ghost use Rattle.hub_core.specs.BlockedMarks.{has_run};
+ghost use Rattle.std.specs.Prelude.{if◌then◌else◌, not, true, ℕ, ◌&&◌, ◌==◌, ◌||◌, ◌≡◌};
+ghost use Rattle.blocked_runs.specs.RunBits.{has_run};
 ghost use Rattle.hub_core.specs.OpenHubs.{configuration_of};
-ghost use Rattle.hub_threads.specs.Sleepers.{SleepersAreBlocked, NoneSleep, frees_place, frees_places, has_run_bit, is_unplaced};
+ghost use Rattle.hub_threads.specs.Sleepers.{NoneSleep, SleepersAreBlocked, frees_place, frees_places, has_run_bit, is_unplaced};
 
 use device_states::Device;
 use history_book::{Entry, Made};

@@ -1,6 +1,5 @@
 //! A window worked with threads, at most one for each run.
 ghost use Rattle.std.specs.Prelude.{◌≡◌, ◌+◌, ◌<◌, ◌≤◌, IfErr, IfOk, IsTrue, [], length, vec_capacity, vec_len, ℕ};
-ghost use Rattle.device_gate.specs.Places.{AreNumbered};
 ghost use Rattle.hub_core.specs.HubCalls.{HubStands, WindowIsClosed};
 ghost use Rattle.hub_core.specs.OpenHubs.{configuration_of};
 ghost use Rattle.hub_core.specs.Steps.{opened};
@@ -79,9 +78,8 @@ pub fn run_window<R: Threads + Wait + Sync, D: Device + Send, C: Clock + Sync>(
     requires fresh { configuration_of hub ≡ opened hub.setting hub.rounds }
     requires rounds { (d : ℕ) → d < length hub.setting.first
         → (configuration_of hub).probes d ≡ rounds }
-    ensures worked { IfOk result (λ closed.
-        IsWorked D.tag D.plan D.turns D.probes D.faults (C.earliest clock.now) (C.latest clock.now)
-        hub closed.0 closed.1) }
+    ensures worked { IfOk result (λ closed. IsWorked D.shows (C.earliest clock.now)
+        (C.latest clock.now) hub closed.0 closed.1) }
     ensures refused { IfErr result (λ refused. refused.0 ≡ hub) }
 {
     run_window_by(rt, alloc, hub, rounds, clock, USUAL)
@@ -97,9 +95,8 @@ pub(crate) fn run_window_by<R: Threads + Wait + Sync, D: Device + Send, C: Clock
     means: Means,
 ) -> Result<(Home<D>, WindowRecord), (Hub<D>, NoMemory)>
     requires fresh { configuration_of hub ≡ opened hub.setting hub.rounds }
-    ensures worked { IfOk result (λ closed.
-        IsWorked D.tag D.plan D.turns D.probes D.faults (C.earliest clock.now) (C.latest clock.now)
-        hub closed.0 closed.1) }
+    ensures worked { IfOk result (λ closed. IsWorked D.shows (C.earliest clock.now)
+        (C.latest clock.now) hub closed.0 closed.1) }
     ensures refused { IfErr result (λ refused. refused.0 ≡ hub) }
 {
     hub.kept();
@@ -138,11 +135,11 @@ fn run_named<
     requires name { blank.name ≡ N.name }
     requires parts { (blank.parts ≡ N.parts) × (blank.parts ≡ window.runs + 1) }
     requires clock { IsTimedBy N.window (C.earliest window.clock.now) (C.latest window.clock.now) }
-    requires named { IsNamed D.plan N.window hub }
+    requires named { IsNamed D.shows N.window hub }
     requires fresh { hub.history ≡ [] }
     requires desk { desk.name ≡ N.desk }
     requires out { desk.out ≡ what_is_out hub.places }
-    ensures named { IfOk result (λ last. IsNamed D.plan N.window last) }
+    ensures named { IfOk result (λ last. IsNamed D.shows N.window last) }
     ensures refused { IfErr result (λ refused. refused.0 ≡ hub) }
 {
     match run_counted::<R, D, C, N>(rt, alloc, hub, desk, blank, window) {
@@ -169,11 +166,11 @@ fn run_counted<
     requires name { blank.name ≡ N.name }
     requires parts { (blank.parts ≡ N.parts) × (blank.parts ≡ window.runs + 1) }
     requires clock { IsTimedBy N.window (C.earliest window.clock.now) (C.latest window.clock.now) }
-    requires named { IsNamed D.plan N.window hub }
+    requires named { IsNamed D.shows N.window hub }
     requires fresh { hub.history ≡ [] }
     requires desk { desk.name ≡ N.desk }
     requires out { desk.out ≡ what_is_out hub.places }
-    ensures named { IfOk result (λ last. IsNamed D.plan N.window last.0) }
+    ensures named { IfOk result (λ last. IsNamed D.shows N.window last.0) }
     ensures counted { IfOk result (λ last. length last.0.history ≡ last.1.amount) }
     ensures refused { IfErr result (λ refused. refused.0 ≡ hub) }
 {
@@ -317,10 +314,9 @@ fn joined<'a, R: Threads + Wait + Sync, D: Device + Send, C: Clock + Sync, N: Na
 /// Closes the window once it is quiet and no probe is left. After the joins it is: this does not
 /// wait then.
 fn closed<R: Wait, D: Device>(rt: &R, hub: Hub<D>) -> (Home<D>, WindowRecord)
-    ensures stands { HubStands D.tag D.stands D.turns D.probes D.faults hub }
-    ensures closed { WindowIsClosed D.turns D.probes D.faults hub result.0 result.1 }
+    ensures stands { HubStands D.shows hub }
+    ensures closed { WindowIsClosed D.shows hub result.0 result.1 }
     ensures none_left { NoneIsLeft hub }
-    ensures numbered { AreNumbered D.tag result.0.devices }
 {
     hub.kept();
     let mut hub = hub;
@@ -330,10 +326,7 @@ fn closed<R: Wait, D: Device>(rt: &R, hub: Hub<D>) -> (Home<D>, WindowRecord)
             continue;
         }
         match hub.close_window() {
-            Ok(closed) => {
-                closed.0.kept();
-                return closed;
-            }
+            Ok(closed) => return closed,
             Err((back, _)) => hub = back,
         }
     }

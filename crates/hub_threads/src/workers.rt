@@ -210,7 +210,7 @@ fn give<D: Device, N: Name, S: Steps<D, N, Grip<D, Done>>, R: Wait, C: Clock>(
 )
     requires share { 0 < share.old.parts }
     requires clock { IsTimedBy N.window (C.earliest clock.now) (C.latest clock.now) }
-    requires plan { HasPlan D.plan N.window.plans grip }
+    requires plan { HasPlan D.shows N.window.plans grip }
     requires pass { IsRunsPass N.desk (carried_by grip) pass }
     ensures { share.new.parts ≡ share.old.parts }
 {
@@ -248,7 +248,7 @@ fn take_probe<D: Device, N: Name, S: Steps<D, N, Grip<D, Done>>, R: Wait>(
 ) -> Option<(Grip<D, Ready>, Pass<Lent>)>
     requires share { 0 < share.old.parts }
     ensures parts { share.new.parts ≡ share.old.parts }
-    ensures plan { IfSome result (λ probe. HasPlan D.plan N.window.plans probe.0) }
+    ensures plan { IfSome result (λ probe. HasPlan D.shows N.window.plans probe.0) }
     ensures pass { IfSome result (λ probe. IsDetectorsPass N.desk (carried_by probe.0) probe.1) }
 {
     let mut guard = enter(rt, &door.held);
@@ -266,7 +266,7 @@ fn give_probe<D: Device, N: Name, S: Steps<D, N, Grip<D, Done>>, R: Wait>(
     pass: Pass<Lent>,
 )
     requires share { 0 < share.old.parts }
-    requires plan { HasPlan D.plan N.window.plans grip }
+    requires plan { HasPlan D.shows N.window.plans grip }
     requires pass { IsDetectorsPass N.desk (carried_by grip) pass }
     ensures { share.new.parts ≡ share.old.parts }
 {

@@ -15,7 +15,7 @@ use Rattle.jit_scheduler.specs.declared.denials.Denial.{Denial as FoundDenial}
 use Rattle.lineage_table.specs.Lineages.{LineageState}
 use Rattle.lock_leasing.proofs.ClearPlaces.{place_within}
 use Rattle.lock_leasing.proofs.Facts.{facts_of}
-use Rattle.lock_leasing.specs.Configurations.{Grips, read_of}
+use Rattle.lock_leasing.specs.Configurations.{Grips, point, point_of, read_of}
 use Rattle.lock_leasing.specs.FirstPlaces.{IsFirstPlaceOf}
 use Rattle.lock_leasing.specs.Places.{At as PlacedAt, Denial, DeniedBy, Placing, denial_of, first_place, just_in_time, patience}
 use Rattle.serial_line.specs.Marks.{Mark}
@@ -52,29 +52,29 @@ may_reach table line history runs r came (Admitting s parts turn) d on =
 
 module _ (table : List LineageState) (line : List Mark) (history : List Kept) (runs : List Run) (r came m place : ℕ) (first : IsFirstPlaceOf table line history runs r place) where
   abbrev told : Setting → Reading → Grips → Option Denial → Admit
-  told w n g None = At (first_place w n g r)
+  told w n g None = At (first_place (point w n g) r)
   told w n g (Some x) = if nat_le (unwrap_or (n.run r).arrived 0 + patience) m then Patience else Denied (device_no x.device) (run_no x.run)
 
   pub answer_is : IsAdmissionOf table line history runs r came m (answer_by place (first_denial table line history runs r place) came m)
   answer_is s parts turn =
       ap (λ k. answer_by k (first_denial table line history runs r k) came m) (first s parts)
-      ∙ by_own (first_denial table line history runs r (first_place s.setting (read_of s) s.grips r))
+      ∙ by_own (first_denial table line history runs r (first_place (point_of s) r))
       ∙ ap (told s.setting (read_of s) s.grips) (denial_is s table line history runs r parts (not_live (read_of s) r came turn))
     where
-      by_own : (o : Option FoundDenial) → answer_by (first_place s.setting (read_of s) s.grips r) o came m ≡ told s.setting (read_of s) s.grips (option_map (λ x. plain_denial x) o)
+      by_own : (o : Option FoundDenial) → answer_by (first_place (point_of s) r) o came m ≡ told s.setting (read_of s) s.grips (option_map (λ x. plain_denial x) o)
       by_own None = refl
       by_own (Some x) = ap (λ p. if nat_le (unwrap_or p 0 + patience) m then Patience else Denied x.device x.run) (sym turn.arrived)
 
 -- what the scheduler says then
-placing_is : (w : Setting) (n : Reading) (g : Grips) (r m : ℕ) → admitted_placing n.line (admission w n g r m) ≡ just_in_time w n g r m
-placing_is w n g r m = at (denial_of w n g r)
+placing_is : (w : Setting) (n : Reading) (g : Grips) (r m : ℕ) → admitted_placing n.line (admission (point w n g) r m) ≡ just_in_time (point w n g) r m
+placing_is w n g r m = at (denial_of (point w n g) r)
   where
     said : Option Denial → Admit
-    said None = At (first_place w n g r)
+    said None = At (first_place (point w n g) r)
     said (Some x) = if nat_le (unwrap_or (n.run r).arrived 0 + patience) m then Patience else Denied (device_no x.device) (run_no x.run)
 
     placed : Option Denial → Placing
-    placed None = PlacedAt (split_at n.line (first_place w n g r))
+    placed None = PlacedAt (split_at n.line (first_place (point w n g) r))
     placed (Some x) = if nat_le (unwrap_or (n.run r).arrived 0 + patience) m then PlacedAt (split_at n.line (length n.line)) else DeniedBy x.device x.run
 
     at : (o : Option Denial) → admitted_placing n.line (said o) ≡ placed o
@@ -103,8 +103,8 @@ within_told table line history runs r came m place answer (Admitting s parts tur
   where
     inside : place ≤ length line
     inside =
-        let own : place ≡ first_place s.setting (read_of s) s.grips r = first s parts in
-        let below : first_place s.setting (read_of s) s.grips r ≤ length (read_of s).line = place_within s.setting (read_of s) s.grips r in
+        let own : place ≡ first_place (point_of s) r = first s parts in
+        let below : first_place (point_of s) r ≤ length (read_of s).line = place_within s.setting (read_of s) s.grips r in
         let size : length line ≡ length (read_of s).line = sym (length-map line (λ (k : Mark). k.item)) ∙ ap length parts.its_line.items in
         omega (arith, own, below, size)
 

@@ -16,7 +16,7 @@ use Rattle.lineage_table.specs.Lineages.{LineageState, accesses_at, lineage_at}
 use Rattle.lineage_table.specs.declared.accesses.Access.{Access}
 use Rattle.lock_leasing.proofs.Facts.{Facts, facts_of}
 use Rattle.lock_leasing.proofs.Writers.{live_writer, writer_is}
-use Rattle.lock_leasing.specs.Configurations.{Configuration, Grips, read_of}
+use Rattle.lock_leasing.specs.Configurations.{Configuration, Grips, point, point_of, read_of}
 use Rattle.lock_leasing.specs.Holders.{holder_before}
 use Rattle.lock_leasing.specs.Places.{Denial, denial_of, denied_by, first_place, first_some}
 use Rattle.lock_leasing.specs.Standings.{IsStandingOf}
@@ -38,7 +38,7 @@ module _ (w : Setting) (n : Reading) (g : Grips) (f : Facts w n g) (d : ℕ) whe
   number o = option_map (λ q. q.0) o
 
   abbrev holds : ℕ → Bool
-  holds x = holds_device w n g x d
+  holds x = holds_device (point w n g) x d
 
   either : (o p : Option RunNo) → number (option_or o p) ≡ option_or (number o) (number p)
   either None p = refl
@@ -54,7 +54,7 @@ module _ (w : Setting) (n : Reading) (g : Grips) (f : Facts w n g) (d : ℕ) whe
 
   -- the first holder before the place
   holder_told : (line : List Mark) (history : List Kept) (r place : ℕ) (xs : List Access) → ((q : ℕ) → is_some (doom_of history q) ≡ is_doomed n q) → is_live n r ≡ false → items_of line ≡ n.line
-      → map (λ x. x.run.0) xs ≡ runs_with_access w n d n.line → EachTellsOfRun w n g d xs → number (only_before place line (holder_before history r xs)) ≡ find holds (live_runs n (take place n.line))
+      → map (λ x. x.run.0) xs ≡ runs_with_access w n d n.line → EachTellsOfRun (point w n g) d xs → number (only_before place line (holder_before history r xs)) ≡ find holds (live_runs n (take place n.line))
   holder_told line history r place xs dooms dead items runs tells =
       only place line (holder_before history r xs)
       ∙ ap (λ l. where_among n holds (take place l) (number (holder_before history r xs))) items
@@ -62,7 +62,7 @@ module _ (w : Setting) (n : Reading) (g : Grips) (f : Facts w n g) (d : ℕ) whe
       ∙ sym (first_in_front n holds n.line place)
 
   -- the effective writer, where it is live
-  writer_told : (reading : Bool) (xs : List Access) → map (λ x. x.run.0) xs ≡ runs_with_access w n d n.line → EachTellsOfRun w n g d xs
+  writer_told : (reading : Bool) (xs : List Access) → map (λ x. x.run.0) xs ≡ runs_with_access w n d n.line → EachTellsOfRun (point w n g) d xs
       → number (if reading then effective_writer xs else None) ≡ (if reading then live_one n (effective_writer_of n g d) else None)
   writer_told false xs runs tells = refl
   writer_told true xs runs tells = writer_is w n g f d xs runs tells ∙ live_is (effective_write n g d)
@@ -72,10 +72,10 @@ module _ (w : Setting) (n : Reading) (g : Grips) (f : Facts w n g) (d : ℕ) whe
       live_is (Some e) = refl
 
   pub denier_is : (line : List Mark) (history : List Kept) (r : ℕ) (xs : List Access) → ((q : ℕ) → is_some (doom_of history q) ≡ is_doomed n q) → is_live n r ≡ false → items_of line ≡ n.line
-      → map (λ x. x.run.0) xs ≡ runs_with_access w n d n.line → EachTellsOfRun w n g d xs → option_map (λ q. q.0) (denier line history w.runs r (first_place w n g r) d xs) ≡ denied_by w n g r d
+      → map (λ x. x.run.0) xs ≡ runs_with_access w n d n.line → EachTellsOfRun (point w n g) d xs → option_map (λ q. q.0) (denier line history w.runs r (first_place (point w n g) r) d xs) ≡ denied_by (point w n g) r d
   denier_is line history r xs dooms dead items runs tells =
-      either (only_before (first_place w n g r) line (holder_before history r xs)) (if reads_first w.runs r d then effective_writer xs else None)
-      ∙ ap₂ option_or (holder_told line history r (first_place w n g r) xs dooms dead items runs tells) (writer_told (reads_first w.runs r d) xs runs tells)
+      either (only_before (first_place (point w n g) r) line (holder_before history r xs)) (if reads_first w.runs r d then effective_writer xs else None)
+      ∙ ap₂ option_or (holder_told line history r (first_place (point w n g) r) xs dooms dead items runs tells) (writer_told (reads_first w.runs r d) xs runs tells)
 
 -- Each device of the home
 
@@ -98,26 +98,26 @@ module _ (s : Configuration) (table : List LineageState) (line : List Mark) (his
   dooms q = ap is_some (ap (λ h. doom_of h q) (sym parts.its_history) ∙ doom_is s.setting s.history q parts.well_formed)
 
   denial_alike : (d : ℕ) → d < length s.setting.first
-      → option_map (λ x. plain_denial x) (denial_on table line history s.setting.runs r (first_place s.setting (read_of s) s.grips r) d) ≡ (if touches s.setting.runs r d then option_map (λ x. denial_by d x) (denied_by s.setting (read_of s) s.grips r d) else None)
+      → option_map (λ x. plain_denial x) (denial_on table line history s.setting.runs r (first_place (point_of s) r) d) ≡ (if touches s.setting.runs r d then option_map (λ x. denial_by d x) (denied_by (point_of s) r d) else None)
   denial_alike d within = at (touches s.setting.runs r d)
     where
-      lineage : IsLineageOf s.setting (read_of s) s.grips d (lineage_at table d)
+      lineage : IsLineageOf (point_of s) d (lineage_at table d)
       lineage = parts.its_table.each d within
 
-      same : option_map (λ q. q.0) (denier line history s.setting.runs r (first_place s.setting (read_of s) s.grips r) d (accesses_at table d)) ≡ denied_by s.setting (read_of s) s.grips r d
+      same : option_map (λ q. q.0) (denier line history s.setting.runs r (first_place (point_of s) r) d (accesses_at table d)) ≡ denied_by (point_of s) r d
       same = denier_is s.setting (read_of s) s.grips (facts_of s table line history runs parts) d line history r (accesses_at table d) dooms dead parts.its_line.items lineage.runs lineage.each
 
       at : (b : Bool) → option_map (λ x. plain_denial x)
-          (if b then option_map (λ x. found_by d x) (denier line history s.setting.runs r (first_place s.setting (read_of s) s.grips r) d (accesses_at table d))
-          else None) ≡ (if b then option_map (λ x. denial_by d x) (denied_by s.setting (read_of s) s.grips r d) else None)
-      at true = named d (denier line history s.setting.runs r (first_place s.setting (read_of s) s.grips r) d (accesses_at table d)) ∙ ap (option_map (λ x. denial_by d x)) same
+          (if b then option_map (λ x. found_by d x) (denier line history s.setting.runs r (first_place (point_of s) r) d (accesses_at table d))
+          else None) ≡ (if b then option_map (λ x. denial_by d x) (denied_by (point_of s) r d) else None)
+      at true = named d (denier line history s.setting.runs r (first_place (point_of s) r) d (accesses_at table d)) ∙ ap (option_map (λ x. denial_by d x)) same
       at false = refl
 
-  pub denial_is : option_map (λ x. plain_denial x) (first_denial table line history runs r (first_place s.setting (read_of s) s.grips r)) ≡ denial_of s.setting (read_of s) s.grips r
+  pub denial_is : option_map (λ x. plain_denial x) (first_denial table line history runs r (first_place (point_of s) r)) ≡ denial_of (point_of s) r
   denial_is =
-      ap (λ rs. option_map (λ x. plain_denial x) (first_denial table line history rs r (first_place s.setting (read_of s) s.grips r))) (sym parts.its_roster)
-      ∙ ap (λ k. option_map (λ x. plain_denial x) (first_some (denial_on table line history s.setting.runs r (first_place s.setting (read_of s) s.grips r)) (range_with_len 0 k))) parts.its_table.devices
-      ∙ first_alike (λ x. plain_denial x) (denial_on table line history s.setting.runs r (first_place s.setting (read_of s) s.grips r))
-      (λ d. if touches s.setting.runs r d then option_map (λ x. denial_by d x) (denied_by s.setting (read_of s) s.grips r d) else None) 0
+      ap (λ rs. option_map (λ x. plain_denial x) (first_denial table line history rs r (first_place (point_of s) r))) (sym parts.its_roster)
+      ∙ ap (λ k. option_map (λ x. plain_denial x) (first_some (denial_on table line history s.setting.runs r (first_place (point_of s) r)) (range_with_len 0 k))) parts.its_table.devices
+      ∙ first_alike (λ x. plain_denial x) (denial_on table line history s.setting.runs r (first_place (point_of s) r))
+      (λ d. if touches s.setting.runs r d then option_map (λ x. denial_by d x) (denied_by (point_of s) r d) else None) 0
       (length s.setting.first) (λ d within. denial_alike d (omega (arith, within)))
-      ∙ first_filtered (λ d. option_map (λ x. denial_by d x) (denied_by s.setting (read_of s) s.grips r d)) (touches s.setting.runs r) (range_with_len 0 (length s.setting.first))
+      ∙ first_filtered (λ d. option_map (λ x. denial_by d x) (denied_by (point_of s) r d)) (touches s.setting.runs r) (range_with_len 0 (length s.setting.first))

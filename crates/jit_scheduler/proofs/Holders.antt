@@ -12,7 +12,7 @@ use Rattle.lineage_table.specs.declared.accesses.Access.{Access}
 use Rattle.lock_leasing.proofs.AccessRuns.{EachTail, HasAccess, has_work, workers_have_access}
 use Rattle.lock_leasing.proofs.Facts.{Facts, command_pends}
 use Rattle.lock_leasing.proofs.Writers.{live_writer, run_in, writer_has_effect, writer_is}
-use Rattle.lock_leasing.specs.Configurations.{Grips, grips_command}
+use Rattle.lock_leasing.specs.Configurations.{Grips, grips_command, point}
 use Rattle.lock_leasing.specs.Holders.{access_holds, holder_before, is_writer}
 use Rattle.lock_leasing.specs.Order.{covers}
 use Rattle.lock_leasing.specs.Tables.{EachTellsOfRun, TellsOfRun, runs_with_access, status_by_answers, uses}
@@ -41,7 +41,7 @@ another n q r live dead = at (q == r) refl
 
 module _ (w : Setting) (n : Reading) (g : Grips) (f : Facts w n g) (d : ℕ) where
   abbrev holds : ℕ → Bool
-  holds q = holds_device w n g q d
+  holds q = holds_device (point w n g) q d
 
   -- a live run that holds the device has work there
   holds_works : (q : ℕ) → (is_live n q && holds q) ≡ true → has_work w n g f d q ≡ true
@@ -54,7 +54,7 @@ module _ (w : Setting) (n : Reading) (g : Grips) (f : Facts w n g) (d : ℕ) whe
   -- An access tells whether its run holds the device
 
   abbrev TellsHolding : (Access → Bool) → Type 0
-  TellsHolding test = (x : Access) (rest : List Access) → TellsOfRun w n g d x rest → uses w n d x.run.0 ≡ true → test x ≡ holds x.run.0
+  TellsHolding test = (x : Access) (rest : List Access) → TellsOfRun (point w n g) d x rest → uses w n d x.run.0 ≡ true → test x ≡ holds x.run.0
 
   tells_holding : (history : List Kept) (writer : Option RunNo) → ((r : ℕ) → is_some (doom_of history r) ≡ is_doomed n r) → run_in w n g f d writer ≡ live_writer w n g f d (effective_write n g d) → TellsHolding (access_holds history writer)
   tells_holding history writer dooms same x rest tells used = at (is_doomed n x.run.0) refl
@@ -62,7 +62,7 @@ module _ (w : Setting) (n : Reading) (g : Grips) (f : Facts w n g) (d : ℕ) whe
       r : ℕ
       r = x.run.0
 
-      by_status : (a b c : Bool) → did n r d ≡ a → pends w n r d ≡ b → grips_command g r d ≡ c → is_doomed n r ≡ false → not (is_released (status_by_answers w n g r d)) ≡ pends w n r d
+      by_status : (a b c : Bool) → did n r d ≡ a → pends w n r d ≡ b → grips_command g r d ≡ c → is_doomed n r ≡ false → not (is_released (status_by_answers (point w n g) r d)) ≡ pends w n r d
       by_status true true c e1 e2 e3 sound = rw (e1, sound, e2) refl
       by_status true false true e1 e2 e3 sound = absurd (cc (command_pends w n g r d f e3, e2))
       by_status true false false e1 e2 e3 sound = rw (e1, sound, e2, e3) refl
@@ -79,7 +79,7 @@ module _ (w : Setting) (n : Reading) (g : Grips) (f : Facts w n g) (d : ℕ) whe
           whole live on = rw (live, e, on) refl
       at false e =
           let sound : is_some (doom_of history r) ≡ false = dooms r ∙ e in
-          let status : x.status ≡ status_by_answers w n g r d = tells.status (rw e refl) in
+          let status : x.status ≡ status_by_answers (point w n g) r d = tells.status (rw e refl) in
           ap (λ b. if b then is_writer writer x else not (is_released x.status)) sound
           ∙ ap (λ s. not (is_released s)) status
           ∙ by_status (did n r d) (pends w n r d) (grips_command g r d) refl refl refl e
@@ -91,7 +91,7 @@ module _ (w : Setting) (n : Reading) (g : Grips) (f : Facts w n g) (d : ℕ) whe
   -- Along the line, beside the accesses
 
   abbrev Shows : List Item → List Access → Type 0
-  Shows is xs = (map (λ x. x.run.0) xs ≡ runs_with_access w n d is) × EachTellsOfRun w n g d xs
+  Shows is xs = (map (λ x. x.run.0) xs ≡ runs_with_access w n d is) × EachTellsOfRun (point w n g) d xs
 
   abbrev FindsHolder : (Access → Bool) → ℕ → List Item → List Access → Type 0
   FindsHolder test r is xs = run_in w n g f d (first_before test r xs) ≡ find holds (live_runs n is)
@@ -100,7 +100,7 @@ module _ (w : Setting) (n : Reading) (g : Grips) (f : Facts w n g) (d : ℕ) whe
       → ((ys : List Access) → Shows is ys → FindsHolder test r is ys) → FindsHolder test r (Ran q ∷ is) xs
   run_further test r tells dead q is xs has shows behind = at (uses w n d q.0 && not (list_any (covers n d) is)) refl xs shows.0 shows.1
     where
-      with_access : (ys : List Access) → uses w n d q.0 ≡ true → is_live n q.0 ≡ true → map (λ x. x.run.0) ys ≡ q.0 ∷ runs_with_access w n d is → EachTellsOfRun w n g d ys
+      with_access : (ys : List Access) → uses w n d q.0 ≡ true → is_live n q.0 ≡ true → map (λ x. x.run.0) ys ≡ q.0 ∷ runs_with_access w n d is → EachTellsOfRun (point w n g) d ys
           → run_in w n g f d (first_before test r ys) ≡ cond (holds q.0) (Some q.0) (find holds (live_runs n is))
       with_access [] used live same all = absurd (cc)
       with_access (x ∷ ys) used live same all =
@@ -120,7 +120,7 @@ module _ (w : Setting) (n : Reading) (g : Grips) (f : Facts w n g) (d : ℕ) whe
       by_live true live none = sym (ap (λ h. cond h (Some q.0) (find holds (live_runs n is))) (none refl))
       by_live false dead none = refl
 
-      at : (b : Bool) → (uses w n d q.0 && not (list_any (covers n d) is)) ≡ b → (ys : List Access) → map (λ x. x.run.0) ys ≡ (if b then (q.0 ∷ runs_with_access w n d is) else runs_with_access w n d is) → EachTellsOfRun w n g d ys
+      at : (b : Bool) → (uses w n d q.0 && not (list_any (covers n d) is)) ≡ b → (ys : List Access) → map (λ x. x.run.0) ys ≡ (if b then (q.0 ∷ runs_with_access w n d is) else runs_with_access w n d is) → EachTellsOfRun (point w n g) d ys
           → FindsHolder test r (Ran q ∷ is) ys
       at true access ys same all =
           let live : is_live n q.0 ≡ true = grind (arith, common_steps) in
@@ -140,6 +140,6 @@ module _ (w : Setting) (n : Reading) (g : Grips) (f : Facts w n g) (d : ℕ) whe
 
   -- the first holder of all, told to a run that is not live
   pub first_holder_is : (history : List Kept) (r : ℕ) (xs : List Access) → ((q : ℕ) → is_some (doom_of history q) ≡ is_doomed n q) → is_live n r ≡ false
-      → map (λ x. x.run.0) xs ≡ runs_with_access w n d n.line → EachTellsOfRun w n g d xs → run_in w n g f d (holder_before history r xs) ≡ find (λ q. holds_device w n g q d) (live_runs n n.line)
+      → map (λ x. x.run.0) xs ≡ runs_with_access w n d n.line → EachTellsOfRun (point w n g) d xs → run_in w n g f d (holder_before history r xs) ≡ find (λ q. holds_device (point w n g) q d) (live_runs n n.line)
   first_holder_is history r xs dooms dead runs tells =
       walk_further (access_holds history (effective_writer xs)) r (tells_holding history (effective_writer xs) dooms (writer_is w n g f d xs runs tells)) dead n.line xs (workers_have_access w n g f d) (runs, tells)

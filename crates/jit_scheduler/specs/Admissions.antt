@@ -2,7 +2,6 @@
 use Rattle.command_rules.specs.Rosters.{Run, device_no, run_no}
 use Rattle.history_book.specs.Lines.{split_at}
 use Rattle.history_book.specs.Readings.{Reading}
-use Rattle.history_book.specs.Settings.{Setting}
 use Rattle.history_book.specs.declared.entries.Kept.{Kept}
 use Rattle.home_types.specs.Numbers.{LinePlace, Moment, RunId}
 use Rattle.home_types.specs.declared.items.Item.{Item}
@@ -10,7 +9,7 @@ use Rattle.jit_scheduler.specs.declared.answers.Admit.TheVariants.{At, Denied, P
 use Rattle.jit_scheduler.specs.declared.answers.Admit.{Admit}
 use Rattle.jit_scheduler.specs.declared.denials.Denial.{Denial as FoundDenial}
 use Rattle.lineage_table.specs.Lineages.{LineageState}
-use Rattle.lock_leasing.specs.Configurations.{Configuration, Grips, read_of}
+use Rattle.lock_leasing.specs.Configurations.{Configuration, Point, point_of, read_of}
 use Rattle.lock_leasing.specs.Places.{At as PlacedAt, Denial, DeniedBy, Placing, denial_of, first_place, just_in_time, patience}
 use Rattle.lock_leasing.specs.Standings.{IsStandingOf}
 use Rattle.serial_line.specs.Marks.{Mark}
@@ -35,13 +34,13 @@ admitted_placing line Patience = PlacedAt (split_at line (length line))
 
 -- the answer: the first place, where no device is denied; else that the run has waited long enough,
 -- where it has; else the first denial
-abbrev pub admission : Setting → Reading → Grips → RunId → Moment → Admit
-admission w n g r m = by_denial (denial_of w n g r)
+abbrev pub admission : Point → RunId → Moment → Admit
+admission p r m = by_denial (denial_of p r)
   where
     by_denial : Option Denial → Admit
-    by_denial None = At (first_place w n g r)
+    by_denial None = At (first_place p r)
     by_denial (Some x) =
-        if nat_le (unwrap_or (n.run r).arrived 0 + patience) m then Patience
+        if nat_le (unwrap_or (p.reading.run r).arrived 0 + patience) m then Patience
         else Denied (device_no x.device) (run_no x.run)
 
 -- the answer where this is the first place and this the first denial
@@ -56,14 +55,14 @@ abbrev pub IsPlacingOf : List LineageState → List Mark → List Kept → List 
     → Moment → Admit → Type 0
 IsPlacingOf table line history runs r came m answer =
     (s : Configuration) → IsStandingOf s table line history runs → IsToBePlaced (read_of s) r came
-    → admitted_placing (read_of s).line answer ≡ just_in_time s.setting (read_of s) s.grips r m
+    → admitted_placing (read_of s).line answer ≡ just_in_time (point_of s) r m
 
 -- .. and tells a first place from the end after a wait
 abbrev pub IsAdmissionOf : List LineageState → List Mark → List Kept → List Run → RunId → Moment
     → Moment → Admit → Type 0
 IsAdmissionOf table line history runs r came m answer =
     (s : Configuration) → IsStandingOf s table line history runs → IsToBePlaced (read_of s) r came
-    → answer ≡ admission s.setting (read_of s) s.grips r m
+    → answer ≡ admission (point_of s) r m
 
 -- a place is one of the line, or its end
 abbrev pub IsPlaceOfLine : List Mark → Admit → Type 0

@@ -11,7 +11,7 @@ use Rattle.home_types.specs.Commands.{fails}
 use Rattle.home_types.specs.Numbers.{CommandIndex, RunId}
 use Rattle.home_types.specs.declared.commands.Answer.{Answer}
 use Rattle.home_types.specs.declared.commands.Answer.TheVariants.{Down, Found}
-use Rattle.lock_leasing.specs.Configurations.{no_grips}
+use Rattle.lock_leasing.specs.Configurations.{no_grips, point}
 use Rattle.lock_leasing.specs.Waits.{down_at_end}
 use Rattle.lock_leasing.specs.Words.{lease_deadline, overdue_for}
 use Rattle.std.specs.List.{list_any}
@@ -35,9 +35,9 @@ shows w n r (Refuted c x) = fails (command_at w.runs r c) (Found x) && has_answe
 shows w n r (Lost d) = sees_up n r d.0 && list_any is_fall (span_of r (n.log d.0))
 shows w n r (Revoked lender d deadline m) =
     is_live n lender.0 && asks_on w n lender.0 d.0 && equals_some
-    (overdue_for w n no_grips lender.0 d.0 m) r && (deadline == lease_deadline w n r d.0)
+    (overdue_for (point w n no_grips) lender.0 d.0 m) r && (deadline == lease_deadline w n r d.0)
 shows w n r (DownAtEnd d) =
-    is_none (next_command w n r) && equals_some (down_at_end w n no_grips r) d.0
+    is_none (next_command w n r) && equals_some (down_at_end (point w n no_grips) r) d.0
 
 abbrev pub abort_is_justified : Setting → Reading → Entry → Bool
 abort_is_justified w n (Doomed r cause) = shows w n r.0 cause

@@ -1,4 +1,5 @@
 -- Legal days: the records of a script's windows, and the devices that are left.
+use Rattle.device_states.specs.Devices.{Shown}
 use Rattle.history_book.specs.Settings.{Setting}
 use Rattle.history_book.specs.declared.records.WindowRecord.{WindowRecord}
 use Rattle.home_types.specs.Numbers.{DeviceId}
@@ -9,7 +10,7 @@ use Rattle.legal_days.specs.LegalWindows.{IsLegalWindow}
 use Rattle.routine_reader.specs.Rosters.{kinds_of, script_runs, start_home}
 use Rattle.routine_reader.specs.declared.scripts.DeviceText.{DeviceText}
 use Rattle.routine_reader.specs.declared.scripts.Script.{Script}
-use Rattle.std.specs.Prelude.{Bool, List, Option, Some, [], drop, false, length, option_map, slice_get, slice_index_or, suc, sum_by, true, unwrap_or, zero, ℕ, ◌+◌, ◌≡◌, ◌≤◌}
+use Rattle.std.specs.Prelude.{Bool, List, Some, [], drop, false, length, option_map, slice_get, slice_index_or, suc, sum_by, true, unwrap_or, zero, ℕ, ◌+◌, ◌≡◌, ◌≤◌}
 
 -- where a day begins: so many windows of the script went before it, the home is in this state, and
 -- of each device that is told so one call has worked, or one has failed
@@ -75,39 +76,38 @@ one_more_where true n = n + 1
 
 -- the device is the script's: it tells its number, and, where it tells a plan, the ranges in which
 -- the script has it down
-pub record IsDeviceOf {D : Type 0} (tag : D → ℕ) (plan : D → Option (List (ℕ × ℕ)))
-    (text : DeviceText) (d : DeviceId) (device : D) : Type 0 where
-  pub tag_is : tag device ≡ d
-  pub plan_is : (p : List (ℕ × ℕ)) → plan device ≡ Some p → p ≡ text.downs.items
+pub record IsDeviceOf {D : Type 0} (shows : D → Shown) (text : DeviceText) (d : DeviceId)
+    (device : D) : Type 0 where
+  pub tag_is : (shows device).tag ≡ d
+  pub plan_is : (p : List (ℕ × ℕ)) → (shows device).plan ≡ Some p → p ≡ text.downs.items
 
 -- the devices after these windows, in script order
-pub record AreLeftFrom {D : Type 0} (tag : D → ℕ) (plan : D → Option (List (ℕ × ℕ)))
-    (stands turns faults : D → ℕ) (begins : Beginning) (records : List WindowRecord)
-    (devices : List D) : Type 0 where
+pub record AreLeftFrom {D : Type 0} (shows : D → Shown) (begins : Beginning)
+    (records : List WindowRecord) (devices : List D) : Type 0 where
   pub size : length devices ≡ length begins.script.devices.items
   pub own : (d : DeviceId) (device : D) (text : DeviceText) → slice_get devices d ≡ Some device
-      → slice_get begins.script.devices.items d ≡ Some text → IsDeviceOf tag plan text d device
-  pub stand : UpDevicesStand stands devices (state_from begins records (length records))
-  pub turns_are : (d : DeviceId) (device : D) → slice_get devices d ≡ Some device → turns device
+      → slice_get begins.script.devices.items d ≡ Some text → IsDeviceOf shows text d device
+  pub stand : UpDevicesStand shows devices (state_from begins records (length records))
+  pub turns_are : (d : DeviceId) (device : D) → slice_get devices d ≡ Some device
+      → (shows device).turns
       ≡ one_more_where (begins.called d) (total (λ closed. closed.turns.items) records d)
-  pub faults_are : (d : DeviceId) (device : D) → slice_get devices d ≡ Some device → faults device
+  pub faults_are : (d : DeviceId) (device : D) → slice_get devices d ≡ Some device
+      → (shows device).faults
       ≡ one_more_where (begins.failed d) (total (λ closed. closed.faults.items) records d)
 
 -- a day that begins so and was cut short: the first of the windows to come
-pub record IsLegalCutDayFrom {D : Type 0} (tag : D → ℕ) (plan : D → Option (List (ℕ × ℕ)))
-    (stands turns faults : D → ℕ) (begins : Beginning) (mode : Mode) (records : List WindowRecord)
-    (devices : List D) : Type 0 where
+pub record IsLegalCutDayFrom {D : Type 0} (shows : D → Shown) (begins : Beginning) (mode : Mode)
+    (records : List WindowRecord) (devices : List D) : Type 0 where
   pub count : length records ≤ length (to_come begins).windows.items
   pub legal : AreLegalFrom begins mode records
-  pub left : AreLeftFrom tag plan stands turns faults begins records devices
+  pub left : AreLeftFrom shows begins records devices
 
 -- a whole day that begins so: one record for each window to come
-pub record IsLegalDayFrom {D : Type 0} (tag : D → ℕ) (plan : D → Option (List (ℕ × ℕ)))
-    (stands turns faults : D → ℕ) (begins : Beginning) (mode : Mode) (records : List WindowRecord)
-    (devices : List D) : Type 0 where
+pub record IsLegalDayFrom {D : Type 0} (shows : D → Shown) (begins : Beginning) (mode : Mode)
+    (records : List WindowRecord) (devices : List D) : Type 0 where
   pub count : length records ≡ length (to_come begins).windows.items
   pub legal : AreLegalFrom begins mode records
-  pub left : AreLeftFrom tag plan stands turns faults begins records devices
+  pub left : AreLeftFrom shows begins records devices
 
 -- The day of a script, from its start
 
@@ -125,19 +125,18 @@ abbrev pub RecordsAreLegal : Script → Mode → List WindowRecord → Type 0
 RecordsAreLegal script mode records = AreLegalFrom (new_day script) mode records
 
 -- the devices after these windows, in script order
-abbrev pub DevicesAreLeft : {D : Type 0} → (D → ℕ) → (D → Option (List (ℕ × ℕ))) → (D → ℕ) → (D → ℕ)
-    → (D → ℕ) → Script → List WindowRecord → List D → Type 0
-DevicesAreLeft tag plan stands turns faults script records devices =
-    AreLeftFrom tag plan stands turns faults (new_day script) records devices
+abbrev pub DevicesAreLeft : {D : Type 0} → (D → Shown) → Script → List WindowRecord
+    → List D → Type 0
+DevicesAreLeft shows script records devices = AreLeftFrom shows (new_day script) records devices
 
 -- a day that was cut short: the script's first windows
-abbrev pub IsLegalCutDay : {D : Type 0} → (D → ℕ) → (D → Option (List (ℕ × ℕ))) → (D → ℕ) → (D → ℕ)
-    → (D → ℕ) → Script → Mode → List WindowRecord → List D → Type 0
-IsLegalCutDay tag plan stands turns faults script mode records devices =
-    IsLegalCutDayFrom tag plan stands turns faults (new_day script) mode records devices
+abbrev pub IsLegalCutDay : {D : Type 0} → (D → Shown) → Script → Mode → List WindowRecord
+    → List D → Type 0
+IsLegalCutDay shows script mode records devices =
+    IsLegalCutDayFrom shows (new_day script) mode records devices
 
 -- a whole day: one record for each window of the script
-abbrev pub IsLegalDay : {D : Type 0} → (D → ℕ) → (D → Option (List (ℕ × ℕ))) → (D → ℕ) → (D → ℕ)
-    → (D → ℕ) → Script → Mode → List WindowRecord → List D → Type 0
-IsLegalDay tag plan stands turns faults script mode records devices =
-    IsLegalDayFrom tag plan stands turns faults (new_day script) mode records devices
+abbrev pub IsLegalDay : {D : Type 0} → (D → Shown) → Script → Mode → List WindowRecord
+    → List D → Type 0
+IsLegalDay shows script mode records devices =
+    IsLegalDayFrom shows (new_day script) mode records devices

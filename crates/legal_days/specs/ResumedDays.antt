@@ -1,5 +1,6 @@
 -- Days that go on behind windows that were worked before: how the home is resumed, and where the
 -- day begins then.
+use Rattle.device_states.specs.Devices.{Shown}
 use Rattle.home_types.specs.HomeStates.{stand_at}
 use Rattle.home_types.specs.Numbers.{DeviceId}
 use Rattle.home_types.specs.declared.worlds.Stand.{Stand}
@@ -44,22 +45,20 @@ GoesOnBehind script kept (Some before) begins =
     (now : List Stand) × IsStateResumed before now × (begins ≡ resumed_day script kept before now)
 
 -- the script's device as the home is resumed: never probed, and driven once where it was up
-pub record IsDeviceResumed {D : Type 0} (tag : D → ℕ) (plan : D → Option (List (ℕ × ℕ)))
-    (stands turns probes faults : D → ℕ) (text : DeviceText) (d : DeviceId) (before now : Stand)
-    (device : D) : Type 0 where
-  pub own : IsDeviceOf tag plan text d device
+pub record IsDeviceResumed {D : Type 0} (shows : D → Shown) (text : DeviceText) (d : DeviceId)
+    (before now : Stand) (device : D) : Type 0 where
+  pub own : IsDeviceOf shows text d device
   pub as_told : IsStandResumed before now
-  pub stand : now.up ≡ true → stands device ≡ now.value
-  pub turns_are : turns device ≡ (if now.up then 1 else 0)
-  pub faults_are : faults device ≡ (if has_died_resuming before now then 1 else 0)
-  pub no_probes : probes device ≡ 0
+  pub stand : now.up ≡ true → (shows device).stands ≡ now.value
+  pub turns_are : (shows device).turns ≡ (if now.up then 1 else 0)
+  pub faults_are : (shows device).faults ≡ (if has_died_resuming before now then 1 else 0)
+  pub no_probes : (shows device).probes ≡ 0
 
 -- the first so many of the script's devices, each resumed as the state of the same number says
-pub record AreResumed {D : Type 0} (tag : D → ℕ) (plan : D → Option (List (ℕ × ℕ)))
-    (stands turns probes faults : D → ℕ) (texts : List DeviceText) (before : List Stand) (n : ℕ)
-    (now : List Stand) (devices : List D) : Type 0 where
+pub record AreResumed {D : Type 0} (shows : D → Shown) (texts : List DeviceText)
+    (before : List Stand) (n : ℕ) (now : List Stand) (devices : List D) : Type 0 where
   pub size : length devices ≡ n
   pub stands_size : length now ≡ n
   pub each : (d : DeviceId) (device : D) (text : DeviceText) (stand : Stand) → slice_get devices d
       ≡ Some device → slice_get texts d ≡ Some text → slice_get now d ≡ Some stand
-      → IsDeviceResumed tag plan stands turns probes faults text d (stand_at before d) stand device
+      → IsDeviceResumed shows text d (stand_at before d) stand device

@@ -9,7 +9,7 @@ use Rattle.home_types.specs.declared.items.Item.TheVariants.{Back, Failed, Ran}
 use Rattle.home_types.specs.declared.items.Item.{Item}
 use Rattle.lock_leasing.proofs.Effects.{effect_is}
 use Rattle.lock_leasing.proofs.Facts.{Facts, committed_stays, pending_uses, written_did, written_uses}
-use Rattle.lock_leasing.specs.Configurations.{Grips}
+use Rattle.lock_leasing.specs.Configurations.{Grips, point}
 use Rattle.lock_leasing.specs.Order.{covers, is_touched, open_runs_are_last}
 use Rattle.lock_leasing.specs.Tables.{uses}
 use Rattle.lock_leasing.specs.Words.{Write, effective_write, has_effect, is_undone, write_of}
@@ -174,7 +174,7 @@ module _ (w : Setting) (n : Reading) (g : Grips) (f : Facts w n g) (d : ℕ) whe
   abbrev pub HasAccess : Item → List Item → Type 0
   HasAccess i is = of_run has_work i ≡ true → (of_run (uses w n d) i && not (list_any (covers n d) is)) ≡ true
 
-  have_access : (is : List Item) (best : Option Write) → open_runs_are_last w n g d is ≡ true → EachTail Alone is → effective_write n g d ≡ last_from best is → EachTail HasAccess is
+  have_access : (is : List Item) (best : Option Write) → open_runs_are_last (point w n g) d is ≡ true → EachTail Alone is → effective_write n g d ≡ last_from best is → EachTail HasAccess is
   have_access [] best last alone along = tt
   have_access (Ran r ∷ is) best last alone along = (λ works. at (is_open w n r.0 d) refl works, have_access is (option_or (write_of n g d (Ran r)) best) (grind (arith, common_steps)) alone.1 along)
     where

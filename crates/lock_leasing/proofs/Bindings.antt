@@ -14,7 +14,7 @@ use Rattle.home_types.specs.declared.numbers.RunNo.{RunNo}
 use Rattle.lineage_table.specs.Lineages.{LineageState}
 use Rattle.lock_leasing.proofs.AccessRuns.{EachTail}
 use Rattle.lock_leasing.proofs.Facts.{facts_of}
-use Rattle.lock_leasing.specs.Configurations.{Grips, read_of}
+use Rattle.lock_leasing.specs.Configurations.{Grips, point, point_of, read_of}
 use Rattle.lock_leasing.specs.Counts.{up_to, up_to_committed, up_to_followed, up_to_touched}
 use Rattle.lock_leasing.specs.FirstPlaces.{IsFirstPlaceOf}
 use Rattle.lock_leasing.specs.Places.{binds, up_to_first, up_to_last}
@@ -124,7 +124,7 @@ touches_any n g cs i = list_any (λ c. item_has_touched n g i c.device.0) cs
 abbrev is_followed : Setting → Reading → ℕ → Item → Bool
 is_followed w n r i = of_run (λ x. follows w.runs r x && is_committed n x) i
 
-binds_by : (w : Setting) (n : Reading) (g : Grips) (r : ℕ) → IsRosterFor (length w.first) w.runs → (i : Item) → binds w n g r i ≡ (touches_any n g (commands_of w.runs r) i || is_followed w n r i)
+binds_by : (w : Setting) (n : Reading) (g : Grips) (r : ℕ) → IsRosterFor (length w.first) w.runs → (i : Item) → binds (point w n g) r i ≡ (touches_any n g (commands_of w.runs r) i || is_followed w n r i)
 binds_by w n g r allowed (Ran x) = ap (λ b. b || (follows w.runs r x.0 && is_committed n x.0)) (devices_by_commands w r (has_touched n g x.0) allowed)
 binds_by w n g r allowed (Failed e k) = on_device (commands_of w.runs r) ∙ or_false (touches_any n g (commands_of w.runs r) (Failed e k))
   where
@@ -209,8 +209,8 @@ first_is table line history runs r touched followed front place e1 e2 e3 e4 s pa
     e2 ∙ ap (λ rs. up_to_followed rs history r line) (sym parts.its_roster) ∙ followed_is s.setting (read_of s) r history line ends parts.its_line.items in
     let by_live : front ≡ up_to_first (of_run (is_live (read_of s))) (read_of s).line =
     e3 ∙ front_is (read_of s) s.grips line parts.its_line (λ q among. placed_if ((read_of s).run q) (sym (f.line.line q) ∙ among)) in
-    let both : up_to_last (binds s.setting (read_of s) s.grips r) (read_of s).line ≡ max (up_to_last (touches_any (read_of s) s.grips (commands_of s.setting.runs r)) (read_of s).line) (up_to_last (is_followed s.setting (read_of s) r) (read_of s).line) =
-    up_to_same (binds s.setting (read_of s) s.grips r) (λ i. touches_any (read_of s) s.grips (commands_of s.setting.runs r) i || is_followed s.setting (read_of s) r i) (binds_by s.setting (read_of s) s.grips r parts.allowed) (read_of s).line
+    let both : up_to_last (binds (point_of s) r) (read_of s).line ≡ max (up_to_last (touches_any (read_of s) s.grips (commands_of s.setting.runs r)) (read_of s).line) (up_to_last (is_followed s.setting (read_of s) r) (read_of s).line) =
+    up_to_same (binds (point_of s) r) (λ i. touches_any (read_of s) s.grips (commands_of s.setting.runs r) i || is_followed s.setting (read_of s) r i) (binds_by s.setting (read_of s) s.grips r parts.allowed) (read_of s).line
     ∙ up_to_either (touches_any (read_of s) s.grips (commands_of s.setting.runs r)) (is_followed s.setting (read_of s) r) (read_of s).line in
     e4 ∙ ap₂ max (ap₂ max by_touch by_follow ∙ sym both) by_live
   where

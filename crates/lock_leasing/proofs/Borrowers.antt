@@ -17,7 +17,7 @@ use Rattle.lineage_table.specs.declared.accesses.Access.{Access}
 use Rattle.lock_leasing.proofs.Facts.{Facts, facts_of}
 use Rattle.lock_leasing.proofs.Holding.{TellsTest, first_holder, sound_holds}
 use Rattle.lock_leasing.proofs.Meetings.{asking_opens}
-use Rattle.lock_leasing.specs.Configurations.{Configuration, Grips, read_of}
+use Rattle.lock_leasing.specs.Configurations.{Configuration, Grips, point, point_of, read_of}
 use Rattle.lock_leasing.specs.Leases.{IsBorrowedFrom, IsDeadlineOf, IsNeverOverdue, IsOverdueOf, access_borrows, access_deadline, access_is_overdue, placed_at}
 use Rattle.lock_leasing.specs.Standings.{Asking, IsAsking, IsStandingOf, Leasing, MayAsk, MayLease}
 use Rattle.lock_leasing.specs.Tables.{EachTellsOfRun, TellsOfRun}
@@ -29,8 +29,8 @@ use Rattle.std.specs.Prelude.{Bool, List, None, Option, Some, [], false, find, i
 
 -- A lease that is overdue is one
 
-pub overdue_borrows : (w : Setting) (n : Reading) (g : Grips) (r d m x : ℕ) → is_overdue w n g r d m x ≡ (is_borrower w n g r d x && nat_lt (lease_deadline w n x d) m)
-overdue_borrows w n g r d m x = at (is_doomed n x) (nat_lt (stamp_of n r) (stamp_of n x)) (holds_device w n g x d)
+pub overdue_borrows : (w : Setting) (n : Reading) (g : Grips) (r d m x : ℕ) → is_overdue (point w n g) r d m x ≡ (is_borrower (point w n g) r d x && nat_lt (lease_deadline w n x d) m)
+overdue_borrows w n g r d m x = at (is_doomed n x) (nat_lt (stamp_of n r) (stamp_of n x)) (holds_device (point w n g) x d)
   where
     at : (a b c : Bool) → (not a && b && c && nat_lt (lease_deadline w n x d) m) ≡ ((not a && b && c) && nat_lt (lease_deadline w n x d) m)
     at true b c = refl
@@ -39,18 +39,18 @@ overdue_borrows w n g r d m x = at (is_doomed n x) (nat_lt (stamp_of n r) (stamp
     at false false c = refl
 
 -- where no run has the device on a lease from r, none is overdue
-pub never_overdue : (w : Setting) (n : Reading) (g : Grips) (r d m : ℕ) → is_some (borrower_from w n g r d) ≡ false → overdue_for w n g r d m ≡ None
+pub never_overdue : (w : Setting) (n : Reading) (g : Grips) (r d m : ℕ) → is_some (borrower_from (point w n g) r d) ≡ false → overdue_for (point w n g) r d m ≡ None
 never_overdue w n g r d m none = walk (live_before n r) none
   where
-    walk : (xs : List ℕ) → is_some (find (is_borrower w n g r d) xs) ≡ false → find (is_overdue w n g r d m) xs ≡ None
+    walk : (xs : List ℕ) → is_some (find (is_borrower (point w n g) r d) xs) ≡ false → find (is_overdue (point w n g) r d m) xs ≡ None
     walk [] none = refl
-    walk (x ∷ xs) none = at (is_borrower w n g r d x) refl (walk xs) none
+    walk (x ∷ xs) none = at (is_borrower (point w n g) r d x) refl (walk xs) none
       where
-        at : (b : Bool) → is_borrower w n g r d x ≡ b → (is_some (find (is_borrower w n g r d) xs) ≡ false → find (is_overdue w n g r d m) xs ≡ None)
-            → is_some (cond b (Some x) (find (is_borrower w n g r d) xs)) ≡ false
-            → cond (is_overdue w n g r d m x) (Some x) (find (is_overdue w n g r d m) xs) ≡ None
+        at : (b : Bool) → is_borrower (point w n g) r d x ≡ b → (is_some (find (is_borrower (point w n g) r d) xs) ≡ false → find (is_overdue (point w n g) r d m) xs ≡ None)
+            → is_some (cond b (Some x) (find (is_borrower (point w n g) r d) xs)) ≡ false
+            → cond (is_overdue (point w n g) r d m x) (Some x) (find (is_overdue (point w n g) r d m) xs) ≡ None
         at true e rest none = absurd (cc)
-        at false e rest none = let current : is_overdue w n g r d m x ≡ false = overdue_borrows w n g r d m x ∙ ap (λ b. b && nat_lt (lease_deadline w n x d) m) e in ap (λ b. cond b (Some x) (find (is_overdue w n g r d m) xs)) current ∙ rest none
+        at false e rest none = let current : is_overdue (point w n g) r d m x ≡ false = overdue_borrows w n g r d m x ∙ ap (λ b. b && nat_lt (lease_deadline w n x d) m) e in ap (λ b. cond b (Some x) (find (is_overdue (point w n g) r d m) xs)) current ∙ rest none
 
 -- Accesses
 
@@ -60,7 +60,7 @@ record IsTold (n : Reading) (history : List Kept) : Type 0 where
   placings : (q : ℕ) → placed_at history q ≡ stamp_of n q
 
 module _ (w : Setting) (n : Reading) (g : Grips) (f : Facts w n g) (d : ℕ) (history : List Kept) (told : IsTold n history) where
-  tells_borrower : (r : ℕ) → TellsTest w n g f d (is_borrower w n g r d) (access_borrows history (placed_at history r))
+  tells_borrower : (r : ℕ) → TellsTest w n g f d (is_borrower (point w n g) r d) (access_borrows history (placed_at history r))
   tells_borrower r x rest tells used = turned (not (is_released x.status)) (nat_lt (placed_at history r) (placed_at history x.run.0)) (is_none (doom_of history x.run.0)) ∙ at (is_doomed n x.run.0) refl
     where
       unsome : (o : Option Cause) → is_none o ≡ not (is_some o)
@@ -76,25 +76,25 @@ module _ (w : Setting) (n : Reading) (g : Grips) (f : Facts w n g) (d : ℕ) (hi
       turned : (a b c : Bool) → (a && b && c) ≡ (c && b && a)
       turned a b c = grind (arith, common_steps)
 
-      at : (b : Bool) → is_doomed n x.run.0 ≡ b → (is_none (doom_of history x.run.0) && nat_lt (placed_at history r) (placed_at history x.run.0) && not (is_released x.status)) ≡ is_borrower w n g r d x.run.0
+      at : (b : Bool) → is_doomed n x.run.0 ≡ b → (is_none (doom_of history x.run.0) && nat_lt (placed_at history r) (placed_at history x.run.0) && not (is_released x.status)) ≡ is_borrower (point w n g) r d x.run.0
       at true e = rw (sound, e) refl
-      at false e = ap₂ (λ a b. a && nat_lt (placed_at history r) (placed_at history x.run.0) && b) sound (sound_holds w n g f d x rest tells used e) ∙ ap (λ b. not (is_doomed n x.run.0) && b && holds_device w n g x.run.0 d) later
+      at false e = ap₂ (λ a b. a && nat_lt (placed_at history r) (placed_at history x.run.0) && b) sound (sound_holds w n g f d x rest tells used e) ∙ ap (λ b. not (is_doomed n x.run.0) && b && holds_device (point w n g) x.run.0 d) later
 
-  deadline_told : (x : Access) (rest : List Access) → TellsOfRun w n g d x rest → access_deadline w.runs d x ≡ lease_deadline w n x.run.0 d
+  deadline_told : (x : Access) (rest : List Access) → TellsOfRun (point w n g) d x rest → access_deadline w.runs d x ≡ lease_deadline w n x.run.0 d
   deadline_told x rest tells = ap (λ t. min (t + tenth_up (estimate_to_last d (commands_of w.runs x.run.0))) greatest) tells.to
 
-  tells_overdue : (r m : ℕ) → TellsTest w n g f d (is_overdue w n g r d m) (access_is_overdue w.runs history (placed_at history r) d m)
+  tells_overdue : (r m : ℕ) → TellsTest w n g f d (is_overdue (point w n g) r d m) (access_is_overdue w.runs history (placed_at history r) d m)
   tells_overdue r m x rest tells used =
       ap₂ (λ b t. b && nat_lt t m) (tells_borrower r x rest tells used) (deadline_told x rest tells) ∙ sym (overdue_borrows w n g r d m x.run.0)
 
-  borrower_holds : (r q : ℕ) → is_borrower w n g r d q ≡ true → holds_device w n g q d ≡ true
+  borrower_holds : (r q : ℕ) → is_borrower (point w n g) r d q ≡ true → holds_device (point w n g) q d ≡ true
   borrower_holds r q yes' = grind (arith, common_steps)
 
-  overdue_holds : (r m q : ℕ) → is_overdue w n g r d m q ≡ true → holds_device w n g q d ≡ true
+  overdue_holds : (r m q : ℕ) → is_overdue (point w n g) r d m q ≡ true → holds_device (point w n g) q d ≡ true
   overdue_holds r m q yes' = grind (arith, common_steps)
 
   -- the deadline of a run's lease, by its access
-  own_deadline : (r : ℕ) (xs : List Access) (x : Access) → EachTellsOfRun w n g d xs → access_of r xs ≡ Some x → access_deadline w.runs d x ≡ lease_deadline w n r d
+  own_deadline : (r : ℕ) (xs : List Access) (x : Access) → EachTellsOfRun (point w n g) d xs → access_of r xs ≡ Some x → access_deadline w.runs d x ≡ lease_deadline w n r d
   own_deadline r [] x all found = absurd (cc)
   own_deadline r (y ∷ ys) x all found = at (y.run.0 == r) refl (own_deadline r ys x all.1) found
     where
@@ -149,13 +149,13 @@ found_leases table line history runs test r d x (Asking s parts turn) found = Le
 -- What is found
 
 overdue_is : (table : List LineageState) (line : List Mark) (history : List Kept) (runs : List Run) (r d m : ℕ) (s : Configuration) → IsStandingOf s table line history runs → IsAsking s r d
-    → option_map (λ q. q.0) (first_before (access_is_overdue runs history (placed_at history r) d m) r (accesses_at table d)) ≡ overdue_for s.setting (read_of s) s.grips r d m
+    → option_map (λ q. q.0) (first_before (access_is_overdue runs history (placed_at history r) d m) r (accesses_at table d)) ≡ overdue_for (point_of s) r d m
 overdue_is table line history runs r d m s parts turn =
     let f = facts_of s table line history runs parts in
     let told = told_of s table line history runs parts in
     let its = parts.its_table.each d (asking_homed s table line history runs r d parts turn) in
     ap (λ rs. option_map (λ q. q.0) (first_before (access_is_overdue rs history (placed_at history r) d m) r (accesses_at table d))) (sym parts.its_roster)
-    ∙ first_holder s.setting (read_of s) s.grips f d (is_overdue s.setting (read_of s) s.grips r d m) (access_is_overdue s.setting.runs history (placed_at history r) d m) r (accesses_at table d)
+    ∙ first_holder s.setting (read_of s) s.grips f d (is_overdue (point_of s) r d m) (access_is_overdue s.setting.runs history (placed_at history r) d m) r (accesses_at table d)
     (overdue_holds s.setting (read_of s) s.grips f d history told r m) (tells_overdue s.setting (read_of s) s.grips f d history told r m) (asking_opens s r d turn) its.runs its.each
 
 pub overdue_none : (table : List LineageState) (line : List Mark) (history : List Kept) (runs : List Run) (r d m : ℕ) → None ≡ first_before (access_is_overdue runs history (placed_at history r) d m) r (accesses_at table d) → IsOverdueOf table line history runs r d m None
@@ -171,12 +171,12 @@ overdue_some table line history runs r d m x t found deadline s parts turn =
     ∙ ap (option_map (λ y. (run_no y, lease_deadline s.setting (read_of s) y d))) (overdue_is table line history runs r d m s parts turn)
 
 borrower_is : (table : List LineageState) (line : List Mark) (history : List Kept) (runs : List Run) (r d : ℕ) (s : Configuration) → IsStandingOf s table line history runs → IsAsking s r d
-    → option_map (λ q. q.0) (first_before (access_borrows history (placed_at history r)) r (accesses_at table d)) ≡ borrower_from s.setting (read_of s) s.grips r d
+    → option_map (λ q. q.0) (first_before (access_borrows history (placed_at history r)) r (accesses_at table d)) ≡ borrower_from (point_of s) r d
 borrower_is table line history runs r d s parts turn =
     let f = facts_of s table line history runs parts in
     let told = told_of s table line history runs parts in
     let its = parts.its_table.each d (asking_homed s table line history runs r d parts turn) in
-    first_holder s.setting (read_of s) s.grips f d (is_borrower s.setting (read_of s) s.grips r d) (access_borrows history (placed_at history r)) r (accesses_at table d)
+    first_holder s.setting (read_of s) s.grips f d (is_borrower (point_of s) r d) (access_borrows history (placed_at history r)) r (accesses_at table d)
     (borrower_holds s.setting (read_of s) s.grips f d history told r) (tells_borrower s.setting (read_of s) s.grips f d history told r) (asking_opens s r d turn) its.runs its.each
 
 pub borrowed_is : (table : List LineageState) (line : List Mark) (history : List Kept) (runs : List Run) (r d : ℕ) (o : Option RunNo) → o ≡ first_before (access_borrows history (placed_at history r)) r (accesses_at table d) → IsBorrowedFrom table line history runs r d (is_some o)

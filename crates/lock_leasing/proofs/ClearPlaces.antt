@@ -18,7 +18,7 @@ use Rattle.home_types.specs.declared.modes.Scheduler.{Scheduler}
 use Rattle.home_types.specs.declared.numbers.RunNo.{RunNo}
 use Rattle.lock_leasing.proofs.Bindings.{any_filter, any_range}
 use Rattle.lock_leasing.proofs.Facts.{command_out}
-use Rattle.lock_leasing.specs.Configurations.{Grips, grips_command}
+use Rattle.lock_leasing.specs.Configurations.{Grips, grips_command, point}
 use Rattle.lock_leasing.specs.Places.{At, Denial, DeniedBy, IsClear, MayBeOut, Placing, at_end, binds, denial_of, first_place, in_order, patience, scheduled_place, up_to_first, up_to_last}
 use Rattle.lock_leasing.specs.Words.{has_touched}
 use Rattle.std.proofs.Common.{ap, arith, refl, subst, sym, ◌∙◌}
@@ -39,11 +39,11 @@ last_within test (i ∷ is) = at (list_any test (i ∷ is)) (last_within test is
     at false behind = omega arith
 
 -- it is one of the line
-pub place_within : (w : Setting) (n : Reading) (g : Grips) (r : ℕ) → first_place w n g r ≤ length n.line
+pub place_within : (w : Setting) (n : Reading) (g : Grips) (r : ℕ) → first_place (point w n g) r ≤ length n.line
 place_within w n g r =
-    let last = last_within (binds w n g r) n.line in
+    let last = last_within (binds (point w n g) r) n.line in
     let live = first_within (of_run (is_live n)) n.line in
-    both (up_to_last (binds w n g r) n.line) (up_to_first (of_run (is_live n)) n.line) (length n.line) last live
+    both (up_to_last (binds (point w n g) r) n.line) (up_to_first (of_run (is_live n)) n.line) (length n.line) last live
   where
     both : (a b k : ℕ) → a ≤ k → b ≤ k → max a b ≤ k
     both a b k h l = grind (arith, common_steps)
@@ -68,21 +68,21 @@ none_behind test (i ∷ is) (suc k) le = by_some (list_any test (i ∷ is)) refl
         last (list_any test (take k is)) (list_any test (drop k is)) (sym (list_any-append test (take k is) (drop k is)) ∙ ap (list_any test) (take-append-drop k is) ∙ last (test i) (list_any test is) e)
 
 -- each place from the first one on is clear
-pub clear_from : (w : Setting) (n : Reading) (g : Grips) (r at : ℕ) → first_place w n g r ≤ at → IsClear w n g r at
-clear_from w n g r at from = none_behind (binds w n g r) n.line at (first (up_to_last (binds w n g r) n.line) (up_to_first (of_run (is_live n)) n.line) at from)
+pub clear_from : (w : Setting) (n : Reading) (g : Grips) (r at : ℕ) → first_place (point w n g) r ≤ at → IsClear (point w n g) r at
+clear_from w n g r at from = none_behind (binds (point w n g) r) n.line at (first (up_to_last (binds (point w n g) r) n.line) (up_to_first (of_run (is_live n)) n.line) at from)
   where
     first : (a b k : ℕ) → max a b ≤ k → a ≤ k
     first a b k h = grind (arith, common_steps)
 
 -- .. and behind what is sealed
-behind_sealed : (w : Setting) (n : Reading) (g : Grips) (r at : ℕ) → first_place w n g r ≤ at → sealed_in n ≤ at
-behind_sealed w n g r at from = last (up_to_last (binds w n g r) n.line) (sealed_in n) at from
+behind_sealed : (w : Setting) (n : Reading) (g : Grips) (r at : ℕ) → first_place (point w n g) r ≤ at → sealed_in n ≤ at
+behind_sealed w n g r at from = last (up_to_last (binds (point w n g) r) n.line) (sealed_in n) at from
   where
     last : (a b k : ℕ) → max a b ≤ k → b ≤ k
     last a b k h = grind (arith, common_steps)
 
 -- .. and so is the end
-pub clear_at_end : (w : Setting) (n : Reading) (g : Grips) (r : ℕ) → IsClear w n g r (length n.line)
+pub clear_at_end : (w : Setting) (n : Reading) (g : Grips) (r : ℕ) → IsClear (point w n g) r (length n.line)
 clear_at_end w n g r = clear_from w n g r (length n.line) (place_within w n g r)
 
 -- where one test holds of none of these items, neither does one that fails wherever it does
@@ -99,7 +99,7 @@ none_beside test p (i ∷ is) each none = λ j. each i (first (test i) (list_any
 -- The set of the timeline
 
 -- what binds is needed
-bound_needed : (w : Setting) (n : Reading) (g : Grips) (r : ℕ) → MayBeOut w n g → (i : Item) → is_needed w n r i ≡ false → binds w n g r i ≡ false
+bound_needed : (w : Setting) (n : Reading) (g : Grips) (r : ℕ) → MayBeOut (point w n g) → (i : Item) → is_needed w n r i ≡ false → binds (point w n g) r i ≡ false
 bound_needed w n g r out (Ran x) none =
     let parts = neither (list_any (λ d. did n x.0 d || (is_live n x.0 && is_next_on w n x.0 d)) (devices_of w r)) (follows w.runs r x.0 && is_committed n x.0) none in
     λ k. none_touched (devices_of w r) parts.0 k || parts.1 k
@@ -137,10 +137,10 @@ pub record StandsAt (w : Setting) (n : Reading) (r m : ℕ) (s : Split) : Type 0
 
 -- .. and where only such grips are out as may be, nothing behind it must stand before
 abbrev IsPlaceFor : Setting → Reading → Grips → ℕ → ℕ → Split → Type 0
-IsPlaceFor w n g r m s = StandsAt w n r m s × (MayBeOut w n g → IsClear w (in_order n (line_for w n r m)) g r (length s.front))
+IsPlaceFor w n g r m s = StandsAt w n r m s × (MayBeOut (point w n g) → IsClear (point w (in_order n (line_for w n r m)) g) r (length s.front))
 
 -- a place from the first one on, where the line stays as it is
-stands_at : (w : Setting) (n : Reading) (g : Grips) (r at m : ℕ) (s : Split) → line_for w n r m ≡ n.line → first_place w n g r ≤ at → at ≤ length n.line → At (split_at n.line at) ≡ At s → IsPlaceFor w n g r m s
+stands_at : (w : Setting) (n : Reading) (g : Grips) (r at m : ℕ) (s : Split) → line_for w n r m ≡ n.line → first_place (point w n g) r ≤ at → at ≤ length n.line → At (split_at n.line at) ≡ At s → IsPlaceFor w n g r m s
 stands_at w n g r at m s stays from within is = subst (IsPlaceFor w n g r m) (ap placed is) (stands, clear)
   where
     placed : Placing → Split
@@ -157,8 +157,8 @@ stands_at w n g r at m s stays from within is = subst (IsPlaceFor w n g r m) (ap
       within = subst (λ k. k ≤ length n.line) (sym size) within;
     }
 
-    clear : MayBeOut w n g → IsClear w (in_order n (line_for w n r m)) g r (length (take at n.line))
-    clear out = subst (IsClear w (in_order n (line_for w n r m)) g r) (sym size) (subst (λ l. IsClear w (in_order n l) g r at) (sym stays) (clear_from w n g r at from))
+    clear : MayBeOut (point w n g) → IsClear (point w (in_order n (line_for w n r m)) g) r (length (take at n.line))
+    clear out = subst (IsClear (point w (in_order n (line_for w n r m)) g) r) (sym size) (subst (λ l. IsClear (point w (in_order n l) g) r at) (sym stays) (clear_from w n g r at from))
 
 -- behind the set of the timeline, where its items come first in the line
 stands_in_gaps : (w : Setting) (n : Reading) (g : Grips) (r m : ℕ) (s : Split) → line_for w n r m ≡ rearranged (gap_set w n r m) n.line → At (record { front = chosen (gap_set w n r m) n.line; back = others (gap_set w n r m) n.line }) ≡ At s → IsPlaceFor w n g r m s
@@ -190,19 +190,19 @@ stands_in_gaps w n g r m s parts is = subst (IsPlaceFor w n g r m) (ap placed is
       within = let sum = length-append ahead rest in omega (arith, sum, long);
     }
 
-    clear : MayBeOut w n g → IsClear w (in_order n (line_for w n r m)) g r (length ahead)
-    clear out = subst (λ l. IsClear w (in_order n l) g r (length ahead)) (sym parts) (ap (list_any (binds w n g r)) back_is ∙ none_beside (is_needed w n r) (binds w n g r) rest (bound_needed w n g r out) (gap_holds w n r m))
+    clear : MayBeOut (point w n g) → IsClear (point w (in_order n (line_for w n r m)) g) r (length ahead)
+    clear out = subst (λ l. IsClear (point w (in_order n l) g) r (length ahead)) (sym parts) (ap (list_any (binds (point w n g) r)) back_is ∙ none_beside (is_needed w n r) (binds (point w n g) r) rest (bound_needed w n g r out) (gap_holds w n r m))
 
-scheduled : (w : Setting) (n : Reading) (g : Grips) (r m : ℕ) (s : Split) → scheduled_place w n g r m ≡ At s → IsPlaceFor w n g r m s
+scheduled : (w : Setting) (n : Reading) (g : Grips) (r m : ℕ) (s : Split) → scheduled_place (point w n g) r m ≡ At s → IsPlaceFor w n g r m s
 scheduled w n g r m s is = by_scheduler (scheduler_of w.mode) refl is
   where
     admitted : Option Denial → Placing
-    admitted None = At (split_at n.line (first_place w n g r))
+    admitted None = At (split_at n.line (first_place (point w n g) r))
     admitted (Some x) = if nat_le (unwrap_or (n.run r).arrived 0 + patience) m then at_end n else DeniedBy x.device x.run
 
     placed : Scheduler → Placing
     placed Fcfs = at_end n
-    placed JustInTime = admitted (denial_of w n g r)
+    placed JustInTime = admitted (denial_of (point w n g) r)
     placed Timeline = At (record { front = chosen (gap_set w n r m) n.line; back = others (gap_set w n r m) n.line })
 
     line : Scheduler → List Item
@@ -210,14 +210,14 @@ scheduled w n g r m s is = by_scheduler (scheduler_of w.mode) refl is
     line JustInTime = n.line
     line Timeline = rearranged (gap_set w n r m) n.line
 
-    whole : first_place w n g r ≤ length n.line
+    whole : first_place (point w n g) r ≤ length n.line
     whole = place_within w n g r
 
     last : line_for w n r m ≡ n.line → at_end n ≡ At s → IsPlaceFor w n g r m s
     last stays = stands_at w n g r (length n.line) m s stays whole (omega arith)
 
     by_denial : line_for w n r m ≡ n.line → (o : Option Denial) → admitted o ≡ At s → IsPlaceFor w n g r m s
-    by_denial stays None is = stands_at w n g r (first_place w n g r) m s stays (omega arith) whole is
+    by_denial stays None is = stands_at w n g r (first_place (point w n g) r) m s stays (omega arith) whole is
     by_denial stays (Some x) is = by_time (nat_le (unwrap_or (n.run r).arrived 0 + patience) m) is
       where
         by_time : (b : Bool) → (if b then at_end n else DeniedBy x.device x.run) ≡ At s → IsPlaceFor w n g r m s
@@ -226,21 +226,21 @@ scheduled w n g r m s is = by_scheduler (scheduler_of w.mode) refl is
 
     by_scheduler : (scheduler : Scheduler) → line_for w n r m ≡ line scheduler → placed scheduler ≡ At s → IsPlaceFor w n g r m s
     by_scheduler Fcfs same is = last same is
-    by_scheduler JustInTime same is = by_denial same (denial_of w n g r) is
+    by_scheduler JustInTime same is = by_denial same (denial_of (point w n g) r) is
     by_scheduler Timeline same is = stands_in_gaps w n g r m s same is
 
 -- where a scheduler places a run is a place of the line
-pub scheduled_stands : (w : Setting) (n : Reading) (g : Grips) (r m : ℕ) (s : Split) → scheduled_place w n g r m ≡ At s → StandsAt w n r m s
+pub scheduled_stands : (w : Setting) (n : Reading) (g : Grips) (r m : ℕ) (s : Split) → scheduled_place (point w n g) r m ≡ At s → StandsAt w n r m s
 scheduled_stands w n g r m s is = (scheduled w n g r m s is).0
 
 -- .. and a clear one
-pub scheduled_is_clear : (w : Setting) (n : Reading) (g : Grips) (r m : ℕ) (s : Split) → MayBeOut w n g → scheduled_place w n g r m ≡ At s → IsClear w (in_order n (line_for w n r m)) g r (length s.front)
+pub scheduled_is_clear : (w : Setting) (n : Reading) (g : Grips) (r m : ℕ) (s : Split) → MayBeOut (point w n g) → scheduled_place (point w n g) r m ≡ At s → IsClear (point w (in_order n (line_for w n r m)) g) r (length s.front)
 scheduled_is_clear w n g r m s out is = (scheduled w n g r m s is).1 out
 
 -- What stands behind a clear place
 
 -- a run that does not bind has touched no device of the run
-pub unbound_touch : (w : Setting) (n : Reading) (g : Grips) (r d : ℕ) (q : RunNo) → binds w n g r (Ran q) ≡ false → is_device w d ≡ true → touches w.runs r d ≡ true → has_touched n g q.0 d ≡ false
+pub unbound_touch : (w : Setting) (n : Reading) (g : Grips) (r d : ℕ) (q : RunNo) → binds (point w n g) r (Ran q) ≡ false → is_device w d ≡ true → touches w.runs r d ≡ true → has_touched n g q.0 d ≡ false
 unbound_touch w n g r d q unbound device used = by_touch (has_touched n g q.0 d) refl
   where
     none : list_any (has_touched n g q.0) (devices_of w r) ≡ false
@@ -264,30 +264,30 @@ unbound_touch w n g r d q unbound device used = by_touch (has_touched n g q.0 d)
     by_touch false e = refl
 
 -- no run behind the place has touched a device of the run
-pub clear_touch : (w : Setting) (n : Reading) (g : Grips) (r at d : ℕ) → IsClear w n g r at → is_device w d ≡ true → touches w.runs r d ≡ true → list_any (of_run (λ x. has_touched n g x d)) (drop at n.line) ≡ false
-clear_touch w n g r at d clear device used = none_beside (binds w n g r) (of_run (λ x. has_touched n g x d)) (drop at n.line) untouched clear
+pub clear_touch : (w : Setting) (n : Reading) (g : Grips) (r at d : ℕ) → IsClear (point w n g) r at → is_device w d ≡ true → touches w.runs r d ≡ true → list_any (of_run (λ x. has_touched n g x d)) (drop at n.line) ≡ false
+clear_touch w n g r at d clear device used = none_beside (binds (point w n g) r) (of_run (λ x. has_touched n g x d)) (drop at n.line) untouched clear
   where
-    untouched : (i : Item) → binds w n g r i ≡ false → of_run (λ x. has_touched n g x d) i ≡ false
+    untouched : (i : Item) → binds (point w n g) r i ≡ false → of_run (λ x. has_touched n g x d) i ≡ false
     untouched (Ran q) unbound = unbound_touch w n g r d q unbound device used
     untouched (Failed e k) unbound = refl
     untouched (Back e k) unbound = refl
 
 -- .. and no event of one stands there
-pub clear_event : (w : Setting) (n : Reading) (g : Grips) (r at d : ℕ) → IsClear w n g r at → touches w.runs r d ≡ true → list_any (is_event_on d) (drop at n.line) ≡ false
-clear_event w n g r at d clear used = none_beside (binds w n g r) (is_event_on d) (drop at n.line) elsewhere clear
+pub clear_event : (w : Setting) (n : Reading) (g : Grips) (r at d : ℕ) → IsClear (point w n g) r at → touches w.runs r d ≡ true → list_any (is_event_on d) (drop at n.line) ≡ false
+clear_event w n g r at d clear used = none_beside (binds (point w n g) r) (is_event_on d) (drop at n.line) elsewhere clear
   where
     differ : (e : ℕ) → touches w.runs r e ≡ false → (b : Bool) → (e == d) ≡ b → b ≡ false
     differ e off true h = absurd (let same : e ≡ d = grind (arith, common_steps) in let clash : true ≡ false = sym used ∙ sym (ap (touches w.runs r) same) ∙ off in cc)
     differ e off false h = refl
 
-    elsewhere : (i : Item) → binds w n g r i ≡ false → is_event_on d i ≡ false
+    elsewhere : (i : Item) → binds (point w n g) r i ≡ false → is_event_on d i ≡ false
     elsewhere (Ran q) unbound = refl
     elsewhere (Failed e k) unbound = differ e.0 unbound (e.0 == d) refl
     elsewhere (Back e k) unbound = differ e.0 unbound (e.0 == d) refl
 
 -- the committed run that the run follows does not stand there
-pub clear_followed : (w : Setting) (n : Reading) (g : Grips) (r at x : ℕ) → IsClear w n g r at → follows w.runs r x ≡ true → is_committed n x ≡ true → list_any (is_ran x) (drop at n.line) ≡ false
-clear_followed w n g r at x clear followed committed = none_beside (binds w n g r) (is_ran x) (drop at n.line) other clear
+pub clear_followed : (w : Setting) (n : Reading) (g : Grips) (r at x : ℕ) → IsClear (point w n g) r at → follows w.runs r x ≡ true → is_committed n x ≡ true → list_any (is_ran x) (drop at n.line) ≡ false
+clear_followed w n g r at x clear followed committed = none_beside (binds (point w n g) r) (is_ran x) (drop at n.line) other clear
   where
     last : (a b : Bool) → (a || b) ≡ false → b ≡ false
     last a b h = grind (arith, common_steps)
@@ -300,7 +300,7 @@ clear_followed w n g r at x clear followed committed = none_beside (binds w n g 
         )
     differ q off false h = refl
 
-    other : (i : Item) → binds w n g r i ≡ false → is_ran x i ≡ false
+    other : (i : Item) → binds (point w n g) r i ≡ false → is_ran x i ≡ false
     other (Ran q) unbound = differ q.0 (last (list_any (has_touched n g q.0) (devices_of w r)) (follows w.runs r q.0 && is_committed n q.0) unbound) (q.0 == x) refl
     other (Failed e k) unbound = refl
     other (Back e k) unbound = refl

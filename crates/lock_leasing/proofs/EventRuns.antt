@@ -11,7 +11,7 @@ use Rattle.lineage_table.specs.declared.accesses.Access.{Access}
 use Rattle.lock_leasing.proofs.AccessRuns.{EachTail, HasAccess, has_work, workers_have_access}
 use Rattle.lock_leasing.proofs.Facts.{Facts}
 use Rattle.lock_leasing.proofs.Holding.{TellsTest, weaker}
-use Rattle.lock_leasing.specs.Configurations.{Grips}
+use Rattle.lock_leasing.specs.Configurations.{Grips, point}
 use Rattle.lock_leasing.specs.Order.{covers}
 use Rattle.lock_leasing.specs.Places.{up_to_first}
 use Rattle.lock_leasing.specs.Tables.{EachTellsOfRun, runs_with_access, uses}
@@ -38,7 +38,7 @@ module _ (w : Setting) (n : Reading) (g : Grips) (f : Facts w n g) (d : ℕ) whe
   abbrev HasWhere : (ℕ → Bool) → Item → List Item → Type 0
   HasWhere held i is = of_run (λ q. is_live n q && held q) i ≡ true → (of_run (uses w n d) i && not (list_any (covers n d) is)) ≡ true
 
-  first_along : (held : ℕ → Bool) (test : Access → Bool) → TellsTest w n g f d held test → (is : List Item) (xs : List Access) → EachTail (HasWhere held) is → map (λ x. x.run.0) xs ≡ runs_with_access w n d is → EachTellsOfRun w n g d xs
+  first_along : (held : ℕ → Bool) (test : Access → Bool) → TellsTest w n g f d held test → (is : List Item) (xs : List Access) → EachTail (HasWhere held) is → map (λ x. x.run.0) xs ≡ runs_with_access w n d is → EachTellsOfRun (point w n g) d xs
       → option_map (λ x. x.run.0) (find test xs) ≡ find held (live_runs n is)
   first_along held test tells [] [] has same all = refl
   first_along held test tells [] (x ∷ xs) has same all = absurd (cc)
@@ -63,8 +63,8 @@ module _ (w : Setting) (n : Reading) (g : Grips) (f : Facts w n g) (d : ℕ) whe
       either true x ys own behind = ap (λ k. Some k) own
       either false x ys own behind = behind
 
-      by_access : (c : Bool) → (uses w n d q.0 && not (list_any (covers n d) is)) ≡ c → (ys : List Access) → map (λ x. x.run.0) ys ≡ (if c then (q.0 ∷ runs_with_access w n d is) else runs_with_access w n d is) → EachTellsOfRun w n g d ys
-          → ((zs : List Access) → map (λ x. x.run.0) zs ≡ runs_with_access w n d is → EachTellsOfRun w n g d zs → option_map (λ x. x.run.0) (find test zs) ≡ rest) → option_map (λ x. x.run.0) (find test ys) ≡ find held (live_runs n (Ran q ∷ is))
+      by_access : (c : Bool) → (uses w n d q.0 && not (list_any (covers n d) is)) ≡ c → (ys : List Access) → map (λ x. x.run.0) ys ≡ (if c then (q.0 ∷ runs_with_access w n d is) else runs_with_access w n d is) → EachTellsOfRun (point w n g) d ys
+          → ((zs : List Access) → map (λ x. x.run.0) zs ≡ runs_with_access w n d is → EachTellsOfRun (point w n g) d zs → option_map (λ x. x.run.0) (find test zs) ≡ rest) → option_map (λ x. x.run.0) (find test ys) ≡ find held (live_runs n (Ran q ∷ is))
       by_access true access [] same all behind = absurd (cc)
       by_access true access (x ∷ ys) same all behind =
           let own : x.run.0 ≡ q.0 = ap (λ l. head_or l 0) same in
@@ -81,7 +81,7 @@ module _ (w : Setting) (n : Reading) (g : Grips) (f : Facts w n g) (d : ℕ) whe
           unheld false no' live = refl
 
   -- the run of the first access that passes a test is the first live run of the line of which it tells, where it tells of open runs alone
-  pub first_open : (held : ℕ → Bool) (test : Access → Bool) (xs : List Access) → ((q : ℕ) → held q ≡ true → is_open w n q d ≡ true) → TellsTest w n g f d held test → map (λ x. x.run.0) xs ≡ runs_with_access w n d n.line → EachTellsOfRun w n g d xs
+  pub first_open : (held : ℕ → Bool) (test : Access → Bool) (xs : List Access) → ((q : ℕ) → held q ≡ true → is_open w n q d ≡ true) → TellsTest w n g f d held test → map (λ x. x.run.0) xs ≡ runs_with_access w n d n.line → EachTellsOfRun (point w n g) d xs
       → option_map (λ x. x.run.0) (find test xs) ≡ find held (live_runs n n.line)
   first_open held test xs opens tells runs told = first_along held test tells n.line xs (weaker (HasAccess w n g f d) (HasWhere held) each n.line (workers_have_access w n g f d)) runs told
     where

@@ -14,7 +14,9 @@ use Rattle.history_book.specs.declared.entries.Kept.{Kept}
 use Rattle.home_types.specs.declared.commands.Command.{Command}
 use Rattle.lineage_table.specs.Lineages.{LineageState}
 use Rattle.command_rules.specs.Rosters.{Run}
-use Rattle.lock_leasing.specs.Configurations.{Commands, Configuration, Grip, Grips, Probes, Purpose, Undoes, grips_command, grips_undo, is_command, is_undo, read_of}
+use Rattle.lock_leasing.specs.Configurations.{Configuration, Grip, Grips, grips_command, grips_undo, is_command, is_undo, point, read_of}
+use Rattle.lock_leasing.specs.declared.purposes.Purpose.TheVariants.{Commands, Probes, Undoes}
+use Rattle.lock_leasing.specs.declared.purposes.Purpose.{Purpose}
 use Rattle.lock_leasing.specs.Order.{open_runs_are_last}
 use Rattle.lock_leasing.specs.Places.{MayBeOut}
 use Rattle.lock_leasing.specs.Standings.{IsStandingOf}
@@ -30,8 +32,8 @@ pub record Facts (w : Setting) (n : Reading) (g : Grips) : Type 0 where
   pub shaped : Shaped w n
   pub line : Standing n
   pub once : StandsOnce n
-  pub grips : MayBeOut w n g
-  pub last : (d : ℕ) → IsTrue (open_runs_are_last w n g d n.line)
+  pub grips : MayBeOut (point w n g)
+  pub last : (d : ℕ) → IsTrue (open_runs_are_last (point w n g) d n.line)
 
 pub facts_of : (s : Configuration) (table : List LineageState) (line : List Mark) (history : List Kept) (runs : List Run) → IsStandingOf s table line history runs → Facts s.setting (read_of s) s.grips
 facts_of s table line history runs is = record {

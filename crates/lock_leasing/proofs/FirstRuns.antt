@@ -13,7 +13,7 @@ use Rattle.home_types.specs.declared.modes.Scheduler.{Scheduler}
 use Rattle.home_types.specs.declared.modes.Visibility.{Visibility}
 use Rattle.home_types.specs.declared.modes.Visibility.TheVariants.{Eventual, Global, Partitioned, Weak}
 use Rattle.home_types.specs.declared.worlds.Stand.{Stand}
-use Rattle.lock_leasing.specs.Configurations.{Grips}
+use Rattle.lock_leasing.specs.Configurations.{Grips, point}
 use Rattle.lock_leasing.specs.FirstRuns.{IsFirstLive, WaitsForNone}
 use Rattle.lock_leasing.specs.Touches.{touch_by}
 use Rattle.lock_leasing.specs.Waits.{behind_wait, dirty_wait, strict_wait}
@@ -34,7 +34,7 @@ none_is_first runs kinds first Global scheduler n r none = ap (λ xs. find (λ x
 none_is_first runs kinds first Partitioned scheduler n r none = ap (λ xs. find (λ x. shares runs x r) xs) none
 none_is_first runs kinds first Eventual scheduler n r none = refl
 
-pub waits_for_none : (w : Setting) (n : Reading) (g : Grips) (r : ℕ) → live_before n r ≡ [] → WaitsForNone w n g r
+pub waits_for_none : (w : Setting) (n : Reading) (g : Grips) (r : ℕ) → live_before n r ≡ [] → WaitsForNone (point w n g) r
 waits_for_none w n g r none = record {
   behind = behind';
   dirty = dirty';
@@ -49,10 +49,10 @@ waits_for_none w n g r none = record {
     either true = refl
     either false = refl
 
-    behind' : (d : ℕ) → behind_wait w n g r d ≡ None
-    behind' d = ap (λ xs. find (λ x. holds_device w n g x d) xs) none
+    behind' : (d : ℕ) → behind_wait (point w n g) r d ≡ None
+    behind' d = ap (λ xs. find (λ x. holds_device (point w n g) x d) xs) none
 
-    dirty' : (c : Command) → dirty_wait w n g r c ≡ None
+    dirty' : (c : Command) → dirty_wait (point w n g) r c ≡ None
     dirty' c =
         ap (λ xs. if reads c.job && not (sees_down n r c.device.0) && not (has_written n r c.device.0) then find (λ x. has_effect n g x c.device.0) xs else None) none
         ∙ either (reads c.job && not (sees_down n r c.device.0) && not (has_written n r c.device.0))

@@ -16,7 +16,7 @@ use Rattle.lineage_table.specs.declared.accesses.Access.{Access}
 use Rattle.lock_leasing.proofs.AccessRuns.{EachTail, HasAccess, has_work, workers_have_access}
 use Rattle.lock_leasing.proofs.Facts.{Facts, command_pends, undone_doomed}
 use Rattle.lock_leasing.proofs.Writers.{live_writer, run_in, writer_has_effect, writer_is}
-use Rattle.lock_leasing.specs.Configurations.{Grips, grips_command}
+use Rattle.lock_leasing.specs.Configurations.{Grips, grips_command, point}
 use Rattle.lock_leasing.specs.Holders.{access_holds, dirty_writer, holder_before, is_down_view, is_writer, reads_its_place, sees_it_down, writer_before}
 use Rattle.lock_leasing.specs.Order.{covers}
 use Rattle.lock_leasing.specs.Tables.{EachTellsOfRun, TellsOfRun, runs_with_access, status_by_answers, uses, view_when}
@@ -45,7 +45,7 @@ module _ (w : Setting) (n : Reading) (g : Grips) (f : Facts w n g) (d : ℕ) whe
   -- A walk along the line beside the accesses
 
   abbrev Shows : List Item → List Access → Type 0
-  Shows is xs = (map (λ x. x.run.0) xs ≡ runs_with_access w n d is) × EachTellsOfRun w n g d xs
+  Shows is xs = (map (λ x. x.run.0) xs ≡ runs_with_access w n d is) × EachTellsOfRun (point w n g) d xs
 
   -- each live run of which the test holds has an access, and the run r too
   abbrev HasIfHeld : (ℕ → Bool) → ℕ → Item → List Item → Type 0
@@ -53,7 +53,7 @@ module _ (w : Setting) (n : Reading) (g : Grips) (f : Facts w n g) (d : ℕ) whe
 
   -- an access tells the test of its run
   abbrev pub TellsTest : (ℕ → Bool) → (Access → Bool) → Type 0
-  TellsTest held test = (x : Access) (rest : List Access) → TellsOfRun w n g d x rest → uses w n d x.run.0 ≡ true → test x ≡ held x.run.0
+  TellsTest held test = (x : Access) (rest : List Access) → TellsOfRun (point w n g) d x rest → uses w n d x.run.0 ≡ true → test x ≡ held x.run.0
 
   abbrev Same : (ℕ → Bool) → (Access → Bool) → ℕ → List Item → List Access → Type 0
   Same held test r is xs = run_in w n g f d (first_before test r xs) ≡ find held (live_runs n (lines.before r is))
@@ -72,7 +72,7 @@ module _ (w : Setting) (n : Reading) (g : Grips) (f : Facts w n g) (d : ℕ) whe
       next [] used same = absurd (cc)
       next (x ∷ ys) used same = let own : x.run.0 ≡ r = ap (λ l. head_or l 0) same in let mine : (x.run.0 == r) ≡ true = grind (arith, common_steps) in ap (λ b. run_in w n g f d (option_map (λ y. y.run) (find test (if b then [] else x ∷ accesses_before r ys)))) mine
 
-      passes : (ys : List Access) → (q.0 == r) ≡ false → uses w n d q.0 ≡ true → map (λ x. x.run.0) ys ≡ q.0 ∷ runs_with_access w n d is → EachTellsOfRun w n g d ys
+      passes : (ys : List Access) → (q.0 == r) ≡ false → uses w n d q.0 ≡ true → map (λ x. x.run.0) ys ≡ q.0 ∷ runs_with_access w n d is → EachTellsOfRun (point w n g) d ys
           → run_in w n g f d (first_before test r ys) ≡ cond (held q.0) (Some q.0) (find held (live_runs n bs))
       passes [] other used same all = absurd (cc)
       passes (x ∷ ys) other used same all =
@@ -115,7 +115,7 @@ module _ (w : Setting) (n : Reading) (g : Grips) (f : Facts w n g) (d : ℕ) whe
   -- the access of a run that has one
 
   abbrev OwnAccess : ℕ → List Access → Type 0
-  OwnAccess r xs = (x : Access) × (rest : List Access) × (access_of r xs ≡ Some x) × (x.run.0 ≡ r) × TellsOfRun w n g d x rest
+  OwnAccess r xs = (x : Access) × (rest : List Access) × (access_of r xs ≡ Some x) × (x.run.0 ≡ r) × TellsOfRun (point w n g) d x rest
 
   own_access : (held : ℕ → Bool) (r : ℕ) (is : List Item) (xs : List Access) → EachTail (HasIfHeld held r) is → Shows is xs → list_any (is_ran r) is ≡ true → OwnAccess r xs
   own_access held r [] xs has shows among = absurd (cc)
@@ -123,7 +123,7 @@ module _ (w : Setting) (n : Reading) (g : Grips) (f : Facts w n g) (d : ℕ) whe
   own_access held r (Back e k ∷ is) xs has shows among = own_access held r is xs has.1 shows among
   own_access held r (Ran q ∷ is) xs has shows among = by_own (q.0 == r) (uses w n d q.0 && not (list_any (covers n d) is)) refl refl xs shows.0 shows.1 (λ ys z. own_access held r is ys has.1 z)
     where
-      by_own : (b c : Bool) → (q.0 == r) ≡ b → (uses w n d q.0 && not (list_any (covers n d) is)) ≡ c → (ys : List Access) → map (λ x. x.run.0) ys ≡ (if c then (q.0 ∷ runs_with_access w n d is) else runs_with_access w n d is) → EachTellsOfRun w n g d ys
+      by_own : (b c : Bool) → (q.0 == r) ≡ b → (uses w n d q.0 && not (list_any (covers n d) is)) ≡ c → (ys : List Access) → map (λ x. x.run.0) ys ≡ (if c then (q.0 ∷ runs_with_access w n d is) else runs_with_access w n d is) → EachTellsOfRun (point w n g) d ys
           → ((zs : List Access) → Shows is zs → list_any (is_ran r) is ≡ true → OwnAccess r zs) → OwnAccess r ys
       by_own true false own none ys same all behind = let some : (uses w n d q.0 && not (list_any (covers n d) is)) ≡ true = has.0 (grind (arith, common_steps)) in absurd (cc (some, none))
       by_own true true own access [] same all behind = absurd (cc)
@@ -141,7 +141,7 @@ module _ (w : Setting) (n : Reading) (g : Grips) (f : Facts w n g) (d : ℕ) whe
 
   -- Holding
 
-  holds_works : (q : ℕ) → (is_live n q && holds_device w n g q d) ≡ true → has_work w n g f d q ≡ true
+  holds_works : (q : ℕ) → (is_live n q && holds_device (point w n g) q d) ≡ true → has_work w n g f d q ≡ true
   holds_works q held = at (is_doomed n q) refl
     where
       at : (b : Bool) → is_doomed n q ≡ b → has_work w n g f d q ≡ true
@@ -165,56 +165,56 @@ module _ (w : Setting) (n : Reading) (g : Grips) (f : Facts w n g) (d : ℕ) whe
       each (Back e k) is has yes' = absurd (cc)
 
   -- a run that is not doomed holds the device where its access is not released
-  pub sound_holds : (x : Access) (rest : List Access) → TellsOfRun w n g d x rest → uses w n d x.run.0 ≡ true → is_doomed n x.run.0 ≡ false → not (is_released x.status) ≡ holds_device w n g x.run.0 d
+  pub sound_holds : (x : Access) (rest : List Access) → TellsOfRun (point w n g) d x rest → uses w n d x.run.0 ≡ true → is_doomed n x.run.0 ≡ false → not (is_released x.status) ≡ holds_device (point w n g) x.run.0 d
   sound_holds x rest tells used e = ap (λ s. not (is_released s)) (tells.status (rw e refl)) ∙ by_status (did n r d) (pends w n r d) (grips_command g r d) refl refl refl ∙ whole (grind (arith, common_steps))
     where
       r : ℕ
       r = x.run.0
 
-      by_status : (a b c : Bool) → did n r d ≡ a → pends w n r d ≡ b → grips_command g r d ≡ c → not (is_released (status_by_answers w n g r d)) ≡ pends w n r d
+      by_status : (a b c : Bool) → did n r d ≡ a → pends w n r d ≡ b → grips_command g r d ≡ c → not (is_released (status_by_answers (point w n g) r d)) ≡ pends w n r d
       by_status true true c e1 e2 e3 = rw (e1, e, e2) refl
       by_status true false true e1 e2 e3 = absurd (cc (command_pends w n g r d f e3, e2))
       by_status true false false e1 e2 e3 = rw (e1, e, e2, e3) refl
       by_status false true c e1 e2 e3 = rw (e1, e2) refl
       by_status false false c e1 e2 e3 = absurd (grind (arith, common_steps))
 
-      whole : is_live n r ≡ true → pends w n r d ≡ holds_device w n g r d
+      whole : is_live n r ≡ true → pends w n r d ≡ holds_device (point w n g) r d
       whole live = rw (live, e) refl
 
-  tells_holds : (history : List Kept) (writer : Option RunNo) → ((r : ℕ) → is_some (doom_of history r) ≡ is_doomed n r) → run_in w n g f d writer ≡ live_writer w n g f d (effective_write n g d) → TellsTest (λ q. holds_device w n g q d) (access_holds history writer)
+  tells_holds : (history : List Kept) (writer : Option RunNo) → ((r : ℕ) → is_some (doom_of history r) ≡ is_doomed n r) → run_in w n g f d writer ≡ live_writer w n g f d (effective_write n g d) → TellsTest (λ q. holds_device (point w n g) q d) (access_holds history writer)
   tells_holds history writer dooms same x rest tells used = at (is_doomed n x.run.0) refl
     where
       r : ℕ
       r = x.run.0
 
-      at : (b : Bool) → is_doomed n r ≡ b → access_holds history writer x ≡ holds_device w n g r d
+      at : (b : Bool) → is_doomed n r ≡ b → access_holds history writer x ≡ holds_device (point w n g) r d
       at true e =
           let effect : is_writer writer x ≡ has_effect n g r d = writer_has_effect w n g f d writer x same (grind (arith, common_steps)) in
           let doomed : is_some (doom_of history r) ≡ true = dooms r ∙ e in
           ap (λ b. if b then is_writer writer x else not (is_released x.status)) doomed ∙ effect ∙ whole (grind (arith, common_steps)) (grind (arith, common_steps))
         where
-          whole : is_live n r ≡ true → touches w.runs r d ≡ true → has_effect n g r d ≡ holds_device w n g r d
+          whole : is_live n r ≡ true → touches w.runs r d ≡ true → has_effect n g r d ≡ holds_device (point w n g) r d
           whole live on = rw (live, e, on) refl
       at false e =
           let sound : is_some (doom_of history r) ≡ false = dooms r ∙ e in
           ap (λ b. if b then is_writer writer x else not (is_released x.status)) sound ∙ sound_holds x rest tells used e
 
   -- the first run before r of which a test holds that asks that the run holds the device
-  pub first_holder : (held : ℕ → Bool) (test : Access → Bool) (r : ℕ) (xs : List Access) → ((q : ℕ) → held q ≡ true → holds_device w n g q d ≡ true) → TellsTest held test → is_open w n r d ≡ true
-      → map (λ x. x.run.0) xs ≡ runs_with_access w n d n.line → EachTellsOfRun w n g d xs → run_in w n g f d (first_before test r xs) ≡ find held (live_before n r)
+  pub first_holder : (held : ℕ → Bool) (test : Access → Bool) (r : ℕ) (xs : List Access) → ((q : ℕ) → held q ≡ true → holds_device (point w n g) q d ≡ true) → TellsTest held test → is_open w n r d ≡ true
+      → map (λ x. x.run.0) xs ≡ runs_with_access w n d n.line → EachTellsOfRun (point w n g) d xs → run_in w n g f d (first_before test r xs) ≡ find held (live_before n r)
   first_holder held test r xs holds tells opened runs told = walk_same held test r tells n.line xs (has_if held r opened (λ q yes'. holds_works q (both q yes'))) (runs, told)
     where
-      both : (q : ℕ) → (is_live n q && held q) ≡ true → (is_live n q && holds_device w n g q d) ≡ true
-      both q yes' = let holding : holds_device w n g q d ≡ true = holds q (grind (arith, common_steps)) in grind (arith, common_steps)
+      both : (q : ℕ) → (is_live n q && held q) ≡ true → (is_live n q && holds_device (point w n g) q d) ≡ true
+      both q yes' = let holding : holds_device (point w n g) q d ≡ true = holds q (grind (arith, common_steps)) in grind (arith, common_steps)
 
   pub holder_is : (history : List Kept) (r : ℕ) (xs : List Access) → ((q : ℕ) → is_some (doom_of history q) ≡ is_doomed n q) → is_open w n r d ≡ true
-      → map (λ x. x.run.0) xs ≡ runs_with_access w n d n.line → EachTellsOfRun w n g d xs → run_in w n g f d (holder_before history r xs) ≡ behind_wait w n g r d
+      → map (λ x. x.run.0) xs ≡ runs_with_access w n d n.line → EachTellsOfRun (point w n g) d xs → run_in w n g f d (holder_before history r xs) ≡ behind_wait (point w n g) r d
   holder_is history r xs dooms opened runs tells =
-      first_holder (λ q. holds_device w n g q d) (access_holds history (effective_writer xs)) r xs (λ q yes'. yes') (tells_holds history (effective_writer xs) dooms (writer_is w n g f d xs runs tells)) opened runs tells
+      first_holder (λ q. holds_device (point w n g) q d) (access_holds history (effective_writer xs)) r xs (λ q yes'. yes') (tells_holds history (effective_writer xs) dooms (writer_is w n g f d xs runs tells)) opened runs tells
 
   -- A dirty read
 
-  writer_before_is : (r : ℕ) (xs : List Access) → is_open w n r d ≡ true → map (λ x. x.run.0) xs ≡ runs_with_access w n d n.line → EachTellsOfRun w n g d xs
+  writer_before_is : (r : ℕ) (xs : List Access) → is_open w n r d ≡ true → map (λ x. x.run.0) xs ≡ runs_with_access w n d n.line → EachTellsOfRun (point w n g) d xs
       → run_in w n g f d (writer_before r xs) ≡ find (λ q. has_effect n g q d) (live_before n r)
   writer_before_is r xs opened runs tells =
       walk_same (λ q. has_effect n g q d) (is_writer (effective_writer xs)) r told n.line xs (has_if (λ q. has_effect n g q d) r opened effect_works) (runs, tells)
@@ -226,7 +226,7 @@ module _ (w : Setting) (n : Reading) (g : Grips) (f : Facts w n g) (d : ℕ) whe
       effect_works q yes' = grind (arith, common_steps)
 
   -- the access of a run that is not doomed tells whether it sees the device down and whether it wrote
-  place_read : (r : ℕ) (x : Access) (rest : List Access) → is_doomed n r ≡ false → x.run.0 ≡ r → TellsOfRun w n g d x rest → reads_its_place x ≡ (not (sees_down n r d) && not (has_written n r d))
+  place_read : (r : ℕ) (x : Access) (rest : List Access) → is_doomed n r ≡ false → x.run.0 ≡ r → TellsOfRun (point w n g) d x rest → reads_its_place x ≡ (not (sees_down n r d) && not (has_written n r d))
   place_read r x rest sound its tells = subst (λ k. is_doomed n k ≡ false → reads_its_place x ≡ (not (sees_down n k d) && not (has_written n k d))) its at sound
     where
       seen : (v : Option Bool) → unwrap_or (option_map is_down_view (option_map view_when v)) false ≡ unwrap_or (option_map not v) false
@@ -249,7 +249,7 @@ module _ (w : Setting) (n : Reading) (g : Grips) (f : Facts w n g) (d : ℕ) whe
           let wrote : is_none x.wrote ≡ not (has_written n x.run.0 d) = ap is_none tells.wrote ∙ ap (λ b. is_none (if b then None else ((n.run x.run.0).on d).wrote)) kept ∙ unwritten ((n.run x.run.0).on d).wrote in
           ap (λ b. not b && is_none x.wrote) down ∙ ap (λ b. not (sees_down n x.run.0 d) && b) wrote
 
-  dirty_at : (reading : Bool) (r : ℕ) (xs : List Access) → is_open w n r d ≡ true → list_any (is_ran r) n.line ≡ true → map (λ x. x.run.0) xs ≡ runs_with_access w n d n.line → EachTellsOfRun w n g d xs
+  dirty_at : (reading : Bool) (r : ℕ) (xs : List Access) → is_open w n r d ≡ true → list_any (is_ran r) n.line ≡ true → map (λ x. x.run.0) xs ≡ runs_with_access w n d n.line → EachTellsOfRun (point w n g) d xs
       → run_in w n g f d (if reading && unwrap_or (option_map reads_its_place (access_of r xs)) false then writer_before r xs else None)
       ≡ (if reading && not (sees_down n r d) && not (has_written n r d) then find (λ q. has_effect n g q d) (live_before n r) else None)
   dirty_at reading r xs opened among runs tells =
@@ -265,5 +265,5 @@ module _ (w : Setting) (n : Reading) (g : Grips) (f : Facts w n g) (d : ℕ) whe
       by_read false b c same = refl
 
 pub dirty_is : (w : Setting) (n : Reading) (g : Grips) (f : Facts w n g) (c : Command) (r : ℕ) (xs : List Access) → is_open w n r c.device.0 ≡ true → list_any (is_ran r) n.line ≡ true
-    → map (λ x. x.run.0) xs ≡ runs_with_access w n c.device.0 n.line → EachTellsOfRun w n g c.device.0 xs → run_in w n g f c.device.0 (dirty_writer c r xs) ≡ dirty_wait w n g r c
+    → map (λ x. x.run.0) xs ≡ runs_with_access w n c.device.0 n.line → EachTellsOfRun (point w n g) c.device.0 xs → run_in w n g f c.device.0 (dirty_writer c r xs) ≡ dirty_wait (point w n g) r c
 dirty_is w n g f c r xs opened among runs tells = dirty_at w n g f c.device.0 (reads c.job) r xs opened among runs tells

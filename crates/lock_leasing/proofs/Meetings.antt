@@ -9,7 +9,7 @@ use Rattle.home_types.specs.declared.numbers.RunNo.{RunNo}
 use Rattle.lineage_table.specs.Lineages.{LineageState, accesses_at, lineage_at}
 use Rattle.lock_leasing.proofs.Facts.{facts_of, live_stands, next_is_left}
 use Rattle.lock_leasing.proofs.Holding.{dirty_is, holder_is}
-use Rattle.lock_leasing.specs.Configurations.{Configuration, read_of}
+use Rattle.lock_leasing.specs.Configurations.{Configuration, point_of, read_of}
 use Rattle.lock_leasing.specs.Holders.{dirty_writer, holder_before}
 use Rattle.lock_leasing.specs.Standings.{IsAsking, IsAtCommand, IsStandingOf}
 use Rattle.lock_leasing.specs.Tables.{IsLineageOf}
@@ -55,7 +55,7 @@ module _ (s : Configuration) (table : List LineageState) (line : List Mark) (r c
   homed_at : (command_at s.setting.runs r c).device.0 < length s.setting.first
   homed_at = parts.allowed.homed r c (command_at s.setting.runs r c) (item_there (commands_of s.setting.runs r) c no_command turn.command)
 
-  lineage : IsLineageOf s.setting (read_of s) s.grips (command_at s.setting.runs r c).device.0 (lineage_at table (command_at s.setting.runs r c).device.0)
+  lineage : IsLineageOf (point_of s) (command_at s.setting.runs r c).device.0 (lineage_at table (command_at s.setting.runs r c).device.0)
   lineage = parts.its_table.each (command_at s.setting.runs r c).device.0 homed_at
 
   opened : is_open s.setting (read_of s) r (command_at s.setting.runs r c).device.0 ≡ true
@@ -67,7 +67,7 @@ module _ (s : Configuration) (table : List LineageState) (line : List Mark) (r c
   met : touch_by (command_at s.setting.runs r c).device
       (option_map (λ q. q.0) (holder_before s.history r (accesses_at table (command_at s.setting.runs r c).device.0)))
       (option_map (λ q. q.0) (dirty_writer (command_at s.setting.runs r c) r (accesses_at table (command_at s.setting.runs r c).device.0)))
-      ≡ touch_of s.setting (read_of s) s.grips r (command_at s.setting.runs r c)
+      ≡ touch_of (point_of s) r (command_at s.setting.runs r c)
   met =
       let f = facts_of s table line s.history s.setting.runs parts in
       ap₂ (touch_by (command_at s.setting.runs r c).device)
@@ -82,23 +82,23 @@ touch_is table line history runs r c s parts turn = by_history history parts.its
     by_runs : (rs : List Run) → s.setting.runs ≡ rs → IsStandingOf s table line s.history rs
         → touch_by (command_at rs r c).device (option_map (λ q. q.0) (holder_before s.history r (accesses_at table (command_at rs r c).device.0)))
         (option_map (λ q. q.0) (dirty_writer (command_at rs r c) r (accesses_at table (command_at rs r c).device.0)))
-        ≡ touch_of s.setting (read_of s) s.grips r (command_at rs r c)
+        ≡ touch_of (point_of s) r (command_at rs r c)
     by_runs rs same its =
         subst (λ xs. IsStandingOf s table line s.history xs
         → touch_by (command_at xs r c).device (option_map (λ q. q.0) (holder_before s.history r (accesses_at table (command_at xs r c).device.0)))
         (option_map (λ q. q.0) (dirty_writer (command_at xs r c) r (accesses_at table (command_at xs r c).device.0)))
-        ≡ touch_of s.setting (read_of s) s.grips r (command_at xs r c))
+        ≡ touch_of (point_of s) r (command_at xs r c))
         same (λ p. met s table line r c p turn) its
 
     by_history : (hs : List Kept) → s.history ≡ hs → IsStandingOf s table line hs runs
         → touch_by (command_at runs r c).device (option_map (λ q. q.0) (holder_before hs r (accesses_at table (command_at runs r c).device.0)))
         (option_map (λ q. q.0) (dirty_writer (command_at runs r c) r (accesses_at table (command_at runs r c).device.0)))
-        ≡ touch_of s.setting (read_of s) s.grips r (command_at runs r c)
+        ≡ touch_of (point_of s) r (command_at runs r c)
     by_history hs same its =
         subst (λ xs. IsStandingOf s table line xs runs
         → touch_by (command_at runs r c).device (option_map (λ q. q.0) (holder_before xs r (accesses_at table (command_at runs r c).device.0)))
         (option_map (λ q. q.0) (dirty_writer (command_at runs r c) r (accesses_at table (command_at runs r c).device.0)))
-        ≡ touch_of s.setting (read_of s) s.grips r (command_at runs r c))
+        ≡ touch_of (point_of s) r (command_at runs r c))
         same (λ p. by_runs runs p.its_roster p) its
 
 -- the three answers
@@ -106,19 +106,19 @@ touch_is table line history runs r c s parts turn = by_history history parts.its
 pub met_holder : (table : List LineageState) (line : List Mark) (history : List Kept) (runs : List Run) (r c : ℕ) (command : Command) (x : RunNo) → command ≡ command_at runs r c
     → Some x ≡ holder_before history r (accesses_at table command.device.0) → IsTouchOf table line history runs r c (Behind command.device x)
 met_holder table line history runs r c command x same held s parts turn =
-    subst (λ y. Some x ≡ holder_before history r (accesses_at table y.device.0) → Behind y.device x ≡ touch_of s.setting (read_of s) s.grips r (command_at runs r c)) (sym same)
+    subst (λ y. Some x ≡ holder_before history r (accesses_at table y.device.0) → Behind y.device x ≡ touch_of (point_of s) r (command_at runs r c)) (sym same)
     (λ h. ap (λ o. touch_by (command_at runs r c).device (option_map (λ q. q.0) o) (option_map (λ q. q.0) (dirty_writer (command_at runs r c) r (accesses_at table (command_at runs r c).device.0)))) h ∙ touch_is table line history runs r c s parts turn) held
 
 pub met_writer : (table : List LineageState) (line : List Mark) (history : List Kept) (runs : List Run) (r c : ℕ) (command : Command) (x : RunNo) → command ≡ command_at runs r c
     → None ≡ holder_before history r (accesses_at table command.device.0) → Some x ≡ dirty_writer command r (accesses_at table command.device.0) → IsTouchOf table line history runs r c (Dirty command.device x)
 met_writer table line history runs r c command x same none wrote s parts turn =
-    subst (λ y. None ≡ holder_before history r (accesses_at table y.device.0) → Some x ≡ dirty_writer y r (accesses_at table y.device.0) → Dirty y.device x ≡ touch_of s.setting (read_of s) s.grips r (command_at runs r c)) (sym same)
+    subst (λ y. None ≡ holder_before history r (accesses_at table y.device.0) → Some x ≡ dirty_writer y r (accesses_at table y.device.0) → Dirty y.device x ≡ touch_of (point_of s) r (command_at runs r c)) (sym same)
     (λ h k. ap₂ (λ o q. touch_by (command_at runs r c).device (option_map (λ z. z.0) o) (option_map (λ z. z.0) q)) h k ∙ touch_is table line history runs r c s parts turn) none wrote
 
 pub met_none : (table : List LineageState) (line : List Mark) (history : List Kept) (runs : List Run) (r c : ℕ) (command : Command) → command ≡ command_at runs r c
     → None ≡ holder_before history r (accesses_at table command.device.0) → None ≡ dirty_writer command r (accesses_at table command.device.0) → IsTouchOf table line history runs r c Free
 met_none table line history runs r c command same none unwritten s parts turn =
-    subst (λ y. None ≡ holder_before history r (accesses_at table y.device.0) → None ≡ dirty_writer y r (accesses_at table y.device.0) → Free ≡ touch_of s.setting (read_of s) s.grips r (command_at runs r c)) (sym same)
+    subst (λ y. None ≡ holder_before history r (accesses_at table y.device.0) → None ≡ dirty_writer y r (accesses_at table y.device.0) → Free ≡ touch_of (point_of s) r (command_at runs r c)) (sym same)
     (λ h k. ap₂ (λ o q. touch_by (command_at runs r c).device (option_map (λ z. z.0) o) (option_map (λ z. z.0) q)) h k ∙ touch_is table line history runs r c s parts turn) none unwritten
 
 -- A run that may do its command

@@ -14,7 +14,7 @@ use Rattle.lock_leasing.proofs.AccessRuns.{EachTail, last_from}
 use Rattle.lock_leasing.proofs.Effects.{effect_is}
 use Rattle.lock_leasing.proofs.Facts.{Facts, committed_stays, live_uncommitted, written_touches}
 use Rattle.lock_leasing.proofs.Writers.{Stays, all_stay, live_writer, no_write, writer_is, write_by}
-use Rattle.lock_leasing.specs.Configurations.{Grips}
+use Rattle.lock_leasing.specs.Configurations.{Grips, point}
 use Rattle.lock_leasing.specs.Order.{committed_value, covers}
 use Rattle.lock_leasing.specs.Tables.{EachTellsOfRun, TellsOfRun, runs_with_access, uses}
 use Rattle.lock_leasing.specs.Words.{Write, committed_write, effective_write, has_effect, is_undone, next_undo_of, value_without, write_of}
@@ -31,7 +31,7 @@ has_last_write r xs = unwrap_or (option_map (λ (q : RunNo). q.0 == r) (effectiv
 
 module _ (w : Setting) (n : Reading) (g : Grips) (f : Facts w n g) (d r : ℕ) (live : is_live n r ≡ true) where
   -- the effective writer that the accesses tell is the run exactly where it has the effective write
-  pub writes_last : (xs : List Access) → map (λ x. x.run.0) xs ≡ runs_with_access w n d n.line → EachTellsOfRun w n g d xs → has_last_write r xs ≡ has_effect n g r d
+  pub writes_last : (xs : List Access) → map (λ x. x.run.0) xs ≡ runs_with_access w n d n.line → EachTellsOfRun (point w n g) d xs → has_last_write r xs ≡ has_effect n g r d
   writes_last xs runs tells = at (effective_writer xs) (effective_write n g d) (writer_is w n g f d xs runs tells)
     where
       other : (q : ℕ) → is_live n q ≡ false → (b : Bool) → (q == r) ≡ b → false ≡ b
@@ -86,12 +86,12 @@ module _ (w : Setting) (n : Reading) (g : Grips) (f : Facts w n g) (d r : ℕ) (
   -- along the line: the values of the accesses follow the writes of its items
   abbrev Follows : ℕ → List Item → List Access → Option Write → Option ℕ → ℕ → Type 0
   Follows c is xs best known value =
-      map (λ x. x.run.0) xs ≡ runs_with_access w n d is → EachTellsOfRun w n g d xs → unwrap_or (committed_from known is) (stand_at w.first d).value ≡ c
+      map (λ x. x.run.0) xs ≡ runs_with_access w n d is → EachTellsOfRun (point w n g) d xs → unwrap_or (committed_from known is) (stand_at w.first d).value ≡ c
       → (list_any (covers n d) is ≡ true → value ≡ c) → (list_any (covers n d) is ≡ false → value ≡ value_in best)
       → value_standing value (accesses_without r xs) ≡ value_in (last_from w n g f d best (line_without r is))
 
   -- the access of a run is passed, or its value stands
-  shown : (x : Access) (rest : List Access) (q : ℕ) (best : Option Write) (value : ℕ) → TellsOfRun w n g d x rest → x.run.0 ≡ q → value ≡ value_in best → unwrap_or x.wrote value ≡ value_in (option_or (write_of n g d (Ran (run_no q))) best)
+  shown : (x : Access) (rest : List Access) (q : ℕ) (best : Option Write) (value : ℕ) → TellsOfRun (point w n g) d x rest → x.run.0 ≡ q → value ≡ value_in best → unwrap_or x.wrote value ≡ value_in (option_or (write_of n g d (Ran (run_no q))) best)
   shown x rest q best value tells same before =
       at (is_undone n g q d) ((n.run q).on d).wrote (subst (λ k. x.wrote ≡ (if is_undone n g k d then None else ((n.run k).on d).wrote)) same tells.wrote)
     where
@@ -121,7 +121,7 @@ module _ (w : Setting) (n : Reading) (g : Grips) (f : Facts w n g) (d r : ℕ) (
       tail_of (y ∷ ys) = ys
 
       -- its access is passed over ..
-      passed : (ys : List Access) → (q.0 == r) ≡ true → list_any (covers n d) is ≡ false → map (λ x. x.run.0) ys ≡ q.0 ∷ runs_with_access w n d is → EachTellsOfRun w n g d ys → value ≡ value_in best
+      passed : (ys : List Access) → (q.0 == r) ≡ true → list_any (covers n d) is ≡ false → map (λ x. x.run.0) ys ≡ q.0 ∷ runs_with_access w n d is → EachTellsOfRun (point w n g) d ys → value ≡ value_in best
           → value_standing value (accesses_without r ys) ≡ value_in (last_from w n g f d best (line_without r is))
       passed [] mine uncovered same all before = absurd (cc)
       passed (x ∷ ys) mine uncovered same all before =
@@ -130,7 +130,7 @@ module _ (w : Setting) (n : Reading) (g : Grips) (f : Facts w n g) (d r : ℕ) (
           ∙ behind ys best later value (ap tail_of same) all.1 committed (λ covered. absurd (cc)) (λ e. before)
 
       -- .. or stands
-      accessed : (ys : List Access) → (q.0 == r) ≡ false → list_any (covers n d) is ≡ false → map (λ x. x.run.0) ys ≡ q.0 ∷ runs_with_access w n d is → EachTellsOfRun w n g d ys → value ≡ value_in best
+      accessed : (ys : List Access) → (q.0 == r) ≡ false → list_any (covers n d) is ≡ false → map (λ x. x.run.0) ys ≡ q.0 ∷ runs_with_access w n d is → EachTellsOfRun (point w n g) d ys → value ≡ value_in best
           → value_standing value (accesses_without r ys) ≡ value_in (last_from w n g f d next (line_without r is))
       accessed [] other uncovered same all before = absurd (cc)
       accessed (x ∷ ys) other uncovered same all before =
@@ -178,7 +178,7 @@ module _ (w : Setting) (n : Reading) (g : Grips) (f : Facts w n g) (d r : ℕ) (
   along c (Back e k ∷ is) xs best known value stays runs tells committed own none = along c is xs best known value stays.1 runs tells committed own none
 
   -- the value that the accesses of the other runs tell is the one that would stand
-  pub stands_without : (c : ℕ) (xs : List Access) → c ≡ committed_value w n d → map (λ x. x.run.0) xs ≡ runs_with_access w n d n.line → EachTellsOfRun w n g d xs → value_standing c (accesses_without r xs) ≡ value_without w n g r d
+  pub stands_without : (c : ℕ) (xs : List Access) → c ≡ committed_value w n d → map (λ x. x.run.0) xs ≡ runs_with_access w n d n.line → EachTellsOfRun (point w n g) d xs → value_standing c (accesses_without r xs) ≡ value_without (point w n g) r d
   stands_without c xs is runs tells =
       along c n.line xs None None c (all_stay w n g f d) runs tells (sym is) (λ e. refl)
       (λ e. is ∙ ap (λ o. unwrap_or o (stand_at w.first d).value) (none_committed n.line None e))
@@ -198,7 +198,7 @@ same_found p q t a (suc k) m below same part =
     at false false is if-part = refl
 
 -- the first device on which such a test finds the run is the next one on which it is undone
-pub next_device : (w : Setting) (n : Reading) (g : Grips) (r : ℕ) (p : ℕ → Bool) → Facts w n g → ((d : ℕ) → is_device w d ≡ true → p d ≡ has_effect n g r d) → find p (device_numbers w) ≡ next_undo_of w n g r
+pub next_device : (w : Setting) (n : Reading) (g : Grips) (r : ℕ) (p : ℕ → Bool) → Facts w n g → ((d : ℕ) → is_device w d ≡ true → p d ≡ has_effect n g r d) → find p (device_numbers w) ≡ next_undo_of (point w n g) r
 next_device w n g r p f same =
     same_found p (has_effect n g r) (touches w.runs r) 0 (length w.first) (length w.first) (omega arith) same
     (λ d effect. written_touches w n g r d f (effect_is n g r d effect).0)

@@ -9,7 +9,7 @@ use Rattle.lineage_table.specs.Accesses.{effective_writer}
 use Rattle.lineage_table.specs.declared.accesses.Access.{Access}
 use Rattle.lock_leasing.proofs.AccessRuns.{EachTail, covers_write, last_from, own_write}
 use Rattle.lock_leasing.proofs.Facts.{Facts, live_uncommitted, stands_or_committed, written_uses}
-use Rattle.lock_leasing.specs.Configurations.{Grips}
+use Rattle.lock_leasing.specs.Configurations.{Grips, point}
 use Rattle.lock_leasing.specs.Holders.{is_writer}
 use Rattle.lock_leasing.specs.Order.{covers}
 use Rattle.lock_leasing.specs.Tables.{EachTellsOfRun, TellsOfRun, runs_with_access, uses}
@@ -73,7 +73,7 @@ module _ (w : Setting) (n : Reading) (g : Grips) (f : Facts w n g) (d : ℕ) whe
       not_live false e = refl
 
   -- an access shows the write of its run
-  shown : (x : Access) (rest : List Access) (r : RunNo) (best : Option Write) (writer : Option RunNo) → TellsOfRun w n g d x rest → x.run.0 ≡ r.0 → is_live n r.0 ≡ true → run_in writer ≡ live_writer best
+  shown : (x : Access) (rest : List Access) (r : RunNo) (best : Option Write) (writer : Option RunNo) → TellsOfRun (point w n g) d x rest → x.run.0 ≡ r.0 → is_live n r.0 ≡ true → run_in writer ≡ live_writer best
       → run_in (if is_some x.wrote then Some x.run else writer) ≡ live_writer (option_or (write_of n g d (Ran r)) best)
   shown x rest r best writer tells same live before =
       let wrote : x.wrote ≡ (if is_undone n g r.0 d then None else ((n.run r.0).on d).wrote) = subst (λ q. x.wrote ≡ (if is_undone n g q d then None else ((n.run q).on d).wrote)) same tells.wrote in
@@ -87,7 +87,7 @@ module _ (w : Setting) (n : Reading) (g : Grips) (f : Facts w n g) (d : ℕ) whe
   -- along the line
   abbrev Follows : List Item → List Access → Option Write → Option RunNo → Type 0
   Follows is xs best writer =
-      map (λ x. x.run.0) xs ≡ runs_with_access w n d is → EachTellsOfRun w n g d xs
+      map (λ x. x.run.0) xs ≡ runs_with_access w n d is → EachTellsOfRun (point w n g) d xs
       → (list_any (covers n d) is ≡ true → writer ≡ None) → (list_any (covers n d) is ≡ false → run_in writer ≡ live_writer best)
       → run_in (writer_from writer xs) ≡ live_writer (last_from w n g f d best is)
 
@@ -99,7 +99,7 @@ module _ (w : Setting) (n : Reading) (g : Grips) (f : Facts w n g) (d : ℕ) whe
       next : Option Write
       next = option_or (write_of n g d (Ran r)) best
 
-      accessed : (ys : List Access) → uses w n d r.0 ≡ true → list_any (covers n d) is ≡ false → map (λ x. x.run.0) ys ≡ r.0 ∷ runs_with_access w n d is → EachTellsOfRun w n g d ys → run_in writer ≡ live_writer best
+      accessed : (ys : List Access) → uses w n d r.0 ≡ true → list_any (covers n d) is ≡ false → map (λ x. x.run.0) ys ≡ r.0 ∷ runs_with_access w n d is → EachTellsOfRun (point w n g) d ys → run_in writer ≡ live_writer best
           → run_in (writer_from writer ys) ≡ live_writer (last_from w n g f d next is)
       accessed [] used uncovered same all at = absurd (cc)
       accessed (x ∷ ys) used uncovered same all at =
@@ -134,7 +134,7 @@ module _ (w : Setting) (n : Reading) (g : Grips) (f : Facts w n g) (d : ℕ) whe
   writers_follow (Failed e k ∷ is) xs best writer stays runs tells none before = writers_follow is xs best writer stays.1 runs tells none before
   writers_follow (Back e k ∷ is) xs best writer stays runs tells none before = writers_follow is xs best writer stays.1 runs tells none before
 
-  pub writer_is : (xs : List Access) → map (λ x. x.run.0) xs ≡ runs_with_access w n d n.line → EachTellsOfRun w n g d xs → run_in (effective_writer xs) ≡ live_writer (effective_write n g d)
+  pub writer_is : (xs : List Access) → map (λ x. x.run.0) xs ≡ runs_with_access w n d n.line → EachTellsOfRun (point w n g) d xs → run_in (effective_writer xs) ≡ live_writer (effective_write n g d)
   writer_is xs runs tells = writers_follow n.line xs None None all_stay runs tells (λ e. refl) (λ e. refl)
 
   -- the run of an access is the effective writer where it has the effective write

@@ -3,17 +3,10 @@ use Rattle.history_book.specs.Histories.{entries_of, reading}
 use Rattle.history_book.specs.Readings.{Reading}
 use Rattle.history_book.specs.Settings.{Setting}
 use Rattle.history_book.specs.declared.entries.Kept.{Kept}
-use Rattle.home_types.specs.Numbers.{ActorId, CommandIndex, DeviceId, Moment, RunId}
+use Rattle.home_types.specs.Numbers.{ActorId, DeviceId, Moment, RunId}
+use Rattle.lock_leasing.specs.declared.purposes.Purpose.TheVariants.{Commands, Probes, Undoes}
+use Rattle.lock_leasing.specs.declared.purposes.Purpose.{Purpose}
 use Rattle.std.specs.Prelude.{Bool, List, None, Option, false, is_some, option_map, true, unwrap_or, ℕ, ◌&&◌, ◌==◌}
-
--- for what a device is out
-pub data Purpose : Type 0 where
-  -- the run's command of this number
-  Commands : CommandIndex → Purpose
-  -- an undo, with the value that it drives
-  Undoes : ℕ → Purpose
-  -- a probe, with the value that it restores where the device is counted down
-  Probes : Option ℕ → Purpose
 
 -- a device that is out: its maker, a run or 0 for the detector, and its purpose
 pub record Grip : Type 0 where
@@ -39,6 +32,20 @@ pub record Configuration : Type 0 where
 -- what its history says
 abbrev pub read_of : Configuration → Reading
 read_of s = reading s.setting (entries_of s.history)
+
+-- what definitions speak of: what was fixed, what a history says, and what is out
+pub record Point : Type 0 where
+  pub setting : Setting
+  pub reading : Reading
+  pub grips : Grips
+
+-- the point of these three
+abbrev pub point : Setting → Reading → Grips → Point
+point w n g = record { setting = w; reading = n; grips = g }
+
+-- where a configuration stands
+abbrev pub point_of : Configuration → Point
+point_of s = point s.setting (read_of s) s.grips
 
 abbrev pub is_command : Purpose → Bool
 is_command (Commands k) = true

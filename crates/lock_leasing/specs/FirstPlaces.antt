@@ -3,7 +3,7 @@ use Rattle.command_rules.specs.Rosters.{Run}
 use Rattle.history_book.specs.declared.entries.Kept.{Kept}
 use Rattle.home_types.specs.Numbers.{LinePlace, RunId}
 use Rattle.lineage_table.specs.Lineages.{LineageState}
-use Rattle.lock_leasing.specs.Configurations.{Configuration, read_of}
+use Rattle.lock_leasing.specs.Configurations.{Configuration, point_of}
 use Rattle.lock_leasing.specs.Places.{first_place}
 use Rattle.lock_leasing.specs.Standings.{IsStandingOf}
 use Rattle.serial_line.specs.Marks.{Mark}
@@ -14,4 +14,4 @@ abbrev pub IsFirstPlaceOf : List LineageState → List Mark → List Kept → Li
     → LinePlace → Type 0
 IsFirstPlaceOf table line history runs r place =
     (s : Configuration) → IsStandingOf s table line history runs
-    → place ≡ first_place s.setting (read_of s) s.grips r
+    → place ≡ first_place (point_of s) r

@@ -2,11 +2,10 @@
 use Rattle.command_rules.specs.Items.{is_ran}
 use Rattle.history_book.specs.Lines.{before}
 use Rattle.history_book.specs.Readings.{Reading, is_live}
-use Rattle.history_book.specs.Settings.{Setting}
 use Rattle.home_types.specs.Numbers.{DeviceId, RunId}
 use Rattle.home_types.specs.declared.commands.Command.{Command}
 use Rattle.home_types.specs.declared.items.Item.{Item}
-use Rattle.lock_leasing.specs.Configurations.{Grips}
+use Rattle.lock_leasing.specs.Configurations.{Point}
 use Rattle.lock_leasing.specs.Touches.{touch_of}
 use Rattle.lock_leasing.specs.Waits.{behind_wait, dirty_wait, strict_wait}
 use Rattle.lock_leasing.specs.Words.{live_runs}
@@ -23,8 +22,8 @@ pub record IsFirstLive (n : Reading) (items : List Item) (r : RunId) : Type 0 wh
 
 -- the run waits for no other: at no device is it behind one, no command would read the write of
 -- one, and under no model must one end first
-pub record WaitsForNone (w : Setting) (n : Reading) (g : Grips) (r : RunId) : Type 0 where
-  pub behind : (d : DeviceId) → behind_wait w n g r d ≡ None
-  pub dirty : (c : Command) → dirty_wait w n g r c ≡ None
-  pub touch : (c : Command) → touch_of w n g r c ≡ Free
-  pub strict : strict_wait w n r ≡ None
+pub record WaitsForNone (p : Point) (r : RunId) : Type 0 where
+  pub behind : (d : DeviceId) → behind_wait p r d ≡ None
+  pub dirty : (c : Command) → dirty_wait p r c ≡ None
+  pub touch : (c : Command) → touch_of p r c ≡ Free
+  pub strict : strict_wait p.setting p.reading r ≡ None

@@ -2,15 +2,13 @@
 use Rattle.command_rules.specs.Rosters.{Run, commands_of, estimate_to_last, run_no}
 use Rattle.history_book.specs.Books.{doom_of, placing_of}
 use Rattle.history_book.specs.Plans.{greatest}
-use Rattle.history_book.specs.Readings.{Reading}
-use Rattle.history_book.specs.Settings.{Setting}
 use Rattle.history_book.specs.declared.entries.Kept.{Kept}
 use Rattle.home_types.specs.Numbers.{DeviceId, Moment, RunId}
 use Rattle.home_types.specs.declared.numbers.RunNo.{RunNo}
 use Rattle.lineage_table.specs.Accesses.{is_released}
 use Rattle.lineage_table.specs.Lineages.{LineageState}
 use Rattle.lineage_table.specs.declared.accesses.Access.{Access}
-use Rattle.lock_leasing.specs.Configurations.{Configuration, Grips, read_of}
+use Rattle.lock_leasing.specs.Configurations.{Configuration, Point, point_of, read_of}
 use Rattle.lock_leasing.specs.Standings.{IsAsking, IsStandingOf}
 use Rattle.lock_leasing.specs.Words.{borrower_from, lease_deadline, overdue_for, tenth_up}
 use Rattle.serial_line.specs.Marks.{Mark}
@@ -42,10 +40,10 @@ access_is_overdue runs history placed d m x =
 -- By the configuration
 
 -- the run whose lease is overdue, with the deadline
-abbrev pub overdue_lease : Setting → Reading → Grips → RunId → DeviceId → Moment
+abbrev pub overdue_lease : Point → RunId → DeviceId → Moment
     → Option (RunNo × Moment)
-overdue_lease w n g r d m =
-    option_map (λ x. (run_no x, lease_deadline w n x d)) (overdue_for w n g r d m)
+overdue_lease p r d m =
+    option_map (λ x. (run_no x, lease_deadline p.setting p.reading x d)) (overdue_for p r d m)
 
 -- this is the run, with the deadline, in each configuration to which the parts belong and in which
 -- r asks for the device
@@ -53,25 +51,25 @@ abbrev pub IsOverdueOf : List LineageState → List Mark → List Kept → List 
     → Moment → Option (RunNo × Moment) → Type 0
 IsOverdueOf table line history runs r d m found =
     (s : Configuration) → IsStandingOf s table line history runs → IsAsking s r d
-    → found ≡ overdue_lease s.setting (read_of s) s.grips r d m
+    → found ≡ overdue_lease (point_of s) r d m
 
 -- the answer is whether some run has the device on a lease from r, in each such configuration
 abbrev pub IsBorrowedFrom : List LineageState → List Mark → List Kept → List Run → RunId
     → DeviceId → Bool → Type 0
 IsBorrowedFrom table line history runs r d some =
     (s : Configuration) → IsStandingOf s table line history runs → IsAsking s r d
-    → some ≡ is_some (borrower_from s.setting (read_of s) s.grips r d)
+    → some ≡ is_some (borrower_from (point_of s) r d)
 
 -- no lease on the device is overdue for r, at any moment
-abbrev pub NeverOverdue : Setting → Reading → Grips → RunId → DeviceId → Type 0
-NeverOverdue w n g r d = (m : Moment) → overdue_for w n g r d m ≡ None
+abbrev pub NeverOverdue : Point → RunId → DeviceId → Type 0
+NeverOverdue p r d = (m : Moment) → overdue_for p r d m ≡ None
 
 -- .. in each such configuration
 abbrev pub IsNeverOverdue : List LineageState → List Mark → List Kept → List Run → RunId
     → DeviceId → Type 0
 IsNeverOverdue table line history runs r d =
     (s : Configuration) → IsStandingOf s table line history runs → IsAsking s r d
-    → NeverOverdue s.setting (read_of s) s.grips r d
+    → NeverOverdue (point_of s) r d
 
 -- this is the deadline of the run's lease in each configuration to which the parts belong
 abbrev pub IsDeadlineOf : List LineageState → List Mark → List Kept → List Run → RunId → DeviceId

@@ -10,7 +10,7 @@ use Rattle.home_types.specs.Numbers.{DeviceId, RunId}
 use Rattle.home_types.specs.declared.items.Item.{Item}
 use Rattle.home_types.specs.declared.items.Item.TheVariants.{Back, Failed, Ran}
 use Rattle.home_types.specs.declared.worlds.Stand.{Stand}
-use Rattle.lock_leasing.specs.Configurations.{Grips}
+use Rattle.lock_leasing.specs.Configurations.{Grips, Point}
 use Rattle.lock_leasing.specs.Words.{committed_write, has_touched, is_undone, last_some}
 use Rattle.std.specs.List.{list_any}
 use Rattle.std.specs.Prelude.{Bool, IsTrue, List, None, Option, Some, [], false, filter, filter_map, if◌then◌else◌, is_some, map, not, true, unwrap_or, ℕ, ◌&&◌, ◌||◌, ◌∷◌, ◌≡◌}
@@ -123,14 +123,15 @@ opens w n d i = of_run (λ r. is_open w n r d) i
 abbrev pub is_touched : Reading → Grips → DeviceId → Item → Bool
 is_touched n g d i = of_run (λ r. has_touched n g r d) i
 
-abbrev pub open_runs_are_last : Setting → Reading → Grips → DeviceId → List Item → Bool
-open_runs_are_last w n g d [] = true
-open_runs_are_last w n g d (i ∷ is) =
-    (not (opens w n d i) || not (list_any (is_touched n g d) is)) && open_runs_are_last w n g d is
+abbrev pub open_runs_are_last : Point → DeviceId → List Item → Bool
+open_runs_are_last p d [] = true
+open_runs_are_last p d (i ∷ is) =
+    (not (opens p.setting p.reading d i) || not (list_any (is_touched p.reading p.grips d) is))
+    && open_runs_are_last p d is
 
 -- the four clauses
-pub record OrderStands (w : Setting) (n : Reading) (g : Grips) : Type 0 where
-  pub settled : SettledAgree w n
-  pub history : (d : DeviceId) → InHistoryOrder n d
-  pub covered : (d : DeviceId) → IsTrue (live_writes_are_covered n g d n.line)
-  pub last : (d : DeviceId) → IsTrue (open_runs_are_last w n g d n.line)
+pub record OrderStands (p : Point) : Type 0 where
+  pub settled : SettledAgree p.setting p.reading
+  pub history : (d : DeviceId) → InHistoryOrder p.reading d
+  pub covered : (d : DeviceId) → IsTrue (live_writes_are_covered p.reading p.grips d p.reading.line)
+  pub last : (d : DeviceId) → IsTrue (open_runs_are_last p d p.reading.line)

@@ -13,7 +13,7 @@ use Rattle.home_types.specs.declared.items.Item.{Item}
 use Rattle.home_types.specs.declared.numbers.RunNo.{RunNo}
 use Rattle.lineage_table.specs.Accesses.{IsDisciplined, has_access}
 use Rattle.lineage_table.specs.Lineages.{LineageState, accesses_at}
-use Rattle.lock_leasing.specs.Configurations.{Configuration, Grips, read_of}
+use Rattle.lock_leasing.specs.Configurations.{Configuration, Grips, point_of, read_of}
 use Rattle.lock_leasing.specs.Order.{OrderStands}
 use Rattle.lock_leasing.specs.Places.{MayBeOut}
 use Rattle.lock_leasing.specs.Tables.{Represents}
@@ -51,15 +51,15 @@ pub record IsStandingOf (s : Configuration) (table : List LineageState) (line : 
     (history : List Kept) (runs : List Run) : Type 0 where
   pub ordered : is_weak s.setting.mode ≡ false
   pub allowed : IsRosterFor (length s.setting.first) s.setting.runs
-  pub grips : MayBeOut s.setting (read_of s) s.grips
+  pub grips : MayBeOut (point_of s)
   pub well_formed : IsWellFormed s.setting (entries_of s.history)
-  pub order : OrderStands s.setting (read_of s) s.grips
+  pub order : OrderStands (point_of s)
   pub its_roster : s.setting.runs ≡ runs
   pub its_history : s.history ≡ history
   pub its_line : IsLineOf (read_of s).line (item_has_touched (read_of s) s.grips)
       (has_ended (read_of s)) line
   pub disciplined : (d : DeviceId) → IsDisciplined (accesses_at table d)
-  pub its_table : Represents s.setting (read_of s) s.grips table
+  pub its_table : Represents (point_of s) table
 
 -- the parts are those of a configuration of the weak model, whose table has no accesses
 pub record IsWeakStandingOf (s : Configuration) (table : List LineageState) (history : List Kept)

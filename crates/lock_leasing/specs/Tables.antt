@@ -14,7 +14,7 @@ use Rattle.lineage_table.specs.Lineages.{LineageState, lineage_at}
 use Rattle.lineage_table.specs.declared.accesses.Access.{Access}
 use Rattle.lineage_table.specs.declared.accesses.Status.TheVariants.{Acquired, Released, Scheduled}
 use Rattle.lineage_table.specs.declared.accesses.Status.{Status}
-use Rattle.lock_leasing.specs.Configurations.{Grips, grips_command}
+use Rattle.lock_leasing.specs.Configurations.{Grips, Point, grips_command}
 use Rattle.lock_leasing.specs.Order.{committed_value, covers}
 use Rattle.lock_leasing.specs.Words.{has_touched, is_undone}
 use Rattle.std.specs.List.{list_any}
@@ -39,14 +39,15 @@ runs_with_access w n d (Back e k ∷ is) = runs_with_access w n d is
 -- How an access stands
 
 -- the run is not done with the device: it has more to do there, or holds the grip of a command
-abbrev pub is_at_work : Setting → Reading → Grips → RunId → DeviceId → Bool
-is_at_work w n g r d = (not (is_doomed n r) && pends w n r d) || grips_command g r d
+abbrev pub is_at_work : Point → RunId → DeviceId → Bool
+is_at_work p r d =
+    (not (is_doomed p.reading r) && pends p.setting p.reading r d) || grips_command p.grips r d
 
 -- scheduled until the first answer that is an access, released when the run is done with the
 -- device, and acquired between
-abbrev pub status_by_answers : Setting → Reading → Grips → RunId → DeviceId → Status
-status_by_answers w n g r d =
-    if did n r d then (if is_at_work w n g r d then Acquired else Released) else Scheduled
+abbrev pub status_by_answers : Point → RunId → DeviceId → Status
+status_by_answers p r d =
+    if did p.reading r d then (if is_at_work p r d then Acquired else Released) else Scheduled
 
 -- the one freedom: the access of a doomed run that has not touched the device may stand as released
 abbrev pub may_be_passed : Reading → Grips → RunId → DeviceId → Bool
@@ -59,36 +60,40 @@ abbrev pub view_when : Bool → View
 view_when up = if up then Up else Down
 
 -- the access tells of its run on the device, with these accesses behind it
-pub record TellsOfRun (w : Setting) (n : Reading) (g : Grips) (d : DeviceId) (x : Access)
+pub record TellsOfRun (p : Point) (d : DeviceId) (x : Access)
     (rest : List Access) : Type 0 where
-  pub status : may_be_passed n g x.run.0 d ≡ false → x.status ≡ status_by_answers w n g x.run.0 d
+  pub status : may_be_passed p.reading p.grips x.run.0 d ≡ false
+      → x.status ≡ status_by_answers p x.run.0 d
   -- where it is free it is not acquired, and it is released where a released or an acquired access
   -- stands behind it
-  pub free : may_be_passed n g x.run.0 d ≡ true → is_acquired x.status ≡ false
-  pub passed : may_be_passed n g x.run.0 d ≡ true → some_in_use rest ≡ true → x.status ≡ Released
+  pub free : may_be_passed p.reading p.grips x.run.0 d ≡ true → is_acquired x.status ≡ false
+  pub passed : may_be_passed p.reading p.grips x.run.0 d ≡ true → some_in_use rest ≡ true
+      → x.status ≡ Released
   -- the view of a doomed run is not told
-  pub view : is_doomed n x.run.0 ≡ false → x.view ≡ option_map view_when (view_of n x.run.0 d)
+  pub view : is_doomed p.reading x.run.0 ≡ false
+      → x.view ≡ option_map view_when (view_of p.reading x.run.0 d)
   -- the last value that it wrote, unless it is undone
-  pub wrote : x.wrote ≡ (if is_undone n g x.run.0 d then None else ((n.run x.run.0).on d).wrote)
-  pub from : x.from ≡ planned_start (n.run x.run.0).planned d
-  pub to : x.to ≡ planned_end (n.run x.run.0).planned d
+  pub wrote : x.wrote ≡ (if is_undone p.reading p.grips x.run.0 d then None
+      else ((p.reading.run x.run.0).on d).wrote)
+  pub from : x.from ≡ planned_start (p.reading.run x.run.0).planned d
+  pub to : x.to ≡ planned_end (p.reading.run x.run.0).planned d
 
-abbrev pub EachTellsOfRun : Setting → Reading → Grips → DeviceId → List Access → Type 0
-EachTellsOfRun w n g d [] = ⊤
-EachTellsOfRun w n g d (x ∷ xs) = TellsOfRun w n g d x xs × EachTellsOfRun w n g d xs
+abbrev pub EachTellsOfRun : Point → DeviceId → List Access → Type 0
+EachTellsOfRun p d [] = ⊤
+EachTellsOfRun p d (x ∷ xs) = TellsOfRun p d x xs × EachTellsOfRun p d xs
 
 -- The table
 
 -- the lineage is that of the device
-pub record IsLineageOf (w : Setting) (n : Reading) (g : Grips) (d : DeviceId)
+pub record IsLineageOf (p : Point) (d : DeviceId)
     (s : LineageState) : Type 0 where
-  pub committed : s.committed ≡ committed_value w n d
-  pub runs : map (λ x. x.run.0) s.accesses ≡ runs_with_access w n d n.line
-  pub each : EachTellsOfRun w n g d s.accesses
-  pub up : s.up ≡ n.up d
+  pub committed : s.committed ≡ committed_value p.setting p.reading d
+  pub runs : map (λ x. x.run.0) s.accesses ≡ runs_with_access p.setting p.reading d p.reading.line
+  pub each : EachTellsOfRun p d s.accesses
+  pub up : s.up ≡ p.reading.up d
 
 -- the table represents the configuration: each device of the home has its lineage
-pub record Represents (w : Setting) (n : Reading) (g : Grips)
+pub record Represents (p : Point)
     (table : List LineageState) : Type 0 where
-  pub devices : length table ≡ length w.first
-  pub each : (d : DeviceId) → d < length w.first → IsLineageOf w n g d (lineage_at table d)
+  pub devices : length table ≡ length p.setting.first
+  pub each : (d : DeviceId) → d < length p.setting.first → IsLineageOf p d (lineage_at table d)

@@ -1,13 +1,11 @@
 -- What a run meets at the device of its next command.
 use Rattle.command_rules.specs.Rosters.{Run, command_at, run_no}
-use Rattle.history_book.specs.Readings.{Reading}
-use Rattle.history_book.specs.Settings.{Setting}
 use Rattle.history_book.specs.declared.entries.Kept.{Kept}
 use Rattle.home_types.specs.Numbers.{CommandIndex, RunId}
 use Rattle.home_types.specs.declared.commands.Command.{Command}
 use Rattle.home_types.specs.declared.numbers.DeviceNo.{DeviceNo}
 use Rattle.lineage_table.specs.Lineages.{LineageState}
-use Rattle.lock_leasing.specs.Configurations.{Configuration, Grips, read_of}
+use Rattle.lock_leasing.specs.Configurations.{Configuration, Point, point_of}
 use Rattle.lock_leasing.specs.Standings.{IsAtCommand, IsStandingOf}
 use Rattle.lock_leasing.specs.Waits.{behind_wait, dirty_wait}
 use Rattle.lock_leasing.specs.declared.touches.Touch.TheVariants.{Behind, Dirty, Free}
@@ -23,8 +21,8 @@ touch_by d None None = Free
 
 -- the first live run before it that holds the device, else the live run before it whose write it
 -- would read
-abbrev pub touch_of : Setting → Reading → Grips → RunId → Command → Touch
-touch_of w n g r c = touch_by c.device (behind_wait w n g r c.device.0) (dirty_wait w n g r c)
+abbrev pub touch_of : Point → RunId → Command → Touch
+touch_of p r c = touch_by c.device (behind_wait p r c.device.0) (dirty_wait p r c)
 
 -- the touch is that of each configuration to which the parts belong and in which it is the run's
 -- turn
@@ -32,4 +30,4 @@ abbrev pub IsTouchOf : List LineageState → List Mark → List Kept → List Ru
     → Touch → Type 0
 IsTouchOf table line history runs r c touch =
     (s : Configuration) → IsStandingOf s table line history runs → IsAtCommand s r c
-    → touch ≡ touch_of s.setting (read_of s) s.grips r (command_at runs r c)
+    → touch ≡ touch_of (point_of s) r (command_at runs r c)

@@ -9,7 +9,7 @@ use Rattle.home_types.specs.declared.commands.Command.{Command}
 use Rattle.home_types.specs.declared.modes.Visibility.{Visibility}
 use Rattle.home_types.specs.declared.modes.Visibility.TheVariants.{Eventual, Global, Partitioned, Weak}
 use Rattle.home_types.specs.declared.numbers.RunNo.{RunNo}
-use Rattle.lock_leasing.specs.Configurations.{Grips, has_grip, is_out}
+use Rattle.lock_leasing.specs.Configurations.{Grips, Point, has_grip, is_out}
 use Rattle.lock_leasing.specs.Words.{has_effect, has_touched, holds_device, live_before, live_runs, next_undo_of}
 use Rattle.std.specs.Prelude.{Bool, List, None, Option, Some, false, find, if◌then◌else◌, is_none, not, true, ◌&&◌, ◌||◌}
 
@@ -26,22 +26,23 @@ abbrev pub grip_wait : Setting → Grips → RunId → Option DeviceId
 grip_wait w g r = find (has_grip g r) (device_numbers w)
 
 -- the next device on which r is undone, where it is out
-abbrev pub undo_wait : Setting → Reading → Grips → RunId → Option DeviceId
-undo_wait w n g r = while_out (next_undo_of w n g r)
+abbrev pub undo_wait : Point → RunId → Option DeviceId
+undo_wait p r = while_out (next_undo_of p r)
   where
     while_out : Option DeviceId → Option DeviceId
     while_out None = None
-    while_out (Some d) = if is_out g d then Some d else None
+    while_out (Some d) = if is_out p.grips d then Some d else None
 
 -- the first live run before r that holds the device
-abbrev pub behind_wait : Setting → Reading → Grips → RunId → DeviceId → Option RunId
-behind_wait w n g r d = find (λ x. holds_device w n g x d) (live_before n r)
+abbrev pub behind_wait : Point → RunId → DeviceId → Option RunId
+behind_wait p r d = find (λ x. holds_device p x d) (live_before p.reading r)
 
 -- r would read the write of a live run before it
-abbrev pub dirty_wait : Setting → Reading → Grips → RunId → Command → Option RunId
-dirty_wait w n g r c =
-    if reads c.job && not (sees_down n r c.device.0) && not (has_written n r c.device.0)
-    then find (λ x. has_effect n g x c.device.0) (live_before n r) else None
+abbrev pub dirty_wait : Point → RunId → Command → Option RunId
+dirty_wait p r c =
+    if reads c.job && not (sees_down p.reading r c.device.0)
+    && not (has_written p.reading r c.device.0)
+    then find (λ x. has_effect p.reading p.grips x c.device.0) (live_before p.reading r) else None
 
 -- under the model, r does not go on while x is live before it
 abbrev pub model_bars : Visibility → List Run → RunId → RunId → Bool
@@ -62,13 +63,14 @@ strict_wait w n r = by_model w.mode.model
     by_model Eventual = None
 
 -- the device is out, and r does not see it down
-abbrev pub busy_wait : Setting → Reading → Grips → RunId → DeviceId → Bool
-busy_wait w n g r d = (is_weak w.mode || not (sees_down n r d)) && is_out g d
+abbrev pub busy_wait : Point → RunId → DeviceId → Bool
+busy_wait p r d = (is_weak p.setting.mode || not (sees_down p.reading r d)) && is_out p.grips d
 
 -- under a strict model: the smallest device that r has touched and that is counted down
-abbrev pub down_at_end : Setting → Reading → Grips → RunId → Option DeviceId
-down_at_end w n g r =
-    if is_strict w.mode then find (λ d. has_touched n g r d && not (n.up d)) (devices_of w r)
+abbrev pub down_at_end : Point → RunId → Option DeviceId
+down_at_end p r =
+    if is_strict p.setting.mode then find
+    (λ d. has_touched p.reading p.grips r d && not (p.reading.up d)) (devices_of p.setting r)
     else None
 
 -- the run that is lost where the device fails: live, not doomed, not done with the device, and it

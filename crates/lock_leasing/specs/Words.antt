@@ -9,7 +9,7 @@ use Rattle.home_types.specs.HomeStates.{stand_at}
 use Rattle.home_types.specs.Numbers.{DeviceId, Moment, RunId}
 use Rattle.home_types.specs.declared.items.Item.{Item}
 use Rattle.home_types.specs.declared.items.Item.TheVariants.{Back, Failed, Ran}
-use Rattle.lock_leasing.specs.Configurations.{Grips, grips_command, grips_undo}
+use Rattle.lock_leasing.specs.Configurations.{Grips, Point, grips_command, grips_undo}
 use Rattle.std.specs.Option.{option_or}
 use Rattle.std.specs.Prelude.{Bool, List, None, Option, Some, false, filter_map, find, fold, if◌then◌else◌, min, nat_lt, not, option_map, unwrap_or, ℕ, ◌&&◌, ◌+◌, ◌/◌, ◌==◌, ◌||◌}
 
@@ -54,20 +54,22 @@ has_effect n g r d = unwrap_or (option_map (λ x. x == r) (effective_writer_of n
 
 -- the device's standing value: that of its effective write, else the first one; under the weak
 -- model that of the last write
-abbrev pub standing_value : Setting → Reading → Grips → DeviceId → ℕ
-standing_value w n g d =
-    if is_weak w.mode then n.last d
-    else unwrap_or (option_map (λ e. e.value) (effective_write n g d)) (stand_at w.first d).value
+abbrev pub standing_value : Point → DeviceId → ℕ
+standing_value p d =
+    if is_weak p.setting.mode then p.reading.last d
+    else unwrap_or (option_map (λ e. e.value) (effective_write p.reading p.grips d))
+    (stand_at p.setting.first d).value
 
 -- the standing value if the run had not written
-abbrev pub value_without : Setting → Reading → Grips → RunId → DeviceId → ℕ
-value_without w n g r d =
-    unwrap_or (option_map (λ e. e.value) (last_some (write_of n g d) (without r n.line)))
-    (stand_at w.first d).value
+abbrev pub value_without : Point → RunId → DeviceId → ℕ
+value_without p r d =
+    unwrap_or (option_map (λ e. e.value)
+    (last_some (write_of p.reading p.grips d) (without r p.reading.line)))
+    (stand_at p.setting.first d).value
 
 -- the smallest device on which the run has the effective write: the next one on which it is undone
-abbrev pub next_undo_of : Setting → Reading → Grips → RunId → Option DeviceId
-next_undo_of w n g r = find (has_effect n g r) (devices_of w r)
+abbrev pub next_undo_of : Point → RunId → Option DeviceId
+next_undo_of p r = find (has_effect p.reading p.grips r) (devices_of p.setting r)
 
 -- the item's write on the device, if it is a committed run
 abbrev pub committed_write : Reading → DeviceId → Item → Option ℕ
@@ -79,10 +81,11 @@ committed_write n d (Back e k) = None
 
 -- the live run holds the device: a command on it is pending, or, where the run is doomed, it has
 -- the effective write there
-abbrev pub holds_device : Setting → Reading → Grips → RunId → DeviceId → Bool
-holds_device w n g r d =
-    is_live n r
-    && (if is_doomed n r then touches w.runs r d && has_effect n g r d else pends w n r d)
+abbrev pub holds_device : Point → RunId → DeviceId → Bool
+holds_device p r d =
+    is_live p.reading r
+    && (if is_doomed p.reading r then touches p.setting.runs r d && has_effect p.reading p.grips r d
+    else pends p.setting p.reading r d)
 
 -- the live runs among these items, in their order
 abbrev pub live_runs : Reading → List Item → List RunId
@@ -116,22 +119,24 @@ stamp_of n r = unwrap_or (option_map (λ p. p.stamp) (n.run r).placed) 0
 
 -- x, which stands before r, has the device on a lease from it: x was placed later, holds the
 -- device, and is not doomed
-abbrev pub is_borrower : Setting → Reading → Grips → RunId → DeviceId → RunId → Bool
-is_borrower w n g r d x =
-    not (is_doomed n x) && nat_lt (stamp_of n r) (stamp_of n x) && holds_device w n g x d
+abbrev pub is_borrower : Point → RunId → DeviceId → RunId → Bool
+is_borrower p r d x =
+    not (is_doomed p.reading x) && nat_lt (stamp_of p.reading r) (stamp_of p.reading x)
+    && holds_device p x d
 
 -- the first one in line order
-abbrev pub borrower_from : Setting → Reading → Grips → RunId → DeviceId → Option RunId
-borrower_from w n g r d = find (is_borrower w n g r d) (live_before n r)
+abbrev pub borrower_from : Point → RunId → DeviceId → Option RunId
+borrower_from p r d = find (is_borrower p r d) (live_before p.reading r)
 
 -- the lease of x, which stands before r, is overdue for r, whose next command is on the device and
 -- is not skipped: x was placed later, holds the device, is not doomed, and the moment is past its
 -- deadline
-abbrev pub is_overdue : Setting → Reading → Grips → RunId → DeviceId → Moment → RunId → Bool
-is_overdue w n g r d m x =
-    not (is_doomed n x) && nat_lt (stamp_of n r) (stamp_of n x) && holds_device w n g x d
-    && nat_lt (lease_deadline w n x d) m
+abbrev pub is_overdue : Point → RunId → DeviceId → Moment → RunId → Bool
+is_overdue p r d m x =
+    not (is_doomed p.reading x) && nat_lt (stamp_of p.reading r) (stamp_of p.reading x)
+    && holds_device p x d
+    && nat_lt (lease_deadline p.setting p.reading x d) m
 
 -- the lease that is revoked: the first overdue one in line order
-abbrev pub overdue_for : Setting → Reading → Grips → RunId → DeviceId → Moment → Option RunId
-overdue_for w n g r d m = find (is_overdue w n g r d m) (live_before n r)
+abbrev pub overdue_for : Point → RunId → DeviceId → Moment → Option RunId
+overdue_for p r d m = find (is_overdue p r d m) (live_before p.reading r)

@@ -4,6 +4,7 @@
 mod first_places;
 mod laws;
 mod leases;
+mod purposes;
 mod standings;
 #[cfg(test)]
 mod tests;
@@ -12,5 +13,6 @@ mod touches;
 pub use first_places::first_place;
 pub use laws::first_live_law;
 pub use leases::{deadline, lends, overdue};
+pub use purposes::Purpose;
 pub use standings::Standing;
 pub use touches::{Touch, first_holder, test_touch};

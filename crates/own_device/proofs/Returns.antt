@@ -13,7 +13,8 @@ use Rattle.hub_core.specs.HubCalls.{DeviceGoesOut, IsGiven, IsProbeGiven, IsProb
 use Rattle.hub_core.specs.HubSteps.{Carried, Chose, HubState, HubStep, IsSlipOf, ProbeTaken, Probed, Refused, Returned, SlipFits, Take, give_if, is_kept, same_optional, same_slip, same_task, take}
 use Rattle.hub_core.specs.OpenHubs.{OpenHub, configuration_of, hub_state_of}
 use Rattle.hub_core.specs.Steps.{HandsOut, at_moment, may_probe}
-use Rattle.lock_leasing.specs.Configurations.{Configuration, Purpose}
+use Rattle.lock_leasing.specs.Configurations.{Configuration}
+use Rattle.lock_leasing.specs.declared.purposes.Purpose.{Purpose}
 use Rattle.std.proofs.Common.{ap, arith, refl, subst, sym, ◌∙◌}
 use Rattle.std.proofs.lemmas.Grind.{common_steps}
 use Rattle.std.proofs.lemmas.Option.{slice_get_within}

@@ -50,15 +50,16 @@ impl RadioDevice {
 }
 
 impl Device for RadioDevice {
-    ghost tag = { λ s. s.number.0 };
+    ghost use Rattle.std.specs.Prelude.{None};
 
-    ghost stands = { λ s. s.value };
-
-    ghost turns = { λ s. s.turns };
-
-    ghost probes = { λ s. s.probes };
-
-    ghost faults = { λ s. s.faults };
+    ghost shows = { λ s. record {
+      tag = s.number.0;
+      plan = None;
+      stands = s.value;
+      turns = s.turns;
+      probes = s.probes;
+      faults = s.faults;
+    } };
 
     fn drive(&mut self, v: Value) -> Result<(), Dead> {
         self.value = v;

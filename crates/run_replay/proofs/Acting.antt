@@ -5,14 +5,14 @@ use Rattle.device_gate.specs.declared.grips.Done.{Done}
 use Rattle.device_gate.specs.declared.grips.Ready.{Ready}
 use Rattle.device_gate.specs.declared.slips.Slip.{Slip}
 use Rattle.device_gate.specs.declared.strangers.Stranger.{Stranger}
+use Rattle.device_states.specs.Devices.{Plan, Shown}
 use Rattle.history_book.specs.declared.entries.Entry.{Entry}
 use Rattle.hub_core.proofs.calls.HubChanges.{length_with}
 use Rattle.hub_core.specs.HubCalls.{SameWindow, carried_by, grip_takes}
 use Rattle.hub_core.specs.HubSteps.{Gave, Give, HubStep, Refused, Returned}
 use Rattle.hub_core.specs.OpenHubs.{OpenHub, carried_in, configuration_of, grip_in, hub_state_of, progress_at}
-use Rattle.window_order.specs.KeptOrders.{purpose_of}
 use Rattle.hub_core.specs.Steps.{after_give, at_moment, give_entries}
-use Rattle.lock_leasing.specs.Configurations.{Commands, Configuration, Probes, Purpose, Undoes, is_command, is_undo, read_of}
+use Rattle.lock_leasing.specs.Configurations.{Configuration, is_command, is_undo, point_of, read_of}
 use Rattle.lock_leasing.specs.Places.{GripsFit}
 use Rattle.run_replay.proofs.Holding.{Gives, gives_keeps, gives_plans}
 use Rattle.hub_core.proofs.steps.HubAnswers.{gave_back, never_refused}
@@ -28,6 +28,8 @@ use Rattle.std.proofs.lemmas.Grind.{common_steps}
 use Rattle.std.proofs.lemmas.Option.{slice_get_read, slice_get_within}
 use Rattle.std.proofs.Math.ListN.{get_or}
 use Rattle.std.specs.Prelude.{List, None, Option, Some, false, length, max, slice_get, slice_set, suc, true, zero, ℕ, ◌+◌, ◌<◌, ◌==◌, ◌^◌, ◌||◌, ◌≡◌, ◌≤◌}
+use Rattle.lock_leasing.specs.declared.purposes.Purpose.TheVariants.{Commands, Probes, Undoes}
+use Rattle.lock_leasing.specs.declared.purposes.Purpose.{Purpose}
 
 -- a run's grip was done, and is given back
 pub record IsDone {D : Type 0} (s : PlayerState D) (a : ℕ) (grip : Gripped D Ready) (done : Gripped D Done) : Type 0 where
@@ -36,13 +38,13 @@ pub record IsDone {D : Type 0} (s : PlayerState D) (a : ℕ) (grip : Gripped D R
   pub going : is_ended s a ≡ false
   pub hand : slice_get s.grips a ≡ Some (Some grip)
   pub size : length s.hub.places ≡ length s.hub.setting.first
-  pub fit : GripsFit s.hub.setting (read_of (configuration_of s.hub)) (configuration_of s.hub).grips
+  pub fit : GripsFit (point_of (configuration_of s.hub))
   pub slip : done.slip ≡ grip.slip
   pub task : done.task ≡ grip.task
 
 -- the device's purpose
 abbrev pub purpose_at : {D : Type 0} → PlayerState D → Gripped D Ready → Purpose
-purpose_at s grip = purpose_of (progress_at s.hub.devices grip.slip.device.0).purpose
+purpose_at s grip = (progress_at s.hub.devices grip.slip.device.0).purpose
 
 pub out_of_hand : {D : Type 0} (s : PlayerState D) (a : ℕ) (grip : Gripped D Ready) → PlayerIsKept s → slice_get s.grips a ≡ Some (Some grip) → (configuration_of s.hub).grips grip.slip.device.0 ≡ Some (record { maker = a; purpose = purpose_at s grip })
 out_of_hand s a grip kept hand = ap (λ o. grip_in o (progress_at s.hub.devices grip.slip.device.0).purpose) (kept.held a grip hand) ∙ ap (λ m. Some (record { maker = m; purpose = purpose_at s grip })) (kept.makers a grip hand)
@@ -111,7 +113,7 @@ given_stepped s t a acts grip done entries by =
 
 -- a run's grip is for a command or an undo
 pub runs_purpose : {D : Type 0} (s : PlayerState D) (a d : ℕ) (purpose : Purpose) → 0 < a
-    → GripsFit s.hub.setting (read_of (configuration_of s.hub)) (configuration_of s.hub).grips
+    → GripsFit (point_of (configuration_of s.hub))
     → (configuration_of s.hub).grips d ≡ Some (record { maker = a; purpose = purpose }) → (is_command purpose || is_undo purpose) ≡ true
 runs_purpose s a d (Commands k) run fit out = refl
 runs_purpose s a d (Undoes v) run fit out = refl
@@ -139,18 +141,13 @@ gives_of s t a grip done entries by = record {
 pub given_keeps : {D : Type 0} (s t : PlayerState D) (a : ℕ) (grip : Gripped D Ready) (done : Gripped D Done) (entries : List Entry) → IsGivenBack s t a grip done entries → PlayerIsKept t
 given_keeps s t a grip done entries by = gives_keeps s t a grip done.device (gives_of s t a grip done entries by) by.is.kept
 
--- The same of the player as callers see it
+pub given_plans : {D : Type 0} (shows : D → Shown) (plans : ℕ → Plan) (s t : PlayerState D) (a : ℕ) (grip : Gripped D Ready) (done : Gripped D Done) (entries : List Entry)
+    → IsGivenBack s t a grip done entries → (shows done.device).plan ≡ (shows grip.device).plan → HavePlans shows plans s → HavePlans shows plans t
+given_plans shows plans s t a grip done entries by = gives_plans shows plans s t a grip done.device (gives_of s t a grip done entries by) by.is.kept
 
-pub given_stepped_now : {D : Type 0} (now s t : PlayerState D) (a : ℕ) (grip : Gripped D Ready) (done : Gripped D Done) (entries : List Entry) → s ≡ now → IsGivenBack s t a grip done entries → (acts : ℕ) → (later : ℕ) × IsStepped now.rounds a (play_of now acts) (Made entries) (play_of t later)
-given_stepped_now {D = D} now s t a grip done entries same by acts = (acts + 1, subst (λ (x : PlayerState D). IsStepped x.rounds a (play_of x acts) (Made entries) (play_of t (acts + 1))) same (given_stepped s t a acts grip done entries by))
-
-pub given_plans_now : {D P : Type 0} (plan : D → P) (now s t : PlayerState D) (a : ℕ) (grip : Gripped D Ready) (done : Gripped D Done) (entries : List Entry)
-    → s ≡ now → IsGivenBack s t a grip done entries → plan done.device ≡ plan grip.device → (plans : ℕ → P) → HavePlans plan plans now → HavePlans plan plans t
-given_plans_now {D = D} plan now s t a grip done entries same by own plans have = gives_plans plan plans s t a grip done.device (gives_of s t a grip done entries by) by.is.kept own (subst (λ (x : PlayerState D). HavePlans plan plans x) (sym same) have)
-
-pub given_fewer_now : {D : Type 0} (now s t : PlayerState D) (a : ℕ) (grip : Gripped D Ready) (done : Gripped D Done) (entries : List Entry) → s ≡ now → IsGivenBack s t a grip done entries → length t.hub.history ≤ most_made t → steps_left t < steps_left now
-given_fewer_now now s t zero grip done entries same by bound = absurd (let run = by.is.run in omega (arith, run))
-given_fewer_now {D = D} now s t (suc r) grip done entries same by bound = subst (λ (x : PlayerState D). steps_left t < steps_left x) same (gave_fewer s t r (stays_by s t by.window by.rounds) by.grips by.place (grows s t (suc r) grip done entries by) bound)
+pub given_fewer : {D : Type 0} (s t : PlayerState D) (a : ℕ) (grip : Gripped D Ready) (done : Gripped D Done) (entries : List Entry) → IsGivenBack s t a grip done entries → length t.hub.history ≤ most_made t → steps_left t < steps_left s
+given_fewer s t zero grip done entries by bound = absurd (let run = by.is.run in omega (arith, run))
+given_fewer s t (suc r) grip done entries by bound = gave_fewer s t r (stays_by s t by.window by.rounds) by.grips by.place (grows s t (suc r) grip done entries by) bound
 
 -- What is taken from a hand
 
@@ -166,8 +163,16 @@ hand_never {D = D} s a now full value is = let held = full_is s a full in absurd
 pub full_now : {D : Type 0} (now s : PlayerState D) (a : ℕ) → s ≡ now → is_full now a ≡ true → is_full s a ≡ true
 full_now {D = D} now s a same full = subst (λ (x : PlayerState D). is_full x a ≡ true) (sym same) full
 
-pub done_of : {D : Type 0} (now s : PlayerState D) (a : ℕ) (grip : Gripped D Ready) (done : Gripped D Done) → s ≡ now → PlayerIsKept s → 0 < a
-    → is_ended now a ≡ false → slice_get s.grips a ≡ Some (Some grip) → length s.hub.places ≡ length s.hub.setting.first
-    → GripsFit s.hub.setting (read_of (configuration_of s.hub)) (configuration_of s.hub).grips → done.slip ≡ grip.slip → done.task ≡ grip.task
+pub done_of : {D : Type 0} (now s : PlayerState D) (a : ℕ) (hand : Option (Gripped D Ready)) (grip : Gripped D Ready) (done : Gripped D Done) → s ≡ now → PlayerIsKept s → 0 < a → is_ended now a ≡ false → is_full now a ≡ true
+    → hand ≡ get_or s.grips a hand → hand ≡ Some grip → length s.hub.places ≡ length s.hub.setting.first → GripsFit (point_of (configuration_of s.hub)) → done.slip ≡ grip.slip → done.task ≡ grip.task
     → IsDone s a grip done
-done_of {D = D} now s a grip done same kept run going hand size fit slip task = record { kept = kept; run = run; going = subst (λ (x : PlayerState D). is_ended x a ≡ false) (sym same) going; hand = hand; size = size; fit = fit; slip = slip; task = task }
+done_of {D = D} now s a hand grip done same kept run going full value is size fit slip task = record {
+  kept = kept;
+  run = run;
+  going = subst (λ (x : PlayerState D). is_ended x a ≡ false) (sym same) going;
+  hand = hand_by s a hand grip (full_now now s a same full) value is;
+  size = size;
+  fit = fit;
+  slip = slip;
+  task = task;
+}

@@ -9,9 +9,10 @@ use Rattle.history_book.specs.Readings.{is_live}
 use Rattle.hub_core.proofs.kept.Finds.{find_none, not_none}
 use Rattle.hub_core.proofs.kept.Sizes.{run_there}
 use Rattle.hub_core.specs.OpenHubs.{configuration_of, grip_in, progress_at}
-use Rattle.window_order.specs.KeptOrders.{purpose_of}
+use Rattle.lock_leasing.specs.declared.purposes.Purpose.TheVariants.{Commands, Probes, Undoes}
+use Rattle.lock_leasing.specs.declared.purposes.Purpose.{Purpose}
 use Rattle.hub_core.specs.Steps.{not_quiet}
-use Rattle.lock_leasing.specs.Configurations.{Commands, Configuration, Probes, Purpose, Undoes, is_out, read_of}
+use Rattle.lock_leasing.specs.Configurations.{Configuration, is_out, point_of, read_of}
 use Rattle.lock_leasing.specs.Places.{GripsFit}
 use Rattle.run_replay.proofs.Progress.{each_at}
 use Rattle.run_replay.proofs.Settings.{within}
@@ -54,8 +55,8 @@ runs_ended s kept none (suc r) run =
     by_or false b is e = absurd (cc)
 
 -- no actor holds a grip
-pub hands_are_empty : {D : Type 0} (s : PlayerState D) → PlayerIsKept s → GripsFit s.hub.setting (read_of (configuration_of s.hub)) (configuration_of s.hub).grips → are_live s ≡ [] → (a : ℕ) (grip : Gripped D Ready) → slice_get s.grips a ≡ Some (Some grip) → ⊥
-hands_are_empty {D = D} s kept fit none a grip hand = by_purpose a (purpose_of (progress_at s.hub.devices grip.slip.device.0).purpose) low ended hand out
+pub hands_are_empty : {D : Type 0} (s : PlayerState D) → PlayerIsKept s → GripsFit (point_of (configuration_of s.hub)) → are_live s ≡ [] → (a : ℕ) (grip : Gripped D Ready) → slice_get s.grips a ≡ Some (Some grip) → ⊥
+hands_are_empty {D = D} s kept fit none a grip hand = by_purpose a (progress_at s.hub.devices grip.slip.device.0).purpose low ended hand out
   where
     low : a < length s.grips
     low = slice_get_within s.grips a (Some grip) hand
@@ -63,8 +64,8 @@ hands_are_empty {D = D} s kept fit none a grip hand = by_purpose a (purpose_of (
     ended : is_ended s a ≡ true
     ended = each_ended s none a low
 
-    out : (configuration_of s.hub).grips grip.slip.device.0 ≡ Some (record { maker = a; purpose = purpose_of (progress_at s.hub.devices grip.slip.device.0).purpose })
-    out = ap (λ o. grip_in o (progress_at s.hub.devices grip.slip.device.0).purpose) (kept.held a grip hand) ∙ ap (λ m. Some (record { maker = m; purpose = purpose_of (progress_at s.hub.devices grip.slip.device.0).purpose })) (kept.makers a grip hand)
+    out : (configuration_of s.hub).grips grip.slip.device.0 ≡ Some (record { maker = a; purpose = (progress_at s.hub.devices grip.slip.device.0).purpose })
+    out = ap (λ o. grip_in o (progress_at s.hub.devices grip.slip.device.0).purpose) (kept.held a grip hand) ∙ ap (λ m. Some (record { maker = m; purpose = (progress_at s.hub.devices grip.slip.device.0).purpose })) (kept.makers a grip hand)
 
     live_not : (r : ℕ) → is_live (read_of (configuration_of s.hub)) r ≡ true → is_some ((read_of (configuration_of s.hub)).run r).ended ≡ false
     live_not r live = by_end ((read_of (configuration_of s.hub)).run r).ended (grind (arith, common_steps))
@@ -98,5 +99,5 @@ devices_home {D = D} s kept empty d = by_place (slice_get s.hub.places d) refl
     by_place (Some (Out slip task)) at = absurd (let hand = kept.out d slip task at in empty slip.maker hand.grip hand.there)
 
 -- the hub is quiet
-pub quiet_at_end : {D : Type 0} (s : PlayerState D) → PlayerIsKept s → GripsFit s.hub.setting (read_of (configuration_of s.hub)) (configuration_of s.hub).grips → are_live s ≡ [] → not_quiet (configuration_of s.hub) ≡ None
+pub quiet_at_end : {D : Type 0} (s : PlayerState D) → PlayerIsKept s → GripsFit (point_of (configuration_of s.hub)) → are_live s ≡ [] → not_quiet (configuration_of s.hub) ≡ None
 quiet_at_end s kept fit none = quiet_where (configuration_of s.hub) (runs_ended s kept none) (devices_home s kept (hands_are_empty s kept fit none))

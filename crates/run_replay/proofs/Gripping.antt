@@ -6,7 +6,7 @@ use Rattle.device_gate.specs.declared.grips.Ready.{Ready}
 use Rattle.device_gate.specs.declared.slips.Slip.{Slip}
 use Rattle.hub_core.proofs.kept.Finds.{none_found}
 use Rattle.hub_core.specs.OpenHubs.{configuration_of, grip_in, progress_at}
-use Rattle.window_order.specs.declared.purposes.Purpose.{Purpose}
+use Rattle.lock_leasing.specs.declared.purposes.Purpose.{Purpose}
 use Rattle.lock_leasing.specs.Configurations.{has_grip}
 use Rattle.run_replay.proofs.Settings.{find_only}
 use Rattle.run_replay.specs.Players.{PlayerIsKept, PlayerState, play_of}

@@ -5,6 +5,7 @@ use Rattle.device_gate.specs.declared.gates.Place.{Place}
 use Rattle.device_gate.specs.declared.grips.Ready.{Ready}
 use Rattle.device_gate.specs.declared.slips.Slip.{Slip}
 use Rattle.device_gate.specs.declared.slips.Task.{Task}
+use Rattle.device_states.specs.Devices.{Plan, Shown}
 use Rattle.hub_core.proofs.kept.SetPlaces.{get_set}
 use Rattle.run_replay.proofs.Settings.{put_length, put_other_place, put_same_place}
 use Rattle.run_replay.specs.Players.{HavePlans, IsInHand, PlayerIsKept, PlayerState}
@@ -97,12 +98,12 @@ takes_keeps {D = D} s t r grip by kept = record {
         }
 
 -- the devices' plans stay
-pub takes_plans : {D P : Type 0} (plan : D → P) (plans : ℕ → P) (s t : PlayerState D) (r : ℕ) (grip : Gripped D Ready) → Takes s t r grip → HavePlans plan plans s → HavePlans plan plans t
-takes_plans {D = D} plan plans s t r grip by have d device (inl home) = elim (taken_place s t r d grip by) [
+pub takes_plans : {D : Type 0} (shows : D → Shown) (plans : ℕ → Plan) (s t : PlayerState D) (r : ℕ) (grip : Gripped D Ready) → Takes s t r grip → HavePlans shows plans s → HavePlans shows plans t
+takes_plans {D = D} shows plans s t r grip by have d device (inl home) = elim (taken_place s t r d grip by) [
   | inl p ↦ absurd (home_or_out (slice_get t.hub.places d) device grip.slip grip.task home p.1)
   | inr q ↦ have d device (inl (sym q.1 ∙ home))
 ]
-takes_plans {D = D} plan plans s t r grip by have d device (inr hand) = elim (taken_grip s t r hand.0 grip hand.1 by hand.2) [
+takes_plans {D = D} shows plans s t r grip by have d device (inr hand) = elim (taken_grip s t r hand.0 grip hand.1 by hand.2) [
   | inl p ↦ have d device (inl (ap (λ e. slice_get s.hub.places e) (sym hand.3 ∙ ap (λ (x : Gripped D Ready). x.slip.device.0) p.1) ∙ by.home ∙ ap (λ x. Some (Home x)) (ap (λ (x : Gripped D Ready). x.device) (sym p.1) ∙ hand.4)))
   | inr q ↦ have d device (inr (hand.0, hand.1, q.1, hand.3, hand.4))
 ]
@@ -172,14 +173,14 @@ gives_keeps {D = D} s t a grip device by kept = record {
         }
 
 -- the devices' plans stay, where the device that comes back has the plan that it had
-pub gives_plans : {D P : Type 0} (plan : D → P) (plans : ℕ → P) (s t : PlayerState D) (a : ℕ) (grip : Gripped D Ready) (device : D) → Gives s t a grip device → PlayerIsKept s → plan device ≡ plan grip.device → HavePlans plan plans s → HavePlans plan plans t
-gives_plans {D = D} plan plans s t a grip device by kept same have d x (inl home) = elim (given_place s t a d grip device by kept) [
+pub gives_plans : {D : Type 0} (shows : D → Shown) (plans : ℕ → Plan) (s t : PlayerState D) (a : ℕ) (grip : Gripped D Ready) (device : D) → Gives s t a grip device → PlayerIsKept s → (shows device).plan ≡ (shows grip.device).plan → HavePlans shows plans s → HavePlans shows plans t
+gives_plans {D = D} shows plans s t a grip device by kept same have d x (inl home) = elim (given_place s t a d grip device by kept) [
   | inl p ↦ (let both : ◌≡◌ {A = Option (Place D)} (Some (Home x)) (Some (Home device)) = sym home ∙ p.1 in
       let one : x ≡ device = cc in
-      ap plan one ∙ same ∙ have d grip.device (inr (a, grip, by.hand, sym p.0, refl)))
+      ap (λ device. (shows device).plan) one ∙ same ∙ have d grip.device (inr (a, grip, by.hand, sym p.0, refl)))
   | inr q ↦ have d x (inl (sym q.1 ∙ home))
 ]
-gives_plans {D = D} plan plans s t a grip device by kept same have d x (inr hand) =
+gives_plans {D = D} shows plans s t a grip device by kept same have d x (inr hand) =
     have d x (inr (hand.0, hand.1, (given_grip s t a hand.0 grip hand.1 device by hand.2).1, hand.3, hand.4))
 
 -- the same player at another moment, and with the detector at another place
@@ -203,6 +204,6 @@ moves_keeps s t by kept = record {
   place = by.place;
 }
 
-pub moves_plans : {D P : Type 0} (plan : D → P) (plans : ℕ → P) (s t : PlayerState D) → Moves s t → HavePlans plan plans s → HavePlans plan plans t
-moves_plans plan plans s t by have d x (inl home) = have d x (inl (ap (λ l. slice_get l d) (sym by.places) ∙ home))
-moves_plans plan plans s t by have d x (inr hand) = have d x (inr (hand.0, hand.1, ap (λ l. slice_get l hand.0) (sym by.grips) ∙ hand.2, hand.3, hand.4))
+pub moves_plans : {D : Type 0} (shows : D → Shown) (plans : ℕ → Plan) (s t : PlayerState D) → Moves s t → HavePlans shows plans s → HavePlans shows plans t
+moves_plans shows plans s t by have d x (inl home) = have d x (inl (ap (λ l. slice_get l d) (sym by.places) ∙ home))
+moves_plans shows plans s t by have d x (inr hand) = have d x (inr (hand.0, hand.1, ap (λ l. slice_get l hand.0) (sym by.grips) ∙ hand.2, hand.3, hand.4))

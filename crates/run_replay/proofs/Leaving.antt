@@ -20,19 +20,19 @@ use Rattle.hub_core.specs.declared.waits.Why.{Why}
 use Rattle.home_types.specs.Commands.{fails}
 use Rattle.home_types.specs.declared.commands.Answer.TheVariants.{Found}
 use Rattle.command_rules.specs.Rosters.{command_at, device_no, is_run, run_no}
-use Rattle.lock_leasing.specs.Configurations.{Commands, Configuration, Probes, Purpose, Undoes, read_of}
+use Rattle.lock_leasing.specs.Configurations.{Configuration, read_of}
 use Rattle.lock_leasing.specs.Waits.{lost_by}
 use Rattle.run_replay.proofs.Acting.{IsGivenBack, entries_are, purpose_at}
 use Rattle.run_replay.proofs.Settings.{put_other_place}
 use Rattle.run_replay.proofs.Taking.{GoesToHand, IsAnswered, after, chosen, went_after}
-use Rattle.run_replay.specs.Players.{HavePlans, PlayerState, are_live, is_ended, play_of}
-use Rattle.run_replay.specs.Playing.{IsPicked}
-use Rattle.run_replay.specs.Replays.{Picked}
-use Rattle.std.proofs.Common.{ap, arith, refl, subst, sym, ◌∙◌}
+use Rattle.run_replay.specs.Players.{PlayerState, are_live, is_ended}
+use Rattle.std.proofs.Common.{ap, arith, refl, sym, ◌∙◌}
 use Rattle.std.proofs.lemmas.Bool.{eqb-false}
 use Rattle.std.proofs.lemmas.Grind.{common_steps}
 use Rattle.std.specs.List.{range_with_len}
-use Rattle.std.specs.Prelude.{Bool, List, None, Option, Some, [], false, filter, fold, if◌then◌else◌, is_some, length, nat_le, not, option_map, option_to_list, slice_get, slice_set, suc, true, unwrap_or, zero, ℕ, ⊤, ◌&&◌, ◌*◌, ◌++◌, ◌<◌, ◌==◌, ◌∷◌, ◌≡◌, ◌≢◌, ◌||◌}
+use Rattle.std.specs.Prelude.{Bool, List, None, Option, Some, [], false, filter, fold, if◌then◌else◌, is_some, length, nat_le, not, option_map, option_to_list, slice_get, slice_set, suc, true, unwrap_or, zero, ℕ, ⊤, ◌&&◌, ◌*◌, ◌++◌, ◌<◌, ◌==◌, ◌||◌, ◌∷◌, ◌≡◌, ◌≢◌}
+use Rattle.lock_leasing.specs.declared.purposes.Purpose.TheVariants.{Commands, Probes, Undoes}
+use Rattle.lock_leasing.specs.declared.purposes.Purpose.{Purpose}
 
 -- Entries that end at most one run
 
@@ -160,27 +160,27 @@ run_hand : {D : Type 0} (s t : PlayerState D) (r : ℕ) (o : Option (Gripped D R
 run_hand s t r o run grips = ap (λ g. slice_get g 0) grips ∙ put_other_place s.grips r 0 o (λ own. absurd (omega (arith, run, own)))
 
 -- a run's step ends no other actor
-pub answered_others : {D : Type 0} (now s t : PlayerState D) (r : ℕ) (choice : Choice) → s ≡ now → IsAnswered s t r choice → (q : ℕ) → q ≢ r → is_ended t q ≡ is_ended now q
-answered_others {D = D} now s t r choice same is q other =
+pub answered_others : {D : Type 0} (s t : PlayerState D) (r : ℕ) (choice : Choice) → IsAnswered s t r choice → (q : ℕ) → q ≢ r → is_ended t q ≡ is_ended s q
+answered_others s t r choice is q other =
     let ends = ap (λ (c : Configuration). ((read_of c).run q).ended) (after s t r choice is.answers) ∙ take_ends (configuration_of s.hub) r q s.hub.moment other in
-    same_ends s t q is.window (λ own. same_detector s t is.window (ap (λ g. slice_get g 0) is.grips) is.rounds is.place) ends ∙ ap (λ (x : PlayerState D). is_ended x q) same
+    same_ends s t q is.window (λ own. same_detector s t is.window (ap (λ g. slice_get g 0) is.grips) is.rounds is.place) ends
 
 -- .. and where it waits not even its own
-pub waited_ends : {D : Type 0} (now s t : PlayerState D) (r : ℕ) (why : Why) → s ≡ now → IsAnswered s t r (Waits why) → is_ended t r ≡ is_ended now r
-waited_ends {D = D} now s t r why same is =
+pub waited_ends : {D : Type 0} (s t : PlayerState D) (r : ℕ) (why : Why) → IsAnswered s t r (Waits why) → is_ended t r ≡ is_ended s r
+waited_ends s t r why is =
     let ends = ap (λ (c : Configuration). ((read_of c).run r).ended) (after s t r (Waits why) is.answers) ∙ ap (λ c. ((read_of (after_choice (at_moment (configuration_of s.hub) s.hub.moment) r c)).run r).ended) (sym (chosen s t r (Waits why) is.answers)) in
-    same_ends s t r is.window (λ own. same_detector s t is.window (ap (λ g. slice_get g 0) is.grips) is.rounds is.place) ends ∙ ap (λ (x : PlayerState D). is_ended x r) same
+    same_ends s t r is.window (λ own. same_detector s t is.window (ap (λ g. slice_get g 0) is.grips) is.rounds is.place) ends
 
-pub went_others : {D : Type 0} (now s t : PlayerState D) (r : ℕ) (grip : Gripped D Ready) → s ≡ now → GoesToHand s t r grip → (q : ℕ) → q ≢ r → is_ended t q ≡ is_ended now q
-went_others {D = D} now s t r grip same is q other =
+pub went_others : {D : Type 0} (s t : PlayerState D) (r : ℕ) (grip : Gripped D Ready) → GoesToHand s t r grip → (q : ℕ) → q ≢ r → is_ended t q ≡ is_ended s q
+went_others s t r grip is q other =
     let ends = ap (λ (c : Configuration). ((read_of c).run q).ended) (went_after s t r grip is) ∙ take_ends (configuration_of s.hub) r q s.hub.moment other in
-    same_ends s t q is.window (λ own. same_detector s t is.window (run_hand s t r (Some grip) is.free.run is.grips) is.rounds is.place) ends ∙ ap (λ (x : PlayerState D). is_ended x q) same
+    same_ends s t q is.window (λ own. same_detector s t is.window (run_hand s t r (Some grip) is.free.run is.grips) is.rounds is.place) ends
 
 -- a step back ends no actor
-pub given_ends : {D : Type 0} (now s t : PlayerState D) (a : ℕ) (grip : Gripped D Ready) (done : Gripped D Done) (entries : List Entry) → s ≡ now → IsGivenBack s t a grip done entries → (q : ℕ) → is_ended t q ≡ is_ended now q
-given_ends {D = D} now s t a grip done entries same by q =
+pub given_ends : {D : Type 0} (s t : PlayerState D) (a : ℕ) (grip : Gripped D Ready) (done : Gripped D Done) (entries : List Entry) → IsGivenBack s t a grip done entries → (q : ℕ) → is_ended t q ≡ is_ended s q
+given_ends s t a grip done entries by q =
     let ends = ap (λ (c : Configuration). ((read_of c).run q).ended) (entries_are s t a grip done entries by).1 ∙ give_ended (at_moment (configuration_of s.hub) by.at) grip.slip.device.0 a q (purpose_at s grip) done.stage.told in
-    same_ends s t q by.window (λ own. same_detector s t by.window (run_hand s t a None by.is.run by.grips) by.rounds by.place) ends ∙ ap (λ (x : PlayerState D). is_ended x q) same
+    same_ends s t q by.window (λ own. same_detector s t by.window (run_hand s t a None by.is.run by.grips) by.rounds by.place) ends
 
 -- The list of those that have not ended
 
@@ -222,9 +222,3 @@ taken_out s t old new a before less size others over = less ∙ ap (λ xs. filte
 -- an actor that waited, or has not ended, leaves the list as it is
 pub kept_in : {D : Type 0} (s t : PlayerState D) (old : List ℕ) (a : ℕ) → old ≡ are_live s → length t.grips ≡ length s.grips → ((q : ℕ) → q ≢ a → is_ended t q ≡ is_ended s q) → is_ended t a ≡ is_ended s a → old ≡ are_live t
 kept_in s t old a before size others own = before ∙ actors_stay s t a size others own
-
-pub picked_now : {D : Type 0} (now s t : PlayerState D) (a : ℕ) (picked : Picked) → s ≡ now → ((acts : ℕ) → (later : ℕ) × IsPicked s.rounds a (play_of s acts) picked (play_of t later)) → (acts : ℕ) → (later : ℕ) × IsPicked now.rounds a (play_of now acts) picked (play_of t later)
-picked_now {D = D} now s t a picked same is = subst (λ (x : PlayerState D). (acts : ℕ) → (later : ℕ) × IsPicked x.rounds a (play_of x acts) picked (play_of t later)) same is
-
-pub plans_now : {D P : Type 0} (plan : D → P) (now s t : PlayerState D) → s ≡ now → ((plans : ℕ → P) → HavePlans plan plans s → HavePlans plan plans t) → (plans : ℕ → P) → HavePlans plan plans now → HavePlans plan plans t
-plans_now {D = D} plan now s t same is plans have = is plans (subst (λ (x : PlayerState D). HavePlans plan plans x) (sym same) have)

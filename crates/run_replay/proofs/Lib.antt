@@ -14,6 +14,7 @@ pub mod Stepping
 pub mod Counting
 pub mod Counted
 pub mod Leaving
+pub mod PlayerSteps
 pub mod Probing
 pub mod Living
 pub mod Ending

@@ -1,7 +1,7 @@
 -- The runs that have not ended, as the bits of a word.
 use Rattle.command_rules.specs.Rosters.{is_run}
-use Rattle.hub_core.proofs.kept.RunBits.{has_either, has_nothing, has_without}
-use Rattle.hub_core.specs.BlockedMarks.{has_run}
+use Rattle.blocked_runs.proofs.RunBits.{has_either, has_nothing, has_without}
+use Rattle.blocked_runs.specs.RunBits.{has_run}
 use Rattle.hub_core.specs.OpenHubs.{configuration_of}
 use Rattle.lock_leasing.specs.Configurations.{read_of}
 use Rattle.run_replay.proofs.Settings.{at_or_past}
@@ -12,7 +12,7 @@ use Rattle.std.proofs.lemmas.Grind.{common_steps}
 use Rattle.std.proofs.lemmas.Nat.Bits.{bit_at-trailing_zeros, bit_at-zero}
 use Rattle.std.proofs.lemmas.Nat.{shr-shr, shr_le}
 use Rattle.std.specs.Int.{bit_at, bit_not, trailing_zeros, w64}
-use Rattle.std.specs.Prelude.{Bool, List, [], bit_and, bit_or, false, is_some, length, nat_lt, not, slice_get, suc, true, zero, ℕ, ◌&&◌, ◌%◌, ◌+◌, ◌-◌, ◌/◌, ◌<◌, ◌==◌, ◌^◌, ◌||◌, ◌∷◌, ◌≡◌, ◌≢◌, ◌≤◌}
+use Rattle.std.specs.Prelude.{Bool, List, [], bit_and, bit_or, false, is_some, length, nat_lt, not, slice_get, suc, true, zero, ℕ, ◌%◌, ◌&&◌, ◌+◌, ◌-◌, ◌/◌, ◌<◌, ◌==◌, ◌^◌, ◌||◌, ◌∷◌, ◌≡◌, ◌≢◌, ◌≤◌}
 
 -- One run more, and one less
 

@@ -5,7 +5,9 @@ use Rattle.hub_core.proofs.steps.Choices.{decide_is}
 use Rattle.hub_core.specs.Steps.{Absent, Choice, HandsOut, Moves, Over, Waits, choice_of, give_entries}
 use Rattle.device_gate.specs.declared.slips.Told.{Told}
 use Rattle.device_gate.specs.declared.slips.Told.TheVariants.{Died, Sensed, Worked}
-use Rattle.lock_leasing.specs.Configurations.{Commands, Configuration, Probes, Purpose, Undoes, is_command, is_undo, read_of}
+use Rattle.lock_leasing.specs.Configurations.{Configuration, is_command, is_undo, read_of}
+use Rattle.lock_leasing.specs.declared.purposes.Purpose.TheVariants.{Commands, Probes, Undoes}
+use Rattle.lock_leasing.specs.declared.purposes.Purpose.{Purpose}
 use Rattle.std.proofs.Common.{arith, sym, ◌∙◌}
 use Rattle.std.specs.Prelude.{None, Some, length, true, ℕ, ⊤, ◌<◌, ◌||◌, ◌≡◌}
 

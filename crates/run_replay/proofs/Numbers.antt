@@ -4,7 +4,7 @@ use Rattle.hub_core.specs.OpenHubs.{configuration_of}
 use Rattle.run_replay.proofs.Passing.{one_more_passed}
 use Rattle.run_replay.proofs.LiveRuns.{live_low}
 use Rattle.run_replay.proofs.Trying.{HaveWaited, PickedNext, goes_on_at, never_all, none_waited, one_more_waits, one_moves, turned_length}
-use Rattle.run_replay.specs.Players.{PlayerIsKept, PlayerStands, PlayerState, are_live, is_ended, play_of, steps_left}
+use Rattle.run_replay.specs.Players.{PlayerStands, PlayerState, are_live, is_ended, play_of, steps_left}
 use Rattle.run_replay.specs.Playing.{GoesOn}
 use Rattle.run_replay.specs.Replays.{Picked, from_place, is_waiting_pick, pick_first}
 use Rattle.std.proofs.Common.{ap, arith, inl, inr, refl, subst, sym, ◌∙◌}

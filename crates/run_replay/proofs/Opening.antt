@@ -4,6 +4,7 @@ use Rattle.device_gate.specs.declared.gates.Place.TheVariants.{Out}
 use Rattle.device_gate.specs.declared.grips.Ready.{Ready}
 use Rattle.device_gate.specs.declared.slips.Slip.{Slip}
 use Rattle.device_gate.specs.declared.slips.Task.{Task}
+use Rattle.device_states.specs.Devices.{Shown}
 use Rattle.history_book.specs.Settings.{Setting}
 use Rattle.hub_core.specs.Homes.{HomeState}
 use Rattle.hub_core.specs.HubCalls.{IsOpened as IsOpenedOn}
@@ -47,5 +48,5 @@ is_opened hub grips rounds fresh none = record {
 
 -- A window that was just opened may be replayed
 
-pub fresh_where : {D : Type 0} (turns probes faults : D → ℕ) (w : Setting) (rounds : ℕ) (home : HomeState D) (hub : OpenHub D) → IsOpenedOn turns probes faults w rounds home hub → configuration_of hub ≡ opened hub.setting hub.rounds
-fresh_where turns probes faults w rounds home hub is = is.configuration ∙ sym (ap (λ v. opened v rounds) (ap (λ c. c.setting) is.configuration)) ∙ ap (λ n. opened hub.setting n) (sym is.rounds_are)
+pub fresh_where : {D : Type 0} (shows : D → Shown) (w : Setting) (rounds : ℕ) (home : HomeState D) (hub : OpenHub D) → IsOpenedOn shows w rounds home hub → configuration_of hub ≡ opened hub.setting hub.rounds
+fresh_where shows w rounds home hub is = is.configuration ∙ sym (ap (λ v. opened v rounds) (ap (λ c. c.setting) is.configuration)) ∙ ap (λ n. opened hub.setting n) (sym is.rounds_are)

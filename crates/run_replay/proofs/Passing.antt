@@ -8,7 +8,7 @@ use Rattle.hub_core.specs.BlockedRuns.{IsBlocked, is_wait}
 use Rattle.hub_core.specs.OpenHubs.{configuration_of}
 use Rattle.hub_core.specs.Steps.{Over, Waits, after_choice, after_take, at_moment, choice_of, decide}
 use Rattle.hub_core.specs.declared.waits.Why.{Why}
-use Rattle.lock_leasing.specs.Configurations.{Configuration, Grips, read_of}
+use Rattle.lock_leasing.specs.Configurations.{Configuration, Grips, point, read_of}
 use Rattle.run_replay.proofs.Picking.{IsGoing, at_own_moment, going_not_ended, stepped_is_picked, taken_is_stepped}
 use Rattle.run_replay.proofs.Played.{played_next}
 use Rattle.run_replay.proofs.Trying.{HaveWaited, one_more_waits}
@@ -20,10 +20,10 @@ use Rattle.std.proofs.Math.ListN.{get_or}
 use Rattle.std.specs.Prelude.{List, None, Option, Some, [], false, length, slice_get, take, true, ℕ, ◌+◌, ◌<◌, ◌≡◌}
 
 -- a run that waits has not ended
-waiting_goes : (w : Setting) (n : Reading) (g : Grips) (r m : ℕ) (o : Option End) → (n.run r).ended ≡ o → is_run w.runs r ≡ true → is_wait (decide w n g r m) ≡ true → o ≡ None
+waiting_goes : (w : Setting) (n : Reading) (g : Grips) (r m : ℕ) (o : Option End) → (n.run r).ended ≡ o → is_run w.runs r ≡ true → is_wait (decide (point w n g) r m) ≡ true → o ≡ None
 waiting_goes w n g r m None at run wait = refl
 waiting_goes w n g r m (Some e) at run wait = absurd (
-    let over : decide w n g r m ≡ Over e [] = rw (run, at) refl in
+    let over : decide (point w n g) r m ≡ Over e [] = rw (run, at) refl in
     let no : false ≡ true = sym (ap is_wait over) ∙ wait in cc)
 
 blocked_goes : (s : Configuration) (r : ℕ) → IsBlocked s r → IsGoing s r

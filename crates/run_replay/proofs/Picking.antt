@@ -7,7 +7,8 @@ use Rattle.history_book.specs.Readings.{put}
 use Rattle.history_book.specs.declared.entries.Entry.{Entry}
 use Rattle.hub_core.specs.OpenHubs.{configuration_of}
 use Rattle.hub_core.specs.Steps.{Absent, Choice, HandsOut, Moves, Over, Waits, after_choice, after_give, after_take, after_take_probe, at_moment, choice_of, give_entries, may_probe, probe_grip}
-use Rattle.lock_leasing.specs.Configurations.{Configuration, Grip, Purpose, read_of}
+use Rattle.lock_leasing.specs.Configurations.{Configuration, Grip, read_of}
+use Rattle.lock_leasing.specs.declared.purposes.Purpose.{Purpose}
 use Rattle.run_replay.proofs.Gripping.{empty_hand, full_hand}
 use Rattle.run_replay.proofs.Settings.{there}
 use Rattle.run_replay.specs.Players.{PlayerIsKept, PlayerState, is_ended, is_full, play_of}

@@ -5,28 +5,37 @@ use Rattle.device_gate.specs.declared.grips.Done.{Done}
 use Rattle.device_gate.specs.declared.grips.Ready.{Ready}
 use Rattle.device_gate.specs.declared.slips.Slip.{Slip}
 use Rattle.device_gate.specs.declared.strangers.Stranger.{Stranger}
+use Rattle.device_states.specs.Devices.{Shown}
 use Rattle.history_book.specs.declared.entries.Entry.{Entry}
-use Rattle.hub_core.specs.HubCalls.{IsProbed, SameWindow, carried_by}
+use Rattle.history_book.specs.Histories.{entries_made}
+use Rattle.history_book.specs.declared.entries.Made.{Made as MadeEntries}
+use Rattle.home_types.specs.declared.numbers.DeviceNo.{DeviceNo}
+use Rattle.hub_core.specs.HubCalls.{IsPacked, IsProbed, SameWindow, carried_by}
 use Rattle.hub_core.specs.HubSteps.{Gave, GiveProbe, HubStep, IsSlipOf, Refused, Returned}
 use Rattle.hub_core.specs.OpenHubs.{OpenHub, carried_in, configuration_of, hub_state_of}
 use Rattle.hub_core.specs.Steps.{after_give, after_take_probe, give_entries, may_probe, probe_grip}
 use Rattle.history_book.specs.Readings.{put}
 use Rattle.hub_core.proofs.calls.HubChanges.{length_with}
-use Rattle.lock_leasing.specs.Configurations.{Commands, Configuration, Probes, Purpose, Undoes, read_of}
+use Rattle.lock_leasing.specs.Configurations.{Configuration, read_of}
 use Rattle.run_replay.proofs.Acting.{hand_by, out_of_hand, purpose_at}
 use Rattle.run_replay.proofs.Holding.{Gives, Moves, Takes, gives_keeps, gives_plans, moves_keeps, moves_plans, takes_keeps, takes_plans}
 use Rattle.hub_core.proofs.steps.HubAnswers.{gave_probe_back, probe_never_refused, took_none, took_probe}
 use Rattle.run_replay.proofs.Leaving.{give_ended, same_ends}
 use Rattle.run_replay.proofs.Picking.{acted_is_stepped, detector_passed, detector_took, empty_is, next_device}
+use Rattle.run_replay.proofs.Settings.{put_length}
 use Rattle.run_replay.proofs.Stepping.{passed_fewer, probed_fewer, returned_fewer}
 use Rattle.run_replay.proofs.Taking.{some_slip, stays_by}
-use Rattle.run_replay.specs.Players.{HavePlans, PlayerIsKept, PlayerState, is_ended, is_full, play_of, steps_left}
+use Rattle.run_replay.specs.PlayerSteps.{PlayerSteps}
+use Rattle.run_replay.specs.Players.{PlayerIsKept, PlayerState, is_ended, is_full, play_of}
 use Rattle.run_replay.specs.Playing.{IsStepped}
 use Rattle.run_replay.specs.Replays.{Made, Passed, Took, takes_of}
+use Rattle.run_replay.specs.declared.picked.Picked.TheVariants.{Made as MadeSo, Passed as PassedSo, Took as TookSo}
 use Rattle.std.proofs.Common.{ap, arith, refl, subst, sym, ◌∙◌}
 use Rattle.std.proofs.lemmas.Grind.{common_steps}
 use Rattle.std.proofs.Math.ListN.{get_or}
-use Rattle.std.specs.Prelude.{Bool, List, None, Option, Some, false, if◌then◌else◌, length, nat_le, not, slice_get, slice_set, true, ℕ, ◌&&◌, ◌*◌, ◌+◌, ◌-◌, ◌<◌, ◌^◌, ◌≡◌, ◌≢◌, ◌≤◌}
+use Rattle.std.specs.Prelude.{Bool, List, None, Option, Some, false, if◌then◌else◌, length, nat_le, not, slice_get, slice_set, true, ℕ, ◌&&◌, ◌*◌, ◌+◌, ◌-◌, ◌<◌, ◌^◌, ◌≡◌, ◌≤◌}
+use Rattle.lock_leasing.specs.declared.purposes.Purpose.TheVariants.{Commands, Probes, Undoes}
+use Rattle.lock_leasing.specs.declared.purposes.Purpose.{Purpose}
 
 -- The detector comes to a device
 
@@ -237,43 +246,44 @@ gives_it s t grip done entries is = record {
 pub back_keeps : {D : Type 0} (s t : PlayerState D) (grip : Gripped D Ready) (done : Gripped D Done) (entries : List Entry) → ProbeIsBack s t grip done entries → PlayerIsKept t
 back_keeps s t grip done entries is = gives_keeps s t 0 grip done.device (gives_it s t grip done entries is) is.held.kept
 
--- The same of the player as callers see it
+-- The step of the detector
 
-pub probed_stepped_now : {D : Type 0} (now s t : PlayerState D) (d : ℕ) (grip : Gripped D Ready) → s ≡ now → GoesToDetector s t d grip → (acts : ℕ) → (later : ℕ) × IsStepped now.rounds 0 (play_of now acts) (Took d) (play_of t later)
-probed_stepped_now {D = D} now s t d grip same is acts = (acts, subst (λ (x : PlayerState D). IsStepped x.rounds 0 (play_of x acts) (Took d) (play_of t acts)) same (probed_stepped s t d acts grip is))
+pub probed_steps : {D : Type 0} (shows : D → Shown) (s t : PlayerState D) (d : DeviceNo) (grip : Gripped D Ready) → GoesToDetector s t d.0 grip → PlayerSteps shows s 0 (TookSo d) t
+probed_steps shows s t d grip is = record {
+  stepped = λ acts. (acts, probed_stepped s t d.0 acts grip is);
+  packed = tt;
+  stays = record { window = is.window; rounds = is.rounds; plans = λ plans. takes_plans shows plans s t 0 grip (takes_it s t d.0 grip is) };
+  moves = is.moves;
+  hands = ap length is.grips ∙ put_length s.grips 0 (Some grip);
+  others = λ q other. same_ends s t q is.window (λ own. absurd (other own)) (ap (λ (c : Configuration). ((read_of c).run q).ended) (after s t d.0 grip is));
+  fewer = λ goes. probed_fewer s t grip (stays_by s t is.window is.rounds) (some_hand s is.rest.kept) is.grips (has_next s is.rest.going is.rest.empty) is.place (same_history s t d.0 grip is);
+  left = λ waits. absurd (cc);
+  waiting = λ waits. absurd (cc);
+}
 
-pub probed_plans_now : {D P : Type 0} (plan : D → P) (now s t : PlayerState D) (d : ℕ) (grip : Gripped D Ready) → s ≡ now → GoesToDetector s t d grip → (plans : ℕ → P) → HavePlans plan plans now → HavePlans plan plans t
-probed_plans_now {D = D} plan now s t d grip same is plans have = takes_plans plan plans s t 0 grip (takes_it s t d grip is) (subst (λ (x : PlayerState D). HavePlans plan plans x) (sym same) have)
+pub passed_steps : {D : Type 0} (shows : D → Shown) (s t : PlayerState D) (d : ℕ) → PassesOver s t d → PlayerSteps shows s 0 PassedSo t
+passed_steps {D = D} shows s t d is = record {
+  stepped = λ acts. (acts, passed_stepped s t d acts is);
+  packed = tt;
+  stays = record { window = is.window; rounds = is.rounds; plans = λ plans. moves_plans shows plans s t (stays s t d is) };
+  moves = is.moves;
+  hands = ap length is.grips;
+  others = λ q other. same_ends s t q is.window (λ own. absurd (other own)) (ap (λ (h : OpenHub D). ((read_of (configuration_of h)).run q).ended) is.probed.1);
+  fewer = λ goes. passed_fewer s t (stays_by s t is.window is.rounds) is.grips (has_next s is.rest.going is.rest.empty) is.place (ap (λ (h : OpenHub D). h.history) is.probed.1);
+  left = λ waits. absurd (cc);
+  waiting = λ waits. absurd (cc);
+}
 
-pub probed_fewer_now : {D : Type 0} (now s t : PlayerState D) (d : ℕ) (grip : Gripped D Ready) → s ≡ now → GoesToDetector s t d grip → steps_left t < steps_left now
-probed_fewer_now {D = D} now s t d grip same is = subst (λ (x : PlayerState D). steps_left t < steps_left x) same (probed_fewer s t grip (stays_by s t is.window is.rounds) (some_hand s is.rest.kept) is.grips (has_next s is.rest.going is.rest.empty) is.place (same_history s t d grip is))
-
-pub probed_others : {D : Type 0} (now s t : PlayerState D) (d : ℕ) (grip : Gripped D Ready) → s ≡ now → GoesToDetector s t d grip → (q : ℕ) → q ≢ 0 → is_ended t q ≡ is_ended now q
-probed_others {D = D} now s t d grip same is q other = same_ends s t q is.window (λ own. absurd (other own)) (ap (λ (c : Configuration). ((read_of c).run q).ended) (after s t d grip is)) ∙ ap (λ (x : PlayerState D). is_ended x q) same
-
-pub passed_stepped_now : {D : Type 0} (now s t : PlayerState D) (d : ℕ) → s ≡ now → PassesOver s t d → (acts : ℕ) → (later : ℕ) × IsStepped now.rounds 0 (play_of now acts) Passed (play_of t later)
-passed_stepped_now {D = D} now s t d same is acts = (acts, subst (λ (x : PlayerState D). IsStepped x.rounds 0 (play_of x acts) Passed (play_of t acts)) same (passed_stepped s t d acts is))
-
-pub passed_plans_now : {D P : Type 0} (plan : D → P) (now s t : PlayerState D) (d : ℕ) → s ≡ now → PassesOver s t d → (plans : ℕ → P) → HavePlans plan plans now → HavePlans plan plans t
-passed_plans_now {D = D} plan now s t d same is plans have = moves_plans plan plans s t (stays s t d is) (subst (λ (x : PlayerState D). HavePlans plan plans x) (sym same) have)
-
-pub passed_fewer_now : {D : Type 0} (now s t : PlayerState D) (d : ℕ) → s ≡ now → PassesOver s t d → steps_left t < steps_left now
-passed_fewer_now {D = D} now s t d same is = subst (λ (x : PlayerState D). steps_left t < steps_left x) same (passed_fewer s t (stays_by s t is.window is.rounds) is.grips (has_next s is.rest.going is.rest.empty) is.place (ap (λ (h : OpenHub D). h.history) is.probed.1))
-
-pub passed_others : {D : Type 0} (now s t : PlayerState D) (d : ℕ) → s ≡ now → PassesOver s t d → (q : ℕ) → q ≢ 0 → is_ended t q ≡ is_ended now q
-passed_others {D = D} now s t d same is q other = same_ends s t q is.window (λ own. absurd (other own)) (ap (λ (h : OpenHub D). ((read_of (configuration_of h)).run q).ended) is.probed.1) ∙ ap (λ (x : PlayerState D). is_ended x q) same
-
-pub back_stepped_now : {D : Type 0} (now s t : PlayerState D) (grip : Gripped D Ready) (done : Gripped D Done) (entries : List Entry) → s ≡ now → ProbeIsBack s t grip done entries → (acts : ℕ) → (later : ℕ) × IsStepped now.rounds 0 (play_of now acts) (Made entries) (play_of t later)
-back_stepped_now {D = D} now s t grip done entries same is acts = (acts + 1, subst (λ (x : PlayerState D). IsStepped x.rounds 0 (play_of x acts) (Made entries) (play_of t (acts + 1))) same (back_stepped s t acts grip done entries is))
-
-pub back_plans_now : {D P : Type 0} (plan : D → P) (now s t : PlayerState D) (grip : Gripped D Ready) (done : Gripped D Done) (entries : List Entry) → s ≡ now
-    → ProbeIsBack s t grip done entries → plan done.device ≡ plan grip.device → (plans : ℕ → P) → HavePlans plan plans now → HavePlans plan plans t
-back_plans_now {D = D} plan now s t grip done entries same is own plans have = gives_plans plan plans s t 0 grip done.device (gives_it s t grip done entries is) is.held.kept own (subst (λ (x : PlayerState D). HavePlans plan plans x) (sym same) have)
-
-pub back_fewer_now : {D : Type 0} (now s t : PlayerState D) (grip : Gripped D Ready) (done : Gripped D Done) (entries : List Entry) → s ≡ now → ProbeIsBack s t grip done entries → steps_left t < steps_left now
-back_fewer_now {D = D} now s t grip done entries same is = subst (λ (x : PlayerState D). steps_left t < steps_left x) same (returned_fewer s t grip (stays_by s t is.window is.rounds) is.held.hand is.grips is.place (longer s t grip done entries is))
-
-pub back_others : {D : Type 0} (now s t : PlayerState D) (grip : Gripped D Ready) (done : Gripped D Done) (entries : List Entry) → s ≡ now → ProbeIsBack s t grip done entries → (q : ℕ) → q ≢ 0 → is_ended t q ≡ is_ended now q
-back_others {D = D} now s t grip done entries same is q other =
-    let ends = ap (λ (c : Configuration). ((read_of c).run q).ended) (came_back s t grip done entries is).1 ∙ give_ended (configuration_of s.hub) grip.slip.device.0 0 q (purpose_at s grip) done.stage.told in
-    same_ends s t q is.window (λ own. absurd (other own)) ends ∙ ap (λ (x : PlayerState D). is_ended x q) same
+pub back_steps : {D : Type 0} (shows : D → Shown) (s t : PlayerState D) (grip : Gripped D Ready) (done : Gripped D Done) (made : MadeEntries) → ProbeIsBack s t grip done (entries_made made) → (shows done.device).plan ≡ (shows grip.device).plan → IsPacked made
+    → PlayerSteps shows s 0 (MadeSo made) t
+back_steps shows s t grip done made is own packed = record {
+  stepped = λ acts. (acts + 1, back_stepped s t acts grip done (entries_made made) is);
+  packed = packed;
+  stays = record { window = is.window; rounds = is.rounds; plans = λ plans. gives_plans shows plans s t 0 grip done.device (gives_it s t grip done (entries_made made) is) is.held.kept own };
+  moves = is.moves;
+  hands = ap length is.grips ∙ put_length s.grips 0 None;
+  others = λ q other. same_ends s t q is.window (λ own. absurd (other own)) (ap (λ (c : Configuration). ((read_of c).run q).ended) (came_back s t grip done (entries_made made) is).1 ∙ give_ended (configuration_of s.hub) grip.slip.device.0 0 q (purpose_at s grip) done.stage.told);
+  fewer = λ goes. returned_fewer s t grip (stays_by s t is.window is.rounds) is.held.hand is.grips is.place (longer s t grip done (entries_made made) is);
+  left = λ waits. absurd (cc);
+  waiting = λ waits. absurd (cc);
+}

@@ -6,10 +6,11 @@ use Rattle.history_book.proofs.Searches.{Each, none_is}
 use Rattle.history_book.specs.Readings.{is_live}
 use Rattle.hub_core.proofs.kept.Finds.{none_there}
 use Rattle.hub_core.specs.OpenHubs.{configuration_of, grip_in, progress_at}
-use Rattle.window_order.specs.KeptOrders.{purpose_of}
+use Rattle.lock_leasing.specs.declared.purposes.Purpose.TheVariants.{Commands, Probes, Undoes}
+use Rattle.lock_leasing.specs.declared.purposes.Purpose.{Purpose}
 use Rattle.hub_core.specs.Steps.{Absent, Choice, HandsOut, Moves, Over, Waits, choice_of}
 use Rattle.hub_core.specs.declared.waits.Why.{Why}
-use Rattle.lock_leasing.specs.Configurations.{Commands, Configuration, Probes, Purpose, Undoes, has_grip, read_of}
+use Rattle.lock_leasing.specs.Configurations.{Configuration, has_grip, point_of, read_of}
 use Rattle.lock_leasing.specs.Places.{GripsFit}
 use Rattle.run_replay.proofs.Gripping.{full_hand}
 use Rattle.run_replay.proofs.Picking.{IsGoing, going_not_ended, take_pick}
@@ -84,7 +85,7 @@ acts_on : (course : Course) (p : Play) (a d : ℕ) → is_actor_done course p a 
 acts_on course p a d going holds = rw going (rw holds (act_never_waits course p d (p.configuration.grips d)))
 
 -- with a device out its maker acts
-none_out : {D : Type 0} (course : Course) (s : PlayerState D) (acts d : ℕ) → PlayerIsKept s → length s.hub.places ≡ length s.hub.setting.first → GripsFit s.hub.setting (read_of (configuration_of s.hub)) (configuration_of s.hub).grips
+none_out : {D : Type 0} (course : Course) (s : PlayerState D) (acts d : ℕ) → PlayerIsKept s → length s.hub.places ≡ length s.hub.setting.first → GripsFit (point_of (configuration_of s.hub))
     → AllWait course (play_of s acts) → (o : Option (Place D)) → slice_get s.hub.places d ≡ o → grip_in o (progress_at s.hub.devices d).purpose ≡ None
 none_out course s acts d kept size fit all None at = refl
 none_out course s acts d kept size fit all (Some (Home device)) at = refl
@@ -92,8 +93,8 @@ none_out {D = D} course s acts d kept size fit all (Some (Out slip task)) at = a
     let hand = kept.out d slip task at in
     let holds : gripped (play_of s acts) slip.maker ≡ Some hand.grip.slip.device.0 = full_hand s slip.maker acts hand.grip kept size hand.there in
     let low : slip.maker < length s.hub.setting.runs + 1 = (let within = slice_get_within s.grips slip.maker (Some hand.grip) hand.there in omega (arith, within, kept.actors)) in
-    let out : (configuration_of s.hub).grips d ≡ Some (record { maker = slip.maker; purpose = purpose_of (progress_at s.hub.devices d).purpose }) = ap (λ o. grip_in o (progress_at s.hub.devices d).purpose) at in
-    let going : is_actor_done course (play_of s acts) slip.maker ≡ false = by_purpose slip.maker (purpose_of (progress_at s.hub.devices d).purpose) low out hand.grip.slip.device.0 holds in
+    let out : (configuration_of s.hub).grips d ≡ Some (record { maker = slip.maker; purpose = (progress_at s.hub.devices d).purpose }) = ap (λ o. grip_in o (progress_at s.hub.devices d).purpose) at in
+    let going : is_actor_done course (play_of s acts) slip.maker ≡ false = by_purpose slip.maker (progress_at s.hub.devices d).purpose low out hand.grip.slip.device.0 holds in
     let waited = wait_of course (play_of s acts) slip.maker all low going in
     let moved = acts_on course (play_of s acts) slip.maker hand.grip.slip.device.0 going holds in
     let both : true ≡ false = sym waited ∙ moved in cc)
@@ -121,7 +122,7 @@ waits_by (Waits why) none = absurd (none why refl)
 waits_by (HandsOut d purpose) none = refl
 
 -- not all of the actors that have not ended wait, where there is one
-pub not_all_wait : {D : Type 0} (course : Course) (s : PlayerState D) (acts : ℕ) → PlayerIsKept s → length s.hub.places ≡ length s.hub.setting.first → GripsFit s.hub.setting (read_of (configuration_of s.hub)) (configuration_of s.hub).grips
+pub not_all_wait : {D : Type 0} (course : Course) (s : PlayerState D) (acts : ℕ) → PlayerIsKept s → length s.hub.places ≡ length s.hub.setting.first → GripsFit (point_of (configuration_of s.hub))
     → SomeMoves (configuration_of s.hub) → AllWait course (play_of s acts) → (a : ℕ) → a < length s.hub.setting.runs + 1 → is_actor_done course (play_of s acts) a ≡ false → ⊥
 not_all_wait {D = D} course s acts kept size fit moves all a low going = by_actor a low going
   where

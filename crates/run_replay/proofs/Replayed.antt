@@ -1,26 +1,22 @@
 -- A hub whose player was opened, played on until every actor had ended, and closed: its window was replayed.
-use Rattle.device_gate.specs.Places.{AreNumbered, all_home}
-use Rattle.device_gate.specs.declared.gates.Place.TheVariants.{Home, Out}
-use Rattle.device_gate.specs.declared.gates.Place.{Place}
 use Rattle.device_gate.specs.declared.slips.Told.TheVariants.{Worked}
+use Rattle.device_states.specs.Devices.{Shown}
 use Rattle.history_book.specs.declared.records.WindowRecord.{WindowRecord}
+use Rattle.hub_core.proofs.calls.WindowWays.{plan_in, window_worked}
 use Rattle.hub_core.specs.Homes.{HomeState}
-use Rattle.hub_core.specs.HubCalls.{HubStands, NoneFails, RunsHaveEnded, SameWindow, WindowIsClosed}
+use Rattle.hub_core.specs.HubCalls.{HubStands, SameWindow, WindowIsClosed}
 use Rattle.hub_core.specs.OpenHubs.{OpenHub, configuration_of, progress_at}
 use Rattle.hub_core.specs.Steps.{not_quiet}
-use Rattle.legal_days.specs.LegalWindows.{IsLegalWindow}
 use Rattle.run_replay.proofs.Ending.{quiet_at_end}
 use Rattle.run_replay.proofs.Living.{actors_are}
 use Rattle.run_replay.proofs.Tellings.{replays}
 use Rattle.run_replay.proofs.Trying.{same_window}
 use Rattle.run_replay.specs.Players.{HavePlans, PlayerIsKept, PlayerIsOpened, PlayerState, play_of}
 use Rattle.run_replay.specs.Playing.{ArePicked, IsFinished}
-use Rattle.run_replay.specs.ReplayedWindows.{IsReplayed}
+use Rattle.run_replay.specs.ReplayedWindows.{IsReplayBy, IsReplayed}
 use Rattle.run_replay.specs.Replays.{Course, IsReplay}
 use Rattle.std.proofs.Common.{ap, inl, inr, refl, subst, sym, ◌∙◌}
-use Rattle.std.proofs.lemmas.List.{length-map}
-use Rattle.std.proofs.lemmas.Option.{slice_get-map}
-use Rattle.std.specs.Prelude.{List, None, Option, Some, length, option_map, slice_get, slice_index_or, ℕ, ◌+◌, ◌-◌, ◌≡◌}
+use Rattle.std.specs.Prelude.{List, None, Option, slice_get, ℕ, ◌-◌, ◌≡◌}
 
 -- from the opening over the picks to the end, what the player's calls answer
 pub record Went {D : Type 0} (hub : OpenHub D) (picks : List ℕ) (seed rounds : ℕ) (first played last : PlayerState D) : Type 0 where
@@ -49,10 +45,10 @@ is_replay hub picks seed rounds first played last went =
     between = (went.plays 0).0
 
 -- the hub is quiet then
-pub quiet_then : {D : Type 0} (tag stands turns probes faults : D → ℕ) (hub : OpenHub D) (picks : List ℕ) (seed rounds : ℕ) (first played last : PlayerState D)
-    → Went hub picks seed rounds first played last → PlayerIsKept last → HubStands tag stands turns probes faults last.hub
+pub quiet_then : {D : Type 0} (shows : D → Shown) (hub : OpenHub D) (picks : List ℕ) (seed rounds : ℕ) (first played last : PlayerState D)
+    → Went hub picks seed rounds first played last → PlayerIsKept last → HubStands shows last.hub
     → not_quiet (configuration_of last.hub) ≡ None
-quiet_then tag stands turns probes faults hub picks seed rounds first played last went kept stand =
+quiet_then shows hub picks seed rounds first played last went kept stand =
     quiet_at_end last kept stand.grips (sym (actors_are course last later kept stand.size (sym went.rounds_last)) ∙ (went.finishes between).1.over course refl)
   where
     between : ℕ
@@ -64,45 +60,25 @@ quiet_then tag stands turns probes faults hub picks seed rounds first played las
     course : Course
     course = record { rounds = played.rounds; told = λ k. Worked }
 
--- the plan of the device that is home in this place
-abbrev pub plan_in : {D : Type 0} (plan : D → Option (List (ℕ × ℕ))) → Option (Place D) → Option (List (ℕ × ℕ))
-plan_in plan None = None
-plan_in plan (Some (Home device)) = plan device
-plan_in plan (Some (Out slip task)) = None
+-- the plan of the device that is home in the place of this number
+abbrev pub plans_of : {D : Type 0} (shows : D → Shown) → OpenHub D → ℕ → Option (List (ℕ × ℕ))
+plans_of shows hub d = plan_in shows (slice_get hub.places d)
 
-abbrev pub plans_of : {D : Type 0} (plan : D → Option (List (ℕ × ℕ))) → OpenHub D → ℕ → Option (List (ℕ × ℕ))
-plans_of plan hub d = plan_in plan (slice_get hub.places d)
+pub plans_then : {D : Type 0} (shows : D → Shown) (hub : OpenHub D) (rounds : ℕ) (first : PlayerState D) → PlayerIsOpened hub rounds first → HavePlans shows (plans_of shows hub) first
+plans_then shows hub rounds first opens d device (inl home) = sym (ap (plan_in shows) (ap (λ h. slice_get h.places d) (sym opens.own) ∙ home))
+plans_then shows hub rounds first opens d device (inr hand) = absurd (opens.hands hand.0 hand.1 hand.2)
 
-pub plans_then : {D : Type 0} (plan : D → Option (List (ℕ × ℕ))) (hub : OpenHub D) (rounds : ℕ) (first : PlayerState D) → PlayerIsOpened hub rounds first → HavePlans plan (plans_of plan hub) first
-plans_then plan hub rounds first opens d device (inl home) = sym (ap (plan_in plan) (ap (λ h. slice_get h.places d) (sym opens.own) ∙ home))
-plans_then plan hub rounds first opens d device (inr hand) = absurd (opens.hands hand.0 hand.1 hand.2)
-
-home_at : {D : Type 0} (places : List (Place D)) (devices : List D) (d : ℕ) (device : D) → places ≡ all_home devices → slice_get devices d ≡ Some device → slice_get places d ≡ Some (Home device)
-home_at places devices d device all at = ap (λ ps. slice_get ps d) all ∙ slice_get-map (λ x. Home x) devices d ∙ ap (option_map (λ x. Home x)) at
-
-pub replayed_so : {D : Type 0} (tag : D → ℕ) (plan : D → Option (List (ℕ × ℕ))) (stands turns probes faults : D → ℕ) (hub : OpenHub D) (picks : List ℕ) (seed rounds : ℕ) (first played last : PlayerState D) (home : HomeState D) (closed : WindowRecord)
-    → Went hub picks seed rounds first played last → HubStands tag stands turns probes faults hub → HubStands tag stands turns probes faults last.hub → HavePlans plan (plans_of plan hub) last → WindowIsClosed turns probes faults last.hub home closed → AreNumbered tag home.devices
-    → IsReplayed tag plan turns probes faults hub picks seed rounds home closed
-replayed_so {D = D} tag plan stands turns probes faults hub picks seed rounds first played last home closed went before after plans closes numbered = record {
-  legal = subst (λ w. IsLegalWindow w closed) window.setting closes.legal;
-  play = play_of last (acts_of hub picks seed rounds first played last went);
-  is_replay = is_replay hub picks seed rounds first played last went;
-  history = closes.history;
-  ends = subst (λ w. RunsHaveEnded w closed) window.setting closes.ends;
-  kinds = closes.kinds ∙ ap (λ w. w.kinds) window.setting;
-  last = closes.last;
-  opened = closes.opened ∙ ap (λ n. n + 1) window.opened;
-  up = λ calm. closes.up (subst (λ w. NoneFails w closed.faults.items) (sym window.setting) calm);
-  size = sizes ∙ ap (λ w. length w.first) window.setting ∙ sym before.size;
-  numbered = numbered;
-  plans = λ d x y x_at y_at. plans d y (inl (home_at last.hub.places home.devices d y closes.places y_at)) ∙ ap (plan_in plan) x_at;
-  turns_rose = λ d y y_at. closes.turns_rose d y y_at ∙ ap (λ c. c.turns + slice_index_or closed.turns.items d 0) (window.at_opening d);
-  probes_rose = λ d y y_at. closes.probes_rose d y y_at ∙ ap (λ c. c.probes + (last.hub.rounds - (progress_at last.hub.devices d).probes_left)) (window.at_opening d) ∙ ap (λ n. (progress_at hub.devices d).at_opening.probes + (n - (progress_at last.hub.devices d).probes_left)) window.rounds;
-  faults_rose = λ d y y_at. closes.faults_rose d y y_at ∙ ap (λ c. c.faults + slice_index_or closed.faults.items d 0) (window.at_opening d);
-}
+pub replayed_so : {D : Type 0} (shows : D → Shown) (hub : OpenHub D) (picks : List ℕ) (seed rounds : ℕ) (first played last : PlayerState D) (home : HomeState D) (closed : WindowRecord)
+    → Went hub picks seed rounds first played last → HubStands shows hub → HubStands shows last.hub → HavePlans shows (plans_of shows hub) last → WindowIsClosed shows last.hub home closed
+    → IsReplayed shows hub picks seed rounds home closed
+replayed_so shows hub picks seed rounds first played last home closed went before after plans closes =
+    window_worked (IsReplayBy hub.rounds rounds picks seed) shows hub last.hub home closed (λ d. hub.rounds - (progress_at last.hub.devices d).probes_left)
+    before after window (λ d device at. plans d device (inl at)) closes (λ d inside. ap (λ n. n - (progress_at last.hub.devices d).probes_left) window.rounds) (record {
+      play = play_of last (acts_of hub picks seed rounds first played last went);
+      replay = is_replay hub picks seed rounds first played last went;
+      history = closes.history;
+      took = λ d. refl;
+    })
   where
     window : SameWindow hub last.hub
     window = window_of hub picks seed rounds first played last went
-
-    sizes : length home.devices ≡ length last.hub.setting.first
-    sizes = sym (length-map home.devices (λ x. Home x)) ∙ ap (λ ps. length ps) (sym closes.places) ∙ after.size

@@ -3,6 +3,7 @@ use Rattle.command_rules.specs.Rosters.{is_run}
 use Rattle.device_gate.specs.Grips.{Gripped}
 use Rattle.device_gate.specs.declared.grips.Ready.{Ready}
 use Rattle.device_gate.specs.declared.slips.Slip.{Slip}
+use Rattle.device_states.specs.Devices.{Plan, Shown}
 use Rattle.hub_core.proofs.calls.HubChanges.{length_with}
 use Rattle.hub_core.proofs.kept.Finds.{none_there}
 use Rattle.hub_core.proofs.steps.Choices.{decide_is}
@@ -117,8 +118,8 @@ moved s t r choice is = record {
 pub answered_keeps : {D : Type 0} (s t : PlayerState D) (r : ℕ) (choice : Choice) → IsAnswered s t r choice → PlayerIsKept t
 answered_keeps s t r choice is = moves_keeps s t (moved s t r choice is) is.free.kept
 
-pub answered_plans : {D P : Type 0} (plan : D → P) (plans : ℕ → P) (s t : PlayerState D) (r : ℕ) (choice : Choice) → IsAnswered s t r choice → HavePlans plan plans s → HavePlans plan plans t
-answered_plans plan plans s t r choice is = moves_plans plan plans s t (moved s t r choice is)
+pub answered_plans : {D : Type 0} (shows : D → Shown) (plans : ℕ → Plan) (s t : PlayerState D) (r : ℕ) (choice : Choice) → IsAnswered s t r choice → HavePlans shows plans s → HavePlans shows plans t
+answered_plans shows plans s t r choice is = moves_plans shows plans s t (moved s t r choice is)
 
 pub answered_stepped : {D : Type 0} (s t : PlayerState D) (r acts : ℕ) (choice : Choice) → IsAnswered s t r choice → IsStepped s.rounds r (play_of s acts) (picked_by choice) (play_of t acts)
 answered_stepped s t r acts choice is = taken_is_stepped s t s.rounds r acts choice (going_of s r is.free) (empty_hand s r acts is.free.kept (hand_is_empty s r is.free)) (chosen s t r choice is.answers) (after s t r choice is.answers) is.place is.moves
@@ -153,7 +154,7 @@ answered_fewer s t r choice yes' is bound =
     made_fewer s t (stays_by s t is.window is.rounds) is.grips is.place more bound
 
 -- one that waits leaves as many
-waited_left : {D : Type 0} (s t : PlayerState D) (r : ℕ) (why : Why) → IsAnswered s t r (Waits why) → steps_left t ≡ steps_left s
+pub waited_left : {D : Type 0} (s t : PlayerState D) (r : ℕ) (why : Why) → IsAnswered s t r (Waits why) → steps_left t ≡ steps_left s
 waited_left s t r why is = still_left s t (stays_by s t is.window is.rounds) is.grips is.place
     (ap (λ (c : Configuration). c.history) (after s t r (Waits why) is.answers) ∙ ap (λ c. (after_choice (at_moment (configuration_of s.hub) s.hub.moment) r c).history) (sym (chosen s t r (Waits why) is.answers)))
 
@@ -207,8 +208,8 @@ takes_of s t r grip is = record {
 pub went_keeps : {D : Type 0} (s t : PlayerState D) (r : ℕ) (grip : Gripped D Ready) → GoesToHand s t r grip → PlayerIsKept t
 went_keeps s t r grip is = takes_keeps s t r grip (takes_of s t r grip is) is.free.kept
 
-pub went_plans : {D P : Type 0} (plan : D → P) (plans : ℕ → P) (s t : PlayerState D) (r : ℕ) (grip : Gripped D Ready) → GoesToHand s t r grip → HavePlans plan plans s → HavePlans plan plans t
-went_plans plan plans s t r grip is = takes_plans plan plans s t r grip (takes_of s t r grip is)
+pub went_plans : {D : Type 0} (shows : D → Shown) (plans : ℕ → Plan) (s t : PlayerState D) (r : ℕ) (grip : Gripped D Ready) → GoesToHand s t r grip → HavePlans shows plans s → HavePlans shows plans t
+went_plans shows plans s t r grip is = takes_plans shows plans s t r grip (takes_of s t r grip is)
 
 pub went_stepped : {D : Type 0} (s t : PlayerState D) (r acts : ℕ) (grip : Gripped D Ready) → GoesToHand s t r grip → IsStepped s.rounds r (play_of s acts) (Took grip.slip.device.0) (play_of t acts)
 went_stepped s t r acts grip is = taken_is_stepped s t s.rounds r acts (HandsOut grip.slip.device.0 is.out.purpose) (going_of s r is.free) (empty_hand s r acts is.free.kept (hand_is_empty s r is.free)) (went s t r grip is) (went_after s t r grip is) is.place is.moves
@@ -216,29 +217,6 @@ went_stepped s t r acts grip is = taken_is_stepped s t s.rounds r acts (HandsOut
 pub went_fewer : {D : Type 0} (s t : PlayerState D) (r : ℕ) (grip : Gripped D Ready) → GoesToHand s t r grip → steps_left t < steps_left s
 went_fewer s t zero grip is = absurd (let run = is.free.run in omega (arith, run))
 went_fewer s t (suc r) grip is = took_fewer s t r grip (stays_by s t is.window is.rounds) (hand_is_empty s (suc r) is.free) is.grips is.place (same_history s t (suc r) grip is)
-
--- The same of the player as callers see it
-
-pub answered_stepped_now : {D : Type 0} (now s t : PlayerState D) (r : ℕ) (choice : Choice) → s ≡ now → IsAnswered s t r choice → (acts : ℕ) → (later : ℕ) × IsStepped now.rounds r (play_of now acts) (picked_by choice) (play_of t later)
-answered_stepped_now {D = D} now s t r choice same is acts = (acts, subst (λ (x : PlayerState D). IsStepped x.rounds r (play_of x acts) (picked_by choice) (play_of t acts)) same (answered_stepped s t r acts choice is))
-
-pub answered_plans_now : {D P : Type 0} (plan : D → P) (now s t : PlayerState D) (r : ℕ) (choice : Choice) → s ≡ now → IsAnswered s t r choice → (plans : ℕ → P) → HavePlans plan plans now → HavePlans plan plans t
-answered_plans_now {D = D} plan now s t r choice same is plans have = answered_plans plan plans s t r choice is (subst (λ (x : PlayerState D). HavePlans plan plans x) (sym same) have)
-
-pub answered_fewer_now : {D : Type 0} (now s t : PlayerState D) (r : ℕ) (choice : Choice) → s ≡ now → makes choice ≡ true → IsAnswered s t r choice → length t.hub.history ≤ most_made t → steps_left t < steps_left now
-answered_fewer_now {D = D} now s t r choice same yes' is bound = subst (λ (x : PlayerState D). steps_left t < steps_left x) same (answered_fewer s t r choice yes' is bound)
-
-pub waited_left_now : {D : Type 0} (now s t : PlayerState D) (r : ℕ) (why : Why) → s ≡ now → IsAnswered s t r (Waits why) → steps_left t ≡ steps_left now
-waited_left_now {D = D} now s t r why same is = subst (λ (x : PlayerState D). steps_left t ≡ steps_left x) same (waited_left s t r why is)
-
-pub went_stepped_now : {D : Type 0} (now s t : PlayerState D) (r d : ℕ) (grip : Gripped D Ready) → s ≡ now → d ≡ grip.slip.device.0 → GoesToHand s t r grip → (acts : ℕ) → (later : ℕ) × IsStepped now.rounds r (play_of now acts) (Took d) (play_of t later)
-went_stepped_now {D = D} now s t r d grip same number is acts = (acts, subst (λ (x : PlayerState D). IsStepped x.rounds r (play_of x acts) (Took d) (play_of t acts)) same (subst (λ e. IsStepped s.rounds r (play_of s acts) (Took e) (play_of t acts)) (sym number) (went_stepped s t r acts grip is)))
-
-pub went_plans_now : {D P : Type 0} (plan : D → P) (now s t : PlayerState D) (r : ℕ) (grip : Gripped D Ready) → s ≡ now → GoesToHand s t r grip → (plans : ℕ → P) → HavePlans plan plans now → HavePlans plan plans t
-went_plans_now {D = D} plan now s t r grip same is plans have = went_plans plan plans s t r grip is (subst (λ (x : PlayerState D). HavePlans plan plans x) (sym same) have)
-
-pub went_fewer_now : {D : Type 0} (now s t : PlayerState D) (r : ℕ) (grip : Gripped D Ready) → s ≡ now → GoesToHand s t r grip → steps_left t < steps_left now
-went_fewer_now {D = D} now s t r grip same is = subst (λ (x : PlayerState D). steps_left t < steps_left x) same (went_fewer s t r grip is)
 
 -- an actor that has ended passes
 pub passed_now : {D : Type 0} (now : PlayerState D) (a acts : ℕ) → PlayerStands now → is_ended now a ≡ true → (later : ℕ) × IsPicked now.rounds a (play_of now acts) Passed (play_of now later)

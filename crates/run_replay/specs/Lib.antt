@@ -1,4 +1,5 @@
 pub mod Replays
 pub mod Playing
+pub mod PlayerSteps
 pub mod Players
 pub mod ReplayedWindows

@@ -5,20 +5,21 @@ use Rattle.device_gate.specs.declared.gates.Place.TheVariants.{Home, Out}
 use Rattle.device_gate.specs.declared.grips.Ready.{Ready}
 use Rattle.device_gate.specs.declared.slips.Slip.{Slip}
 use Rattle.device_gate.specs.declared.slips.Task.{Task}
+use Rattle.device_states.specs.Devices.{Plan, Shown}
 use Rattle.history_book.specs.Histories.{entries_made}
 use Rattle.home_types.specs.Limits.{most_devices, most_runs}
 use Rattle.home_types.specs.Numbers.{ActorId, DeviceId, RunId}
-use Rattle.hub_core.specs.BlockedMarks.{has_run}
+use Rattle.blocked_runs.specs.RunBits.{has_run}
 use Rattle.hub_core.specs.Bounds.{IsBounded, most_entries}
 use Rattle.hub_core.specs.HubCalls.{IsPacked, SomeRunMoves}
 use Rattle.hub_core.specs.OpenHubs.{OpenHub, configuration_of}
-use Rattle.lock_leasing.specs.Configurations.{read_of}
+use Rattle.lock_leasing.specs.Configurations.{point_of, read_of}
 use Rattle.lock_leasing.specs.Places.{GripsFit}
 use Rattle.run_replay.specs.Replays.{Made, Passed, Picked, Play, Took, Waited, start_of}
 use Rattle.run_replay.specs.declared.picked.Picked.TheVariants.{Made as MadeSo, Passed as PassedSo, Took as TookSo, Waits as WaitsSo}
 use Rattle.run_replay.specs.declared.picked.Picked.{Picked as PickedSo}
 use Rattle.std.specs.List.{range_with_len}
-use Rattle.std.specs.Prelude.{Bool, List, None, Option, Some, [], drop, false, filter, is_some, length, nat_le, not, option_map, suc, unwrap_or, zero, slice_get, ℕ, ⊤, ◌*◌, ◌+◌, ◌-◌, ◌<◌, ◌^◌, ◌&&◌, ◌||◌, ◌∷◌, ◌≡◌, ◌≤◌, ◌⊎◌}
+use Rattle.std.specs.Prelude.{Bool, List, None, Option, Some, [], drop, false, filter, is_some, length, nat_le, not, option_map, slice_get, suc, unwrap_or, zero, ℕ, ⊤, ◌&&◌, ◌*◌, ◌+◌, ◌-◌, ◌<◌, ◌^◌, ◌||◌, ◌∷◌, ◌≡◌, ◌≤◌, ◌⊎◌}
 
 -- what a player shows: its hub, the grips that its actors hold, by their numbers, the detector's
 -- rounds, how many devices the detector has come to, and how many picks took a device, gave one
@@ -100,9 +101,9 @@ IsDevice {D} s d device =
     × (grip.slip.device.0 ≡ d) × (grip.device ≡ device))
 
 -- each device was built with this plan
-abbrev pub HavePlans : {D P : Type 0} → (D → P) → (DeviceId → P) → PlayerState D → Type 0
-HavePlans {D} plan plans s =
-    (d : DeviceId) (device : D) → IsDevice s d device → plan device ≡ plans d
+abbrev pub HavePlans : {D : Type 0} → (D → Shown) → (DeviceId → Plan) → PlayerState D → Type 0
+HavePlans {D} shows plans s =
+    (d : DeviceId) (device : D) → IsDevice s d device → (shows device).plan ≡ plans d
 
 -- how many of these places hold nothing
 abbrev pub empty_places : {A : Type 0} → List (Option A) → ℕ
@@ -166,8 +167,7 @@ pub record PlayerStands {D : Type 0} (s : PlayerState D) : Type 0 where
   pub kept : PlayerIsKept s
   pub size : length s.hub.places ≡ length s.hub.setting.first
   pub few_runs : length s.hub.setting.runs ≤ most_runs
-  pub grips : GripsFit s.hub.setting (read_of (configuration_of s.hub))
-      (configuration_of s.hub).grips
+  pub grips : GripsFit (point_of (configuration_of s.hub))
   pub progress : SomeRunMoves (configuration_of s.hub)
   pub few_devices : length s.hub.setting.first ≤ most_devices
   pub bounded : IsBounded s.hub

@@ -1,42 +1,26 @@
 -- A window that was replayed on a hub, from the hub that was opened to the home that it leaves.
-use Rattle.device_gate.specs.Places.{AreNumbered}
-use Rattle.device_gate.specs.declared.gates.Place.TheVariants.{Home}
+use Rattle.device_states.specs.Devices.{Shown}
+use Rattle.history_book.specs.Settings.{Setting}
 use Rattle.history_book.specs.declared.records.WindowRecord.{WindowRecord}
-use Rattle.home_types.specs.HomeStates.{stand_at}
 use Rattle.home_types.specs.Numbers.{ActorId, DeviceId}
 use Rattle.hub_core.specs.Homes.{HomeState}
-use Rattle.hub_core.specs.HubCalls.{NoneFails, RunsHaveEnded}
-use Rattle.hub_core.specs.OpenHubs.{OpenHub, progress_at}
-use Rattle.legal_days.specs.LegalWindows.{IsLegalWindow}
+use Rattle.hub_core.specs.OpenHubs.{OpenHub}
+use Rattle.hub_core.specs.WindowWays.{WindowIsWorked}
 use Rattle.run_replay.specs.Replays.{IsReplay, Play}
-use Rattle.std.specs.Prelude.{List, Option, Some, length, slice_get, slice_index_or, true, ℕ, ◌+◌, ◌-◌, ◌<◌, ◌≡◌}
+use Rattle.std.specs.Prelude.{List, ℕ, ◌-◌, ◌≡◌}
+
+-- a window with so many probes of each device, replayed by these picks, and then by draws from this
+-- seed, in so many rounds of the detector: the record has the history of this play, and the probes
+-- are those that it took
+pub record IsReplayBy (probes rounds : ℕ) (picks : List ActorId) (seed : ℕ) (w : Setting)
+    (closed : WindowRecord) (taken : DeviceId → ℕ) : Type 0 where
+  pub play : Play
+  pub replay : IsReplay w probes rounds picks seed play
+  pub history : closed.history.items ≡ play.configuration.history
+  pub took : (d : DeviceId) → taken d ≡ probes - play.configuration.probes d
 
 -- the hub's window was replayed by these picks, and then by draws from this seed, in so many rounds
--- of the detector: the record tells of that play, and the home has each device in the place of its
--- number, with the plan that it had and with counts that rose as the record says
-pub record IsReplayed {D : Type 0} (tag : D → ℕ) (plan : D → Option (List (ℕ × ℕ)))
-    (turns probes faults : D → ℕ) (s : OpenHub D) (picks : List ActorId) (seed rounds : ℕ)
-    (home : HomeState D) (closed : WindowRecord) : Type 0 where
-  pub legal : IsLegalWindow s.setting closed
-  pub play : Play
-  pub is_replay : IsReplay s.setting s.rounds rounds picks seed play
-  pub history : closed.history.items ≡ play.configuration.history
-  pub ends : RunsHaveEnded s.setting closed
-  pub kinds : home.kinds ≡ s.setting.kinds
-  pub last : home.world ≡ closed.last.devices.items
-  pub opened : home.opened ≡ s.opened + 1
-  pub up : NoneFails s.setting closed.faults.items → (d : DeviceId) → d < length home.world
-      → (stand_at home.world d).up ≡ true
-  pub size : length home.devices ≡ length s.places
-  pub numbered : AreNumbered tag home.devices
-  pub plans : (d : DeviceId) (before after : D) → slice_get s.places d ≡ Some (Home before)
-      → slice_get home.devices d ≡ Some after → plan after ≡ plan before
-  pub turns_rose : (d : DeviceId) (device : D) → slice_get home.devices d ≡ Some device
-      → turns device
-      ≡ (progress_at s.devices d).at_opening.turns + slice_index_or closed.turns.items d 0
-  pub probes_rose : (d : DeviceId) (device : D) → slice_get home.devices d ≡ Some device
-      → probes device
-      ≡ (progress_at s.devices d).at_opening.probes + (s.rounds - play.configuration.probes d)
-  pub faults_rose : (d : DeviceId) (device : D) → slice_get home.devices d ≡ Some device
-      → faults device
-      ≡ (progress_at s.devices d).at_opening.faults + slice_index_or closed.faults.items d 0
+abbrev pub IsReplayed : {D : Type 0} → (D → Shown) → OpenHub D → List ActorId → ℕ → ℕ → HomeState D
+    → WindowRecord → Type 0
+IsReplayed shows s picks seed rounds home closed =
+    WindowIsWorked (IsReplayBy s.rounds rounds picks seed) shows s home closed

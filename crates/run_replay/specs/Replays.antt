@@ -7,7 +7,9 @@ use Rattle.home_types.specs.Numbers.{ActorId, DeviceId, Moment, RunId}
 use Rattle.hub_core.specs.Steps.{Absent, Choice, HandsOut, Moves, Over, Waits, after_give, after_take, after_take_probe, at_moment, choice_of, give_entries, may_probe, opened}
 use Rattle.device_gate.specs.declared.slips.Told.{Told}
 use Rattle.hub_core.specs.declared.waits.Why.{Why}
-use Rattle.lock_leasing.specs.Configurations.{Commands, Configuration, Grip, Probes, Purpose, Undoes, read_of}
+use Rattle.lock_leasing.specs.Configurations.{Configuration, Grip, read_of}
+use Rattle.lock_leasing.specs.declared.purposes.Purpose.TheVariants.{Commands, Probes, Undoes}
+use Rattle.lock_leasing.specs.declared.purposes.Purpose.{Purpose}
 use Rattle.lock_leasing.specs.Waits.{grip_wait}
 use Rattle.seeded_draws.specs.Draws.{below, drawn}
 use Rattle.std.specs.List.{range_with_len}

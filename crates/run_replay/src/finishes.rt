@@ -1,9 +1,9 @@
 //! A play goes on to its end: which actor is tried next.
 ghost use Rattle.std.specs.Prelude.{◌≡◌, ◌<◌, ◌≤◌, ◌⊎◌, Some, false, length, slice_get, true, ℕ};
 ghost use Rattle.hub_core.specs.BlockedRuns.{IsBlocked};
-ghost use Rattle.hub_core.specs.HubCalls.{SameWindow};
 ghost use Rattle.hub_core.specs.OpenHubs.{configuration_of};
-ghost use Rattle.run_replay.specs.Players.{HavePlans, are_live, is_ended, play_of, steps_left};
+ghost use Rattle.run_replay.specs.PlayerSteps.{PlayerStays};
+ghost use Rattle.run_replay.specs.Players.{are_live, is_ended, play_of, steps_left};
 ghost use Rattle.run_replay.specs.Playing.{GoesOn, IsFinished};
 ghost use Rattle.run_replay.specs.Replays.{from_place, pick_first};
 
@@ -19,10 +19,7 @@ impl<D: Device> Player<D> {
     pub fn finish(&mut self, seed: u64)
         ensures finished { (acts : ℕ) → (later : ℕ)
             × IsFinished self.old.rounds seed (play_of self.old acts) (play_of self.new later) }
-        ensures window { SameWindow self.old.hub self.new.hub }
-        ensures rounds { self.new.rounds ≡ self.old.rounds }
-        ensures plans { (plans : ℕ → _) → HavePlans D.plan plans self.old
-            → HavePlans D.plan plans self.new }
+        ensures stays { PlayerStays D.shows self.old self.new }
     {
         let mut draws = Draws::new(seed);
         let mut live = self.live_count();
@@ -78,10 +75,7 @@ impl<D: Device> Player<D> {
         ensures picked { (acts : ℕ) → (later : ℕ) × GoesOn self.old.rounds
             (λ course p. pick_first course p (from_place place (are_live self.old)))
             (play_of self.old acts) (play_of self.new later) }
-        ensures window { SameWindow self.old.hub self.new.hub }
-        ensures rounds { self.new.rounds ≡ self.old.rounds }
-        ensures plans { (plans : ℕ → _) → HavePlans D.plan plans self.old
-            → HavePlans D.plan plans self.new }
+        ensures stays { PlayerStays D.shows self.old self.new }
         ensures fewer { steps_left self.new < steps_left self.old }
     {
         self.kept();

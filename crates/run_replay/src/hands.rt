@@ -1,13 +1,13 @@
 //! A hub with the grips that its actors hold, and how one actor is stepped.
-ghost use Rattle.std.specs.Prelude.{◌≡◌, ◌≢◌, ◌<◌, ◌≤◌, ◌^◌, None, Some, IfErr, IfOk, IsTrue, false, length, true, vec_capacity, ℕ};
-ghost use Rattle.hub_core.specs.BlockedMarks.{has_run};
+ghost use Rattle.std.specs.Prelude.{IfErr, IfOk, IsTrue, None, Some, false, length, true, vec_capacity, ℕ, ◌<◌, ◌^◌, ◌≡◌, ◌≤◌};
 ghost use Rattle.hub_core.specs.BlockedRuns.{IsBlocked};
-ghost use Rattle.hub_core.specs.HubCalls.{HubStands, IsPacked, SameWindow, WindowIsClosed};
+ghost use Rattle.hub_core.specs.HubCalls.{HubStands, WindowIsClosed};
 ghost use Rattle.hub_core.specs.OpenHubs.{configuration_of};
 ghost use Rattle.hub_core.specs.Steps.{not_quiet, opened};
-ghost use Rattle.run_replay.specs.Players.{HavePlans, HoldNothing, MovesAreFew, PickIsPacked, PlayerIsOpened, PlayerStands, is_ended, is_full, picked_of, play_of, steps_left, with_moves};
-ghost use Rattle.run_replay.specs.Playing.{IsPicked, IsStepped};
-ghost use Rattle.run_replay.specs.Replays.{is_waiting_pick, moves_after};
+ghost use Rattle.run_replay.specs.PlayerSteps.{PlayerPicks, PlayerSteps};
+ghost use Rattle.run_replay.specs.Players.{HoldNothing, MovesAreFew, PlayerIsOpened, PlayerStands, is_ended, is_full, picked_of, with_moves};
+ghost use Rattle.run_replay.specs.Replays.{moves_after};
+ghost use Rattle.blocked_runs.specs.RunBits.{has_run};
 
 use crate::picked::{Picked, has_moved};
 use device_states::Device;
@@ -89,22 +89,8 @@ impl<D: Device> Hands<D> {
     #[inline(always)]
     pub(crate) fn pick(&mut self, actor: u32) -> Picked
         requires few { MovesAreFew self.old }
-        ensures picked { (acts : ℕ) → (later : ℕ) × IsPicked self.old.rounds actor
-            (play_of self.old acts) (picked_of result) (play_of self.new later) }
-        ensures packed { PickIsPacked result }
-        ensures window { SameWindow self.old.hub self.new.hub }
-        ensures rounds { self.new.rounds ≡ self.old.rounds }
-        ensures plans { (plans : ℕ → _) → HavePlans D.plan plans self.old
-            → HavePlans D.plan plans self.new }
-        ensures moves { self.new.moves ≡ moves_after (picked_of result) self.old.moves }
-        ensures fewer { is_waiting_pick (picked_of result) ≡ false → is_ended self.old actor ≡ false
-            → steps_left self.new < steps_left self.old }
+        ensures picked { PlayerPicks D.shows self.old actor result self.new }
         ensures few { MovesAreFew self.new }
-        ensures hands { length self.new.grips ≡ length self.old.grips }
-        ensures others { (q : ℕ) → q ≢ actor → is_ended self.new q ≡ is_ended self.old q }
-        ensures over { is_ended self.old actor ≡ true → is_ended self.new actor ≡ true }
-        ensures waiting { is_waiting_pick (picked_of result) ≡ true
-            → is_ended self.new actor ≡ is_ended self.old actor }
     {
         self.kept();
         if self.has_ended(actor) {
@@ -130,22 +116,7 @@ impl<D: Device> Hands<D> {
     #[inline(always)]
     fn step(&mut self, actor: u32) -> Picked
         requires going { is_ended self.old actor ≡ false }
-        ensures stepped { (acts : ℕ) → (later : ℕ) × IsStepped self.old.rounds actor
-            (play_of self.old acts) (picked_of result) (play_of self.new later) }
-        ensures packed { PickIsPacked result }
-        ensures window { SameWindow self.old.hub self.new.hub }
-        ensures rounds { self.new.rounds ≡ self.old.rounds }
-        ensures moves { self.new.moves ≡ self.old.moves }
-        ensures plans { (plans : ℕ → _) → HavePlans D.plan plans self.old
-            → HavePlans D.plan plans self.new }
-        ensures fewer { is_waiting_pick (picked_of result) ≡ false
-            → steps_left self.new < steps_left self.old }
-        ensures left { is_waiting_pick (picked_of result) ≡ true
-            → steps_left self.new ≡ steps_left self.old }
-        ensures hands { length self.new.grips ≡ length self.old.grips }
-        ensures others { (q : ℕ) → q ≢ actor → is_ended self.new q ≡ is_ended self.old q }
-        ensures waiting { is_waiting_pick (picked_of result) ≡ true
-            → is_ended self.new actor ≡ is_ended self.old actor }
+        ensures { PlayerSteps D.shows self.old actor result self.new }
     {
         if actor == 0 {
             return self.probe();
@@ -207,17 +178,7 @@ impl<D: Device> Hands<D> {
         requires run { 0 < actor }
         requires going { is_ended self.old actor ≡ false }
         requires holds { is_full self.old actor ≡ true }
-        ensures stepped { (acts : ℕ) → (later : ℕ) × IsStepped self.old.rounds actor
-            (play_of self.old acts) (picked_of (Picked.Made result)) (play_of self.new later) }
-        ensures packed { IsPacked result }
-        ensures window { SameWindow self.old.hub self.new.hub }
-        ensures rounds { self.new.rounds ≡ self.old.rounds }
-        ensures moves { self.new.moves ≡ self.old.moves }
-        ensures plans { (plans : ℕ → _) → HavePlans D.plan plans self.old
-            → HavePlans D.plan plans self.new }
-        ensures fewer { steps_left self.new < steps_left self.old }
-        ensures hands { length self.new.grips ≡ length self.old.grips }
-        ensures ended { (q : ℕ) → is_ended self.new q ≡ is_ended self.old q }
+        ensures { PlayerSteps D.shows self.old actor (Picked.Made result) self.new }
     {
         self.hub.kept();
         self.hub.bounded();
@@ -242,22 +203,7 @@ impl<D: Device> Hands<D> {
         requires run { 0 < r.0 }
         requires going { is_ended self.old r.0 ≡ false }
         requires empty { is_full self.old r.0 ≡ false }
-        ensures stepped { (acts : ℕ) → (later : ℕ) × IsStepped self.old.rounds r.0
-            (play_of self.old acts) (picked_of result) (play_of self.new later) }
-        ensures packed { PickIsPacked result }
-        ensures window { SameWindow self.old.hub self.new.hub }
-        ensures rounds { self.new.rounds ≡ self.old.rounds }
-        ensures moves { self.new.moves ≡ self.old.moves }
-        ensures plans { (plans : ℕ → _) → HavePlans D.plan plans self.old
-            → HavePlans D.plan plans self.new }
-        ensures fewer { is_waiting_pick (picked_of result) ≡ false
-            → steps_left self.new < steps_left self.old }
-        ensures hands { length self.new.grips ≡ length self.old.grips }
-        ensures others { (q : ℕ) → q ≢ r.0 → is_ended self.new q ≡ is_ended self.old q }
-        ensures waiting { is_waiting_pick (picked_of result) ≡ true
-            → is_ended self.new r.0 ≡ is_ended self.old r.0 }
-        ensures left { is_waiting_pick (picked_of result) ≡ true
-            → steps_left self.new ≡ steps_left self.old }
+        ensures { PlayerSteps D.shows self.old r.0 result self.new }
     {
         let now = self.hub.moment();
         let turn = self.hub.take(r, now);
@@ -282,18 +228,7 @@ impl<D: Device> Hands<D> {
     #[inline(always)]
     fn probe(&mut self) -> Picked
         requires going { is_ended self.old 0 ≡ false }
-        ensures stepped { (acts : ℕ) → (later : ℕ) × IsStepped self.old.rounds 0
-            (play_of self.old acts) (picked_of result) (play_of self.new later) }
-        ensures packed { PickIsPacked result }
-        ensures window { SameWindow self.old.hub self.new.hub }
-        ensures rounds { self.new.rounds ≡ self.old.rounds }
-        ensures moves { self.new.moves ≡ self.old.moves }
-        ensures plans { (plans : ℕ → _) → HavePlans D.plan plans self.old
-            → HavePlans D.plan plans self.new }
-        ensures fewer { steps_left self.new < steps_left self.old }
-        ensures hands { length self.new.grips ≡ length self.old.grips }
-        ensures others { (q : ℕ) → q ≢ 0 → is_ended self.new q ≡ is_ended self.old q }
-        ensures goes_on { is_waiting_pick (picked_of result) ≡ false }
+        ensures { PlayerSteps D.shows self.old 0 result self.new }
     {
         if self.holds(0) {
             Picked::Made(self.detector_acts())
@@ -307,17 +242,7 @@ impl<D: Device> Hands<D> {
     fn detector_acts(&mut self) -> Made
         requires going { is_ended self.old 0 ≡ false }
         requires holds { is_full self.old 0 ≡ true }
-        ensures stepped { (acts : ℕ) → (later : ℕ) × IsStepped self.old.rounds 0
-            (play_of self.old acts) (picked_of (Picked.Made result)) (play_of self.new later) }
-        ensures packed { IsPacked result }
-        ensures window { SameWindow self.old.hub self.new.hub }
-        ensures rounds { self.new.rounds ≡ self.old.rounds }
-        ensures moves { self.new.moves ≡ self.old.moves }
-        ensures plans { (plans : ℕ → _) → HavePlans D.plan plans self.old
-            → HavePlans D.plan plans self.new }
-        ensures fewer { steps_left self.new < steps_left self.old }
-        ensures hands { length self.new.grips ≡ length self.old.grips }
-        ensures others { (q : ℕ) → q ≢ 0 → is_ended self.new q ≡ is_ended self.old q }
+        ensures { PlayerSteps D.shows self.old 0 (Picked.Made result) self.new }
     {
         self.hub.kept();
         match mem::replace(&mut self.grips[0], None) {
@@ -337,18 +262,7 @@ impl<D: Device> Hands<D> {
     fn detector_takes(&mut self) -> Picked
         requires going { is_ended self.old 0 ≡ false }
         requires empty { is_full self.old 0 ≡ false }
-        ensures stepped { (acts : ℕ) → (later : ℕ) × IsStepped self.old.rounds 0
-            (play_of self.old acts) (picked_of result) (play_of self.new later) }
-        ensures packed { PickIsPacked result }
-        ensures window { SameWindow self.old.hub self.new.hub }
-        ensures rounds { self.new.rounds ≡ self.old.rounds }
-        ensures moves { self.new.moves ≡ self.old.moves }
-        ensures plans { (plans : ℕ → _) → HavePlans D.plan plans self.old
-            → HavePlans D.plan plans self.new }
-        ensures fewer { steps_left self.new < steps_left self.old }
-        ensures hands { length self.new.grips ≡ length self.old.grips }
-        ensures others { (q : ℕ) → q ≢ 0 → is_ended self.new q ≡ is_ended self.old q }
-        ensures goes_on { is_waiting_pick (picked_of result) ≡ false }
+        ensures { PlayerSteps D.shows self.old 0 result self.new }
     {
         self.hub.kept();
         let d = DeviceNo((self.place % self.hub.device_count()) as u16);
@@ -367,7 +281,7 @@ impl<D: Device> Hands<D> {
     /// window is never stuck.
     pub(crate) fn kept(&self)
         ensures player { PlayerStands self.now }
-        ensures hub { HubStands D.tag D.stands D.turns D.probes D.faults self.now.hub }
+        ensures hub { HubStands D.shows self.now.hub }
     {
         self.hub.kept();
         self.hub.progress();
@@ -378,8 +292,7 @@ impl<D: Device> Hands<D> {
     ///
     /// Refused, and the hands are given back, where a run has not ended or a device is out.
     pub(crate) fn close(self) -> Result<(Home<D>, WindowRecord), (Hands<D>, NotQuiet)>
-        ensures closed { IfOk result
-            (λ closed. WindowIsClosed D.turns D.probes D.faults self.hub closed.0 closed.1) }
+        ensures closed { IfOk result (λ closed. WindowIsClosed D.shows self.hub closed.0 closed.1) }
         ensures quiet { IfOk result (λ closed. not_quiet (configuration_of self.hub) ≡ None) }
         ensures same { IfErr result (λ refused. refused.0 ≡ self) }
         ensures refused { IfErr result

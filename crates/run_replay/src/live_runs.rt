@@ -1,6 +1,6 @@
 //! The runs of a window as the bits of a word: the run r as the bit r - 1.
-ghost use Rattle.std.specs.Prelude.{◌≡◌, ◌<◌, ◌≤◌, ◌≢◌, ◌==◌, ◌&&◌, false, not, true, ℕ};
-ghost use Rattle.hub_core.specs.BlockedMarks.{has_run};
+ghost use Rattle.std.specs.Prelude.{false, not, true, ℕ, ◌&&◌, ◌<◌, ◌==◌, ◌≡◌, ◌≢◌, ◌≤◌};
+ghost use Rattle.blocked_runs.specs.RunBits.{has_run};
 
 /// One more than the greatest number of a run.
 pub(crate) const END: u32 = 65;

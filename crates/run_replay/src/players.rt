@@ -1,9 +1,9 @@
 //! A player: it makes the picks that it is told, one after another.
 ghost use Rattle.std.specs.Prelude.{◌≡◌, ◌<◌, ◌≤◌, ◌==◌, false, filter, length, not, ℕ};
-ghost use Rattle.hub_core.specs.HubCalls.{HubStands, SameWindow};
-ghost use Rattle.run_replay.specs.Players.{HavePlans, PickIsPacked, PlayerStands, is_ended, most_moves, picked_of, play_of, steps_left};
-ghost use Rattle.run_replay.specs.Playing.{ArePicked, HasPicked, IsPicked};
-ghost use Rattle.run_replay.specs.Replays.{is_waiting_pick, moves_after};
+ghost use Rattle.hub_core.specs.HubCalls.{HubStands};
+ghost use Rattle.run_replay.specs.PlayerSteps.{PlayerPicks, PlayerStays};
+ghost use Rattle.run_replay.specs.Players.{PlayerStands, is_ended, most_moves, play_of, steps_left};
+ghost use Rattle.run_replay.specs.Playing.{ArePicked, HasPicked};
 
 use crate::hands::Hands;
 use crate::live_runs::without_run;
@@ -43,16 +43,7 @@ impl<D: Device> Player<D> {
     /// Steps the actor, a run or 0 for the detector.
     #[inline(always)]
     pub fn pick(&mut self, actor: u32) -> Picked
-        ensures picked { (acts : ℕ) → (later : ℕ) × IsPicked self.old.rounds actor
-            (play_of self.old acts) (picked_of result) (play_of self.new later) }
-        ensures packed { PickIsPacked result }
-        ensures window { SameWindow self.old.hub self.new.hub }
-        ensures rounds { self.new.rounds ≡ self.old.rounds }
-        ensures plans { (plans : ℕ → _) → HavePlans D.plan plans self.old
-            → HavePlans D.plan plans self.new }
-        ensures moves { self.new.moves ≡ moves_after (picked_of result) self.old.moves }
-        ensures fewer { is_waiting_pick (picked_of result) ≡ false → is_ended self.old actor ≡ false
-            → steps_left self.new < steps_left self.old }
+        ensures { PlayerPicks D.shows self.old actor result self.new }
     {
         let picked = self.hands.pick(actor);
         if has_waited(picked) {
@@ -70,10 +61,7 @@ impl<D: Device> Player<D> {
     pub(crate) fn waits_at(&mut self, actor: u32) -> bool
         ensures picked { HasPicked self.old.rounds actor (play_of self.old) result
             (play_of self.new) }
-        ensures window { SameWindow self.old.hub self.new.hub }
-        ensures rounds { self.new.rounds ≡ self.old.rounds }
-        ensures plans { (plans : ℕ → _) → HavePlans D.plan plans self.old
-            → HavePlans D.plan plans self.new }
+        ensures stays { PlayerStays D.shows self.old self.new }
         ensures fewer { result ≡ false → is_ended self.old actor ≡ false
             → steps_left self.new < steps_left self.old }
     {
@@ -86,10 +74,7 @@ impl<D: Device> Player<D> {
     pub fn play(&mut self, picks: &[u32])
         ensures played { (acts : ℕ) → (later : ℕ)
             × ArePicked self.old.rounds picks.now (play_of self.old acts) (play_of self.new later) }
-        ensures window { SameWindow self.old.hub self.new.hub }
-        ensures rounds { self.new.rounds ≡ self.old.rounds }
-        ensures plans { (plans : ℕ → _) → HavePlans D.plan plans self.old
-            → HavePlans D.plan plans self.new }
+        ensures stays { PlayerStays D.shows self.old self.new }
     {
         'picks: for actor in picks {
             if self.hands.is_blocked(*actor) {
@@ -112,7 +97,7 @@ impl<D: Device> Player<D> {
     /// window is never stuck.
     pub(crate) fn kept(&self)
         ensures player { PlayerStands self.now }
-        ensures hub { HubStands D.tag D.stands D.turns D.probes D.faults self.now.hub }
+        ensures hub { HubStands D.shows self.now.hub }
     {
         self.hands.kept();
     }

@@ -59,8 +59,7 @@ impl<D: Device> Player<D> {
     ///
     /// Refused, and the player is given back, where a run has not ended or a device is out.
     pub fn close(self) -> Result<(Home<D>, WindowRecord), (Player<D>, NotQuiet)>
-        ensures closed { IfOk result
-            (λ closed. WindowIsClosed D.turns D.probes D.faults self.hub closed.0 closed.1) }
+        ensures closed { IfOk result (λ closed. WindowIsClosed D.shows self.hub closed.0 closed.1) }
         ensures quiet { IfOk result (λ closed. not_quiet (configuration_of self.hub) ≡ None) }
         ensures same { IfErr result (λ refused. refused.0 ≡ self) }
         ensures refused { IfErr result
@@ -99,8 +98,8 @@ pub fn replay_window<D: Device>(
     requires fresh { configuration_of hub ≡ opened hub.setting hub.rounds }
     requires rounds { (d : ℕ) → d < length hub.setting.first
         → rounds ≤ (configuration_of hub).probes d }
-    ensures replayed { IfOk result (λ closed. IsReplayed D.tag D.plan D.turns D.probes D.faults hub
-        turns.now seed rounds closed.0 closed.1) }
+    ensures replayed { IfOk result
+        (λ closed. IsReplayed D.shows hub turns.now seed rounds closed.0 closed.1) }
     ensures refused { IfErr result (λ refused. refused.0 ≡ hub) }
 {
     hub.kept();
@@ -112,10 +111,7 @@ pub fn replay_window<D: Device>(
     player.finish(seed);
     player.kept();
     match player.close() {
-        Ok(closed) => {
-            closed.0.kept();
-            Ok(closed)
-        }
+        Ok(closed) => Ok(closed),
         Err((_player, _why)) => unreachable!(),
     }
 }

@@ -13,7 +13,7 @@ use Rattle.lineage_table.specs.declared.accesses.Access.{Access}
 use Rattle.lock_leasing.proofs.AccessRuns.{Alone, EachTail, HasAccess}
 use Rattle.lock_leasing.proofs.Facts.{Facts}
 use Rattle.lock_leasing.proofs.Holding.{sound_holds}
-use Rattle.lock_leasing.specs.Configurations.{Grips}
+use Rattle.lock_leasing.specs.Configurations.{Grips, point}
 use Rattle.lock_leasing.specs.Order.{covers}
 use Rattle.lock_leasing.specs.Tables.{EachTellsOfRun, TellsOfRun, runs_with_access, uses}
 use Rattle.lock_leasing.specs.Words.{has_effect, holds_device}
@@ -80,11 +80,11 @@ later_of t e live false writes whole is = unread (nat_lt t whole) ∙ sym (max_n
 -- the accesses are those of the whole line, and each tells of its run
 pub record AreOfLine (w : Setting) (n : Reading) (g : Grips) (d : ℕ) (xs : List Access) : Type 0 where
   pub runs : map (λ x. x.run.0) xs ≡ runs_with_access w n d n.line
-  pub each : EachTellsOfRun w n g d xs
+  pub each : EachTellsOfRun (point w n g) d xs
 
 -- the run, with these items behind it, has an access, which tells of it, or it has none
 pub data Found (w : Setting) (n : Reading) (g : Grips) (d q : ℕ) (is : List Item) (xs : List Access) : Type 0 where
-  Own : (x : Access) (rest : List Access) (found : access_of q xs ≡ Some x) (has : (uses w n d q && not (list_any (covers n d) is)) ≡ true) (own : x.run.0 ≡ q) (tells : TellsOfRun w n g d x rest) → Found w n g d q is xs
+  Own : (x : Access) (rest : List Access) (found : access_of q xs ≡ Some x) (has : (uses w n d q && not (list_any (covers n d) is)) ≡ true) (own : x.run.0 ≡ q) (tells : TellsOfRun (point w n g) d x rest) → Found w n g d q is xs
   Other : (none : access_of q xs ≡ None) (lacks : (uses w n d q && not (list_any (covers n d) is)) ≡ false) → Found w n g d q is xs
 
 module _ (w : Setting) (n : Reading) (g : Grips) (d : ℕ) where
@@ -146,9 +146,9 @@ module _ (w : Setting) (n : Reading) (g : Grips) (d : ℕ) where
     rest : List Access
     found : access_of q xs ≡ Some access
     own : access.run.0 ≡ q
-    tells : TellsOfRun w n g d access rest
+    tells : TellsOfRun (point w n g) d access rest
 
-  told_by : (q : ℕ) (xs : List Access) → EachTellsOfRun w n g d xs → has_access q xs ≡ true → IsToldBy q xs
+  told_by : (q : ℕ) (xs : List Access) → EachTellsOfRun (point w n g) d xs → has_access q xs ≡ true → IsToldBy q xs
   told_by q [] all some = absurd (cc)
   told_by q (x ∷ xs) all some = at (is_of q x) refl (told_by q xs all.1)
     where
@@ -199,7 +199,7 @@ module _ (w : Setting) (n : Reading) (g : Grips) (f : Facts w n g) (r d : ℕ) w
   -- a run whose access is passed
 
   -- the access tells whether the run is open
-  own_end : (q : ℕ) (x : Access) (rest : List Access) (t : ℕ) → x.run.0 ≡ q → TellsOfRun w n g d x rest → uses w n d q ≡ true → (if is_doomed n q || is_released x.status then t else max t x.to) ≡ max t (end_on q)
+  own_end : (q : ℕ) (x : Access) (rest : List Access) (t : ℕ) → x.run.0 ≡ q → TellsOfRun (point w n g) d x rest → uses w n d q ≡ true → (if is_doomed n q || is_released x.status then t else max t x.to) ≡ max t (end_on q)
   own_end q x rest t own tells used = subst (λ p. uses w n d p ≡ true → (if is_doomed n p || is_released x.status then t else max t x.to) ≡ max t (end_on p)) own at used
     where
       shut : is_open w n x.run.0 d ≡ false → t ≡ max t (end_on x.run.0)
@@ -211,12 +211,12 @@ module _ (w : Setting) (n : Reading) (g : Grips) (f : Facts w n g) (r d : ℕ) w
       by_doom : (a b : Bool) → is_doomed n x.run.0 ≡ a → is_released x.status ≡ b → uses w n d x.run.0 ≡ true → (if a || b then t else max t x.to) ≡ max t (end_on x.run.0)
       by_doom true b doom done used = shut (grind (arith, common_steps))
       by_doom false true doom done used =
-          let holds : not (is_released x.status) ≡ holds_device w n g x.run.0 d = sound_holds w n g f d x rest tells used doom in
-          let none : holds_device w n g x.run.0 d ≡ false = sym holds ∙ ap not done in
+          let holds : not (is_released x.status) ≡ holds_device (point w n g) x.run.0 d = sound_holds w n g f d x rest tells used doom in
+          let none : holds_device (point w n g) x.run.0 d ≡ false = sym holds ∙ ap not done in
           shut (grind (arith, common_steps))
       by_doom false false doom done used =
-          let holds : not (is_released x.status) ≡ holds_device w n g x.run.0 d = sound_holds w n g f d x rest tells used doom in
-          let some : holds_device w n g x.run.0 d ≡ true = sym holds ∙ ap not done in
+          let holds : not (is_released x.status) ≡ holds_device (point w n g) x.run.0 d = sound_holds w n g f d x rest tells used doom in
+          let some : holds_device (point w n g) x.run.0 d ≡ true = sym holds ∙ ap not done in
           opened (grind (arith, common_steps))
 
       at : uses w n d x.run.0 ≡ true → (if is_doomed n x.run.0 || is_released x.status then t else max t x.to) ≡ max t (end_on x.run.0)

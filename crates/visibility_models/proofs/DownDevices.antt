@@ -7,7 +7,7 @@ use Rattle.home_types.specs.declared.modes.Visibility.TheVariants.{Eventual, Glo
 use Rattle.home_types.specs.declared.modes.Visibility.{Visibility}
 use Rattle.home_types.specs.declared.numbers.RunNo.{RunNo}
 use Rattle.lineage_table.specs.Lineages.{LineageState, lineage_at}
-use Rattle.lock_leasing.specs.Configurations.{Configuration, read_of}
+use Rattle.lock_leasing.specs.Configurations.{Configuration, point, read_of}
 use Rattle.lock_leasing.specs.Standings.{IsStandingOf}
 use Rattle.lock_leasing.specs.Waits.{down_at_end}
 use Rattle.lock_leasing.specs.Words.{has_touched}
@@ -48,7 +48,7 @@ down_alike s r table line history runs is there d within =
     turned a b c = grind (arith, common_steps)
 
 pub down_is : (model : Visibility) (s : Configuration) (r : RunNo) (table : List LineageState) (line : List Mark) (history : List Kept) (runs : List Run) → IsStandingOf s table line history runs → stands (Ran r) line ≡ true → is_strict_model model ≡ true
-    → first_down_for table line runs r.0 ≡ down_at_end (under model s.setting) (read_of s) s.grips r.0
+    → first_down_for table line runs r.0 ≡ down_at_end (point (under model s.setting) (read_of s) s.grips) r.0
 down_is model s r table line history runs is there strict =
     ap (λ n. find (is_down_for table line runs r.0) (range_with_len 0 n)) is.its_table.devices
     ∙ find_agree (is_down_for table line runs r.0) (λ d. touches s.setting.runs r.0 d && test d) 0 (length s.setting.first) (λ d within. down_alike s r table line history runs is there d (omega (arith, within)))
@@ -58,7 +58,7 @@ down_is model s r table line history runs is there strict =
     test : ℕ → Bool
     test d = has_touched (read_of s) s.grips r.0 d && not ((read_of s).up d)
 
-    by_model : (m : Visibility) → is_strict_model m ≡ true → find test (filter (touches s.setting.runs r.0) (range_with_len 0 (length s.setting.first))) ≡ down_at_end (under m s.setting) (read_of s) s.grips r.0
+    by_model : (m : Visibility) → is_strict_model m ≡ true → find test (filter (touches s.setting.runs r.0) (range_with_len 0 (length s.setting.first))) ≡ down_at_end (point (under m s.setting) (read_of s) s.grips) r.0
     by_model Weak e = absurd (cc)
     by_model Global e = refl
     by_model Partitioned e = refl

@@ -9,7 +9,7 @@ use Rattle.home_types.specs.declared.modes.Visibility.TheVariants.{Weak}
 use Rattle.home_types.specs.declared.numbers.DeviceNo.{DeviceNo}
 use Rattle.home_types.specs.declared.numbers.RunNo.{RunNo}
 use Rattle.lineage_table.specs.Lineages.{LineageState}
-use Rattle.lock_leasing.specs.Configurations.{Configuration, read_of}
+use Rattle.lock_leasing.specs.Configurations.{Configuration, point, read_of}
 use Rattle.lock_leasing.specs.Standings.{IsStandingOf, IsWeakStandingOf}
 use Rattle.lock_leasing.specs.Waits.{down_at_end, strict_wait}
 use Rattle.serial_line.specs.Marks.{Mark}
@@ -48,4 +48,5 @@ abbrev pub IsDownAtEndOf : Visibility → List LineageState → List Mark → Li
     → Option DeviceNo → Type 0
 IsDownAtEndOf model table line history runs r device =
     (s : Configuration) → IsStandingOf s table line history runs
-    → device ≡ option_map device_no (down_at_end (under model s.setting) (read_of s) s.grips r)
+    → device
+    ≡ option_map device_no (down_at_end (point (under model s.setting) (read_of s) s.grips) r)

@@ -14,7 +14,7 @@ use Rattle.home_types.specs.declared.items.Item.TheVariants.{Back, Failed, Ran}
 use Rattle.home_types.specs.declared.items.Item.{Item}
 use Rattle.lineage_table.specs.Accesses.{accesses_without}
 use Rattle.lineage_table.specs.Lineages.{LineageState, removed}
-use Rattle.lock_leasing.specs.Configurations.{Grips}
+use Rattle.lock_leasing.specs.Configurations.{Grips, point}
 use Rattle.lock_leasing.specs.Tables.{uses}
 use Rattle.lock_leasing.specs.Words.{committed_write}
 use Rattle.std.proofs.Common.{ap, arith, refl, subst, sym, ◌∙◌}
@@ -42,14 +42,15 @@ write_without n m d r (Failed e k ∷ is) none others best = write_without n m d
 write_without n m d r (Back e k ∷ is) none others best = write_without n m d r is none others best
 
 -- each lineage is kept
-pub aborted_kept : (w : Setting) (n : Reading) (g : Grips) (r : ℕ) (cause : Cause) → IsRead w n → may_follow w n (Ended (run_no r) (Aborted cause)) ≡ true → (d : ℕ) (s : LineageState) → LineageIsKept w n g d s → LineageIsKept w (entry w n (Ended (run_no r) (Aborted cause))) g d (removed r s)
+pub aborted_kept : (w : Setting) (n : Reading) (g : Grips) (r : ℕ) (cause : Cause) → IsRead w n → may_follow w n (Ended (run_no r) (Aborted cause)) ≡ true
+    → (d : ℕ) (s : LineageState) → LineageIsKept (point w n g) d s → LineageIsKept (point w (entry w n (Ended (run_no r) (Aborted cause))) g) d (removed r s)
 aborted_kept w n g r cause read may d s kept = record {
   passed = kept.passed;
   may_pass = λ q passed. put_says (may_by g d) n.run r new refl q ∙ kept.may_pass q passed;
   committed = kept.committed ∙ sym (ap (λ o. unwrap_or o (stand_at w.first d).value) (write_without n m d r n.line none others_write None));
   accesses =
       ap (accesses_without r) kept.accesses
-      ∙ without_along (uses w n d) (uses w m d) (commits_write n d) (commits_write m d) (access_read w n g kept.passed d) (access_read w m g kept.passed d) r n.line (λ x. refl) (λ i. uncommitted i && is_some ((n.run r).on d).wrote) others;
+      ∙ without_along (uses w n d) (uses w m d) (commits_write n d) (commits_write m d) (access_read (point w n g) kept.passed d) (access_read (point w m g) kept.passed d) r n.line (λ x. refl) (λ i. uncommitted i && is_some ((n.run r).on d).wrote) others;
   room = subst (λ x. x ≤ (removed r s).room) (sym (same_unplaced n m d 1 w.runs (put_says (λ q o. is_none o.placed) n.run r new refl))) (more (unplaced_on w n d) s.room (length s.accesses - length (accesses_without r s.accesses)) kept.room);
   up = kept.up;
 }
@@ -72,7 +73,7 @@ aborted_kept w n g r cause read may d s kept = record {
     others_write : (q : ℕ) → q ≢ r → write_by d (m.run q) ≡ write_by d (n.run q)
     others_write q ne = ap (write_by d) (put_other n.run r new q ne)
 
-    others : SameBut r (uses w n d) (uses w m d) (commits_write n d) (commits_write m d) (access_read w n g kept.passed d) (access_read w m g kept.passed d)
+    others : SameBut r (uses w n d) (uses w m d) (commits_write n d) (commits_write m d) (access_read (point w n g) kept.passed d) (access_read (point w m g) kept.passed d)
     others = record {
       has_one = λ x ne. ap (uses_by w d x) (put_other n.run r new x ne);
       covering = λ x ne. ap (commits_by d) (put_other n.run r new x ne);

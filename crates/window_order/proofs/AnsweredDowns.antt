@@ -18,7 +18,7 @@ use Rattle.history_book.specs.declared.entries.Entry.TheVariants.{Did, Doomed}
 use Rattle.home_types.specs.Commands.{fails, holds}
 use Rattle.home_types.specs.declared.commands.Answer.TheVariants.{Down}
 use Rattle.home_types.specs.declared.commands.Command.{Command}
-use Rattle.lock_leasing.specs.Configurations.{Grips, is_out}
+use Rattle.lock_leasing.specs.Configurations.{Grips, is_out, point}
 use Rattle.lock_leasing.specs.Waits.{behind_wait, busy_wait, grip_wait}
 use Rattle.std.proofs.Common.{ap, arith, inl, inr, refl, subst, sym, ◌∙◌}
 use Rattle.std.proofs.lemmas.Bool.{both_ways, eq-eqb, or_left}
@@ -44,10 +44,10 @@ pub record IsToldDown (w : Setting) (n : Reading) (g : Grips) (held : ℕ → �
   pub next : next_command w n r ≡ Some c
   pub guard : holds c.when (n.run r).register ≡ true
   pub device : is_device w c.device.0 ≡ true
-  pub behind : behind_wait w n g r c.device.0 ≡ None
-  pub busy : busy_wait w n g r c.device.0 ≡ false
+  pub behind : behind_wait (point w n g) r c.device.0 ≡ None
+  pub busy : busy_wait (point w n g) r c.device.0 ≡ false
   pub down : (sees_down n r c.device.0 || not (n.up c.device.0)) ≡ true
-  pub kept : OrderIsKept w n g held
+  pub kept : OrderIsKept (point w n g) held
 
 -- it is the command of the run's next number
 pub told_next : (w : Setting) (n : Reading) (g : Grips) (held : ℕ → ℕ) (r : ℕ) (c : Command) → IsToldDown w n g held r c → IsToldDown w n g held r (command_at w.runs r (next_of n r))
@@ -57,20 +57,20 @@ told_next w n g held r c s = subst (IsToldDown w n g held r) (sym (next_is (comm
 pub told_holds : (w : Setting) (n : Reading) (g : Grips) (held : ℕ → ℕ) (r : ℕ) (c : Command) → IsToldDown w n g held r c → HoldsNone g r
 told_holds w n g held r c s = holds_none w g r s.kept.grips.homed s.free
 
-pub told_left : (w : Setting) (n : Reading) (g : Grips) (held : ℕ → ℕ) (r : ℕ) (c : Command) → IsToldDown w n g held r c → rest (run_state w n g r) ≡ c ∷ drop (next_of n r + 1) (commands_of w.runs r)
+pub told_left : (w : Setting) (n : Reading) (g : Grips) (held : ℕ → ℕ) (r : ℕ) (c : Command) → IsToldDown w n g held r c → rest (run_state (point w n g) r) ≡ c ∷ drop (next_of n r + 1) (commands_of w.runs r)
 told_left w n g held r c s = let is = next_is (commands_of w.runs r) (next_of n r) c s.next in rest_next (commands_of w.runs r) (n.run r).answers is.0 ∙ ap (λ x. x ∷ drop (next_of n r + 1) (commands_of w.runs r)) is.1
 
 pub told_touches : (w : Setting) (n : Reading) (g : Grips) (held : ℕ → ℕ) (r : ℕ) (c : Command) → IsToldDown w n g held r c → touches w.runs r c.device.0 ≡ true
-told_touches w n g held r c s = next_used (run_state w n g r) c (drop (next_of n r + 1) (commands_of w.runs r)) (told_left w n g held r c s)
+told_touches w n g held r c s = next_used (run_state (point w n g) r) c (drop (next_of n r + 1) (commands_of w.runs r)) (told_left w n g held r c s)
 
 -- it is open there
-pub told_open : (w : Setting) (n : Reading) (g : Grips) (held : ℕ → ℕ) (r : ℕ) (c : Command) → IsToldDown w n g held r c → stage_is_open (usage w.kinds (run_state w n g r) c.device.0).stage ≡ true
+pub told_open : (w : Setting) (n : Reading) (g : Grips) (held : ℕ → ℕ) (r : ℕ) (c : Command) → IsToldDown w n g held r c → stage_is_open (usage w.kinds (run_state (point w n g) r) c.device.0).stage ≡ true
 told_open w n g held r c s =
     λ i. stage_is_open (stage_of (live_uncommitted n r s.live i) (is_some (s.sound i)) ((ap (uses_device c.device.0) (told_left w n g held r c s)
     ∙ or_left (c.device.0 == c.device.0) (uses_device c.device.0 (drop (next_of n r + 1) (commands_of w.runs r))) (eq-eqb c.device.0 c.device.0 refl)) i))
 
 -- the run sees the device down, or it is its first answer there and the device is home and counted down
-told_may : (w : Setting) (n : Reading) (g : Grips) (held : ℕ → ℕ) (r : ℕ) (c : Command) (cut : CutAt r n.line) → IsToldDown w n g held r c → MayAnswerDown w.kinds (window_of w n g held) c.device.0 cut.front (device_summary w.kinds (run_state w n g r) c.device.0).view
+told_may : (w : Setting) (n : Reading) (g : Grips) (held : ℕ → ℕ) (r : ℕ) (c : Command) (cut : CutAt r n.line) → IsToldDown w n g held r c → MayAnswerDown w.kinds (window_of (point w n g) held) c.device.0 cut.front (device_summary w.kinds (run_state (point w n g) r) c.device.0).view
 told_may w n g held r c cut s = by_view (view_of n r d) refl
   where
     d : ℕ
@@ -85,20 +85,23 @@ told_may w n g held r c cut s = by_view (view_of n r d) refl
     off : (v : Option Bool) (o : Option Bool) → v ≡ o → unwrap_or (option_map not o) false ≡ false → unwrap_or (option_map not v) false ≡ false
     off v o e h = ap (λ x. unwrap_or (option_map not x) false) e ∙ h
 
-    seen : (o : Option Bool) → view_of n r d ≡ o → (device_summary w.kinds (run_state w n g r) d).view ≡ option_map view_from o
+    seen : (o : Option Bool) → view_of n r d ≡ o → (device_summary w.kinds (run_state (point w n g) r) d).view ≡ option_map view_from o
     seen o e = (s.read.summarized r).view d ∙ ap (option_map view_from) e
 
     counted : sees_down n r d ≡ false → n.up d ≡ false
     counted h = is_down (view_of n r d) (n.up d) h s.down
 
-    unseen : sees_down n r d ≡ false → is_up (device_summary w.kinds (run_state w n g r) d).view ≡ false
-    unseen h = down_unseen (device_record w.kinds (window_of w n g held) d) (entries w.kinds (window_of w n g held).states d cut.front) (entries w.kinds (window_of w n g held).states d cut.back) (usage w.kinds (run_state w n g r) d) (s.kept.window.devices d (below_home w d s.device))
+    unseen : sees_down n r d ≡ false → is_up (device_summary w.kinds (run_state (point w n g) r) d).view ≡ false
+    unseen h =
+        down_unseen (device_record w.kinds (window_of (point w n g) held) d) (entries w.kinds (window_of (point w n g) held).states d cut.front)
+        (entries w.kinds (window_of (point w n g) held).states d cut.back) (usage w.kinds (run_state (point w n g) r) d)
+        (s.kept.window.devices d (below_home w d s.device))
         (device_order_at w n g held d r cut (told_touches w n g held r c s)) (told_open w n g held r c s) (counted h)
 
     clash : true ≡ false → ⊥
     clash h = grind (arith, common_steps)
 
-    by_view : (o : Option Bool) → view_of n r d ≡ o → MayAnswerDown w.kinds (window_of w n g held) d cut.front (device_summary w.kinds (run_state w n g r) d).view
+    by_view : (o : Option Bool) → view_of n r d ≡ o → MayAnswerDown w.kinds (window_of (point w n g) held) d cut.front (device_summary w.kinds (run_state (point w n g) r) d).view
     by_view (Some false) e = inl (seen (Some false) e)
     by_view (Some true) e = absurd (clash (sym (ap is_up (seen (Some true) e)) ∙ unseen (off (view_of n r d) (Some true) e refl)))
     by_view None e =
@@ -115,10 +118,10 @@ told_newest w n g held r c cut s = record {
     awaits a b h k = grind (arith, common_steps)
 
 -- at the command of its next number
-told_kept : (w : Setting) (n : Reading) (g : Grips) (held : ℕ → ℕ) (r : ℕ) → (s : IsToldDown w n g held r (command_at w.runs r (next_of n r))) → fails (command_at w.runs r (next_of n r)) Down ≡ false → OrderIsKept w (entry w n (Did (run_no r) (next_of n r) Down)) g held
+told_kept : (w : Setting) (n : Reading) (g : Grips) (held : ℕ → ℕ) (r : ℕ) → (s : IsToldDown w n g held r (command_at w.runs r (next_of n r))) → fails (command_at w.runs r (next_of n r)) Down ≡ false → OrderIsKept (point w (entry w n (Did (run_no r) (next_of n r) Down)) g) held
 told_kept w n g held r s misses = record {
   grips = fits_other w n next g r others (told_holds w n g held r c s) s.kept.grips;
-  window = down_answered w.kinds (window_of w n g held) (window_of w next g held) r c later false (record {
+  window = down_answered w.kinds (window_of (point w n g) held) (window_of (point w next g) held) r c later false (record {
     place = in_place w n next g g held held r cut refl others (λ q e ne. refl);
     answer = gets;
     guard = ap (holds c.when) (s.read.summarized r).register ∙ s.guard;
@@ -147,10 +150,10 @@ told_kept w n g held r s misses = record {
     cut : CutAt r n.line
     cut = cut_live w n r s.read s.live
 
-    answer : GetsAnswer (run_state w n g r) (run_state w next (put g c.device.0 None) r) c later Down (is_doomed n r)
+    answer : GetsAnswer (run_state (point w n g) r) (run_state (point w next (put g c.device.0 None)) r) c later Down (is_doomed n r)
     answer = gets_answer w n g r (next_of n r) Down refl (next_is (commands_of w.runs r) (next_of n r) c s.next).0
 
-    gets : GetsAnswer (run_state w n g r) (run_state w next g r) c later Down false
+    gets : GetsAnswer (run_state (point w n g) r) (run_state (point w next g) r) c later Down false
     gets = record {
       next = answer.next;
       commands = refl;
@@ -162,10 +165,10 @@ told_kept w n g held r s misses = record {
       free = held_none w g r c.device.0 (told_holds w n g held r c s);
     }
 
-told_doomed_kept : (w : Setting) (n : Reading) (g : Grips) (held : ℕ → ℕ) (r : ℕ) (cause : Cause) → (s : IsToldDown w n g held r (command_at w.runs r (next_of n r))) → OrderIsKept w (entry w (entry w n (Did (run_no r) (next_of n r) Down)) (Doomed (run_no r) cause)) g held
+told_doomed_kept : (w : Setting) (n : Reading) (g : Grips) (held : ℕ → ℕ) (r : ℕ) (cause : Cause) → (s : IsToldDown w n g held r (command_at w.runs r (next_of n r))) → OrderIsKept (point w (entry w (entry w n (Did (run_no r) (next_of n r) Down)) (Doomed (run_no r) cause)) g) held
 told_doomed_kept w n g held r cause s = record {
   grips = fits_other w n next g r others (told_holds w n g held r c s) s.kept.grips;
-  window = down_answered w.kinds (window_of w n g held) (window_of w next g held) r c later true (record {
+  window = down_answered w.kinds (window_of (point w n g) held) (window_of (point w next g) held) r c later true (record {
     place = in_place w n next g g held held r cut refl others (λ q e ne. refl);
     answer = gets;
     guard = ap (holds c.when) (s.read.summarized r).register ∙ s.guard;
@@ -197,10 +200,10 @@ told_doomed_kept w n g held r cause s = record {
     cut : CutAt r n.line
     cut = cut_live w n r s.read s.live
 
-    answer : GetsAnswer (run_state w n g r) (run_state w next (put g c.device.0 None) r) c later Down true
+    answer : GetsAnswer (run_state (point w n g) r) (run_state (point w next (put g c.device.0 None)) r) c later Down true
     answer = gets_and_doomed w n g r (next_of n r) Down cause refl (next_is (commands_of w.runs r) (next_of n r) c s.next).0
 
-    gets : GetsAnswer (run_state w n g r) (run_state w next g r) c later Down true
+    gets : GetsAnswer (run_state (point w n g) r) (run_state (point w next g) r) c later Down true
     gets = record {
       next = answer.next;
       commands = refl;
@@ -213,9 +216,9 @@ told_doomed_kept w n g held r cause s = record {
     }
 
 -- a command that may miss its device is answered Down with no call
-pub down_kept : (w : Setting) (n : Reading) (g : Grips) (held : ℕ → ℕ) (r : ℕ) (c : Command) → IsToldDown w n g held r c → fails c Down ≡ false → OrderIsKept w (entry w n (Did (run_no r) (next_of n r) Down)) g held
+pub down_kept : (w : Setting) (n : Reading) (g : Grips) (held : ℕ → ℕ) (r : ℕ) (c : Command) → IsToldDown w n g held r c → fails c Down ≡ false → OrderIsKept (point w (entry w n (Did (run_no r) (next_of n r) Down)) g) held
 down_kept w n g held r c s misses = told_kept w n g held r (told_next w n g held r c s) (ap (λ x. fails x Down) (next_is (commands_of w.runs r) (next_of n r) c s.next).1 ∙ misses)
 
 -- .. and one that dooms its run by it, for whatever cause
-pub down_doomed_kept : (w : Setting) (n : Reading) (g : Grips) (held : ℕ → ℕ) (r : ℕ) (c : Command) (cause : Cause) → IsToldDown w n g held r c → OrderIsKept w (entry w (entry w n (Did (run_no r) (next_of n r) Down)) (Doomed (run_no r) cause)) g held
+pub down_doomed_kept : (w : Setting) (n : Reading) (g : Grips) (held : ℕ → ℕ) (r : ℕ) (c : Command) (cause : Cause) → IsToldDown w n g held r c → OrderIsKept (point w (entry w (entry w n (Did (run_no r) (next_of n r) Down)) (Doomed (run_no r) cause)) g) held
 down_doomed_kept w n g held r c cause s = told_doomed_kept w n g held r cause (told_next w n g held r c s)

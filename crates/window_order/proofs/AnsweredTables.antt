@@ -24,7 +24,7 @@ use Rattle.lineage_table.specs.Accesses.{has_access, is_of, with_change}
 use Rattle.lineage_table.specs.Lineages.{LineageState}
 use Rattle.lineage_table.specs.declared.accesses.Access.{Access}
 use Rattle.lineage_table.specs.declared.accesses.Status.TheVariants.{Acquired, Released, Scheduled}
-use Rattle.lock_leasing.specs.Configurations.{Grips, grips_command, grips_undo}
+use Rattle.lock_leasing.specs.Configurations.{Grips, grips_command, grips_undo, point}
 use Rattle.lock_leasing.specs.Tables.{may_be_passed, uses, view_when}
 use Rattle.std.proofs.Common.{ap, arith, length-append, refl, subst, sym, ◌∙◌}
 use Rattle.std.proofs.lemmas.Grind.{common_steps}
@@ -205,13 +205,13 @@ live_covers_none w n d r live = λ i. live_uncommitted n r live i && is_some ((n
 
 -- the accesses stand around that of the run
 pub accesses_around : (w : Setting) (n : Reading) (g : Grips) (passed : ℕ → Bool) (d r : ℕ) (cut : CutAt r n.line) → IsRead w n → TouchesNow w n g d r cut
-    → accesses_read w n g passed d n.line ≡ front_accesses (uses w n d) (commits_write n d) (access_read w n g passed d) false cut.front ++ access_read w n g passed d r ∷ accesses_along (uses w n d) (commits_write n d) (access_read w n g passed d) cut.back
+    → accesses_read (point w n g) passed d n.line ≡ front_accesses (uses w n d) (commits_write n d) (access_read (point w n g) passed d) false cut.front ++ access_read (point w n g) passed d r ∷ accesses_along (uses w n d) (commits_write n d) (access_read (point w n g) passed d) cut.back
 accesses_around w n g passed d r cut read now =
-    ap (accesses_read w n g passed d) cut.at
-    ∙ along_there (uses w n d) (commits_write n d) (access_read w n g passed d) r cut.front cut.back (uses_now w n d r read now.live now.pending) (live_covers_none w n d r now.live) (none_commits w n d cut.back read now.back)
+    ap (accesses_read (point w n g) passed d) cut.at
+    ∙ along_there (uses w n d) (commits_write n d) (access_read (point w n g) passed d) r cut.front cut.back (uses_now w n d r read now.live now.pending) (live_covers_none w n d r now.live) (none_commits w n d cut.back read now.back)
 
-pub none_in_front : (w : Setting) (n : Reading) (g : Grips) (passed : ℕ → Bool) (d r : ℕ) (cut : CutAt r n.line) → has_access r (front_accesses (uses w n d) (commits_write n d) (access_read w n g passed d) false cut.front) ≡ false
-none_in_front w n g passed d r cut = front_lacks (uses w n d) (commits_write n d) (access_read w n g passed d) false r cut.front (λ x. refl) cut.before
+pub none_in_front : (w : Setting) (n : Reading) (g : Grips) (passed : ℕ → Bool) (d r : ℕ) (cut : CutAt r n.line) → has_access r (front_accesses (uses w n d) (commits_write n d) (access_read (point w n g) passed d) false cut.front) ≡ false
+none_in_front w n g passed d r cut = front_lacks (uses w n d) (commits_write n d) (access_read (point w n g) passed d) false r cut.front (λ x. refl) cut.before
 
 -- a run that counts, or has touched the device, was not passed there
 pub never_passed : (n : Reading) (g : Grips) (d r : ℕ) (passed : ℕ → Bool) → ((q : ℕ) → passed q ≡ true → may_be_passed n g q d ≡ true) → (not (is_doomed n r) || grips_command g r d) ≡ true → passed r ≡ false
@@ -250,8 +250,8 @@ pub left_after : (w : Setting) (n : Reading) (r k : ℕ) (a : Answer) (e : ℕ) 
 left_after w n r k a e number = ap (touches_from w.runs r e) (length-append (n.run r).answers (a ∷ []) ∙ ap (λ x. x + 1) (sym number))
 
 -- on another device nothing changes
-pub answered_elsewhere : (w : Setting) (n : Reading) (g h : Grips) (r k : ℕ) (a : Answer) (e : ℕ) (s : LineageState) → k ≡ next_of n r → next_of n r < length (commands_of w.runs r) → e ≢ (command_at w.runs r k).device.0 → ((q : ℕ) → SameGrip g h e q) → LineageIsKept w n g e s
-    → LineageIsKept w (entry w n (Did (run_no r) k a)) h e s
+pub answered_elsewhere : (w : Setting) (n : Reading) (g h : Grips) (r k : ℕ) (a : Answer) (e : ℕ) (s : LineageState) → k ≡ next_of n r → next_of n r < length (commands_of w.runs r) → e ≢ (command_at w.runs r k).device.0 → ((q : ℕ) → SameGrip g h e q) → LineageIsKept (point w n g) e s
+    → LineageIsKept (point w (entry w n (Did (run_no r) k a)) h) e s
 answered_elsewhere w n g h r k a e s number more ne home kept = lineage_same w n m g h e s (record {
   line = refl;
   has_one = put_says (uses_by w e) n.run r new (λ i. (is_some old.placed && is_none old.ended) && touches w.runs r e && not (touches w.runs r e && not (pend i) && not (is_some (there i).view)));
@@ -296,10 +296,10 @@ pub record HomeFrom (g h : Grips) (d r : ℕ) : Type 0 where
 -- on its own device the access of the run changes
 pub answered_there : (w : Setting) (n : Reading) (g h : Grips) (r k : ℕ) (a : Answer) (cut : CutAt r n.line) → is_access a ≡ true → IsRead w n → k ≡ next_of n r
     → TouchesNow w n g (command_at w.runs r k).device.0 r cut → HomeFrom g h (command_at w.runs r k).device.0 r
-    → (s : LineageState) → LineageIsKept w n g (command_at w.runs r k).device.0 s
-    → LineageIsKept w (entry w n (Did (run_no r) k a)) h (command_at w.runs r k).device.0
+    → (s : LineageState) → LineageIsKept (point w n g) (command_at w.runs r k).device.0 s
+    → LineageIsKept (point w (entry w n (Did (run_no r) k a)) h) (command_at w.runs r k).device.0
     (answer_noted r (not (did n r (command_at w.runs r k).device.0)) (view_when (is_told a)) (told_write w n r (command_at w.runs r k) a) (is_done_there w n r k) s)
-answered_there w n g h r k a cut access read number now home s kept = subst (LineageIsKept w m h d) (sym (noted_is r first view wrote last s)) (lineage_changed w n m g h d r (answered_access first view wrote last) s (runs_distinct n read.once) same kept changed
+answered_there w n g h r k a cut access read number now home s kept = subst (LineageIsKept (point w m h) d) (sym (noted_is r first view wrote last s)) (lineage_changed w n m g h d r (answered_access first view wrote last) s (runs_distinct n read.once) same kept changed
     (λ q ne. access_gripped w g h kept.passed d q (m.run q) (home.others q ne) ∙ ap (access_by w g kept.passed d q) (put_other n.run r new q ne)))
   where
     c : Command

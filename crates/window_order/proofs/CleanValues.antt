@@ -29,7 +29,8 @@ use Rattle.home_types.specs.Commands.{reads}
 use Rattle.home_types.specs.HomeStates.{stand_at}
 use Rattle.home_types.specs.declared.items.Item.TheVariants.{Back, Failed, Ran}
 use Rattle.home_types.specs.declared.items.Item.{Item}
-use Rattle.lock_leasing.specs.Configurations.{Commands, Grips, grips_undo, is_command, is_undo, no_grips}
+use Rattle.lock_leasing.specs.Configurations.{Grips, grips_undo, is_command, is_undo, no_grips, point}
+use Rattle.lock_leasing.specs.declared.purposes.Purpose.TheVariants.{Commands}
 use Rattle.lock_leasing.specs.Words.{Write, committed_write, effective_write, has_effect, is_undone, last_some, live_before, live_runs, write_of}
 use Rattle.std.proofs.Common.{ap, ap₂, arith, inl, inr, refl, subst, sym, ◌∙◌, ◌⊎◌}
 use Rattle.std.proofs.lemmas.Bool.{and_right, both_ways, eq-eqb, or_parts, or_right}
@@ -189,30 +190,30 @@ pub record ReadIsOut (w : Setting) (g : Grips) (d r k : ℕ) : Type 0 where
 record ReadsAt (w : Setting) (n : Reading) (g : Grips) (held : ℕ → ℕ) (d r : ℕ) : Type 0 where
   uses : touches w.runs r d ≡ true
   line : n.line ≡ before r n.line ++ Ran (run_no r) ∷ behind r n.line
-  grip : (usage w.kinds (run_state w n g r) d).grip ≡ Reads
+  grip : (usage w.kinds (run_state (point w n g) r) d).grip ≡ Reads
   undid : ((n.run r).on d).undid ≡ false
-  finds : ReadFinds (device_record w.kinds (window_of w n g held) d) (entries w.kinds (λ q. run_state w n g q) d (before r n.line)) (usage w.kinds (run_state w n g r) d) (held d)
+  finds : ReadFinds (device_record w.kinds (window_of (point w n g) held) d) (entries w.kinds (λ q. run_state (point w n g) q) d (before r n.line)) (usage w.kinds (run_state (point w n g) r) d) (held d)
 
 kept_write : (s : WalkState) (u : Usage) (b : List OrderEntry) → u.grip ≡ Reads → WalkHolds s (Used u ∷ b) → u.undid ≡ false
 unfolding WalkHolds
 kept_write s u b e h = (subst (λ y. GripFits y u) e h.0.grip).1
 
-reads_at : (w : Setting) (n : Reading) (g : Grips) (held : ℕ → ℕ) (d r k : ℕ) → IsRead w n → OrderIsKept w n g held → is_device w d ≡ true → ReadIsOut w g d r k → ReadsAt w n g held d r
+reads_at : (w : Setting) (n : Reading) (g : Grips) (held : ℕ → ℕ) (d r k : ℕ) → IsRead w n → OrderIsKept (point w n g) held → is_device w d ≡ true → ReadIsOut w g d r k → ReadsAt w n g held d r
 reads_at w n g held d r k s o device h =
     let acts : ActsOn w n r d = acts_on w n g held r d o (ap (λ x. unwrap_or (option_map (λ p. (p.maker == r) && is_command p.purpose) x) false) h.out ∙ own r) in
     let line : n.line ≡ before r n.line ++ Ran (run_no r) ∷ behind r n.line = cut_before r n.line (live_stands w n r s acts.live) in
-    let grip : (usage w.kinds (run_state w n g r) d).grip ≡ Reads = ap (held_by w r) h.out ∙ to_read (r == r) (reads (command_at w.runs r k).job) (eq-eqb r r refl) h.reading in
-    let order : entries w.kinds (λ q. run_state w n g q) d n.line ≡ entries w.kinds (λ q. run_state w n g q) d (before r n.line) ++ Used (usage w.kinds (run_state w n g r) d) ∷ entries w.kinds (λ q. run_state w n g q) d (behind r n.line) =
-    ap (entries w.kinds (λ q. run_state w n g q) d) line ∙ used_at w.kinds (λ q. run_state w n g q) d r (before r n.line) (behind r n.line) acts.uses in
-    let kept : DeviceInvariant (device_record w.kinds (window_of w n g held) d) = o.window.devices d (device_below w d device) in
+    let grip : (usage w.kinds (run_state (point w n g) r) d).grip ≡ Reads = ap (held_by w r) h.out ∙ to_read (r == r) (reads (command_at w.runs r k).job) (eq-eqb r r refl) h.reading in
+    let order : entries w.kinds (λ q. run_state (point w n g) q) d n.line ≡ entries w.kinds (λ q. run_state (point w n g) q) d (before r n.line) ++ Used (usage w.kinds (run_state (point w n g) r) d) ∷ entries w.kinds (λ q. run_state (point w n g) q) d (behind r n.line) =
+    ap (entries w.kinds (λ q. run_state (point w n g) q) d) line ∙ used_at w.kinds (λ q. run_state (point w n g) q) d r (before r n.line) (behind r n.line) acts.uses in
+    let kept : DeviceInvariant (device_record w.kinds (window_of (point w n g) held) d) = o.window.devices d (device_below w d device) in
     let start : WalkState = walk_start (stand_at w.first d).up (stand_at w.first d).value in
     record {
       uses = acts.uses;
       line = line;
       grip = grip;
-      undid = kept_write (walk_end start (entries w.kinds (λ q. run_state w n g q) d (before r n.line))) (usage w.kinds (run_state w n g r) d) (entries w.kinds (λ q. run_state w n g q) d (behind r n.line)) grip
-          (walk_back start (entries w.kinds (λ q. run_state w n g q) d (before r n.line)) (Used (usage w.kinds (run_state w n g r) d) ∷ entries w.kinds (λ q. run_state w n g q) d (behind r n.line)) (subst (λ l. WalkHolds start l) order kept.walk));
-      finds = read_finds (device_record w.kinds (window_of w n g held) d) (entries w.kinds (λ q. run_state w n g q) d (before r n.line)) (entries w.kinds (λ q. run_state w n g q) d (behind r n.line)) (usage w.kinds (run_state w n g r) d) kept order grip;
+      undid = kept_write (walk_end start (entries w.kinds (λ q. run_state (point w n g) q) d (before r n.line))) (usage w.kinds (run_state (point w n g) r) d) (entries w.kinds (λ q. run_state (point w n g) q) d (behind r n.line)) grip
+          (walk_back start (entries w.kinds (λ q. run_state (point w n g) q) d (before r n.line)) (Used (usage w.kinds (run_state (point w n g) r) d) ∷ entries w.kinds (λ q. run_state (point w n g) q) d (behind r n.line)) (subst (λ l. WalkHolds start l) order kept.walk));
+      finds = read_finds (device_record w.kinds (window_of (point w n g) held) d) (entries w.kinds (λ q. run_state (point w n g) q) d (before r n.line)) (entries w.kinds (λ q. run_state (point w n g) q) d (behind r n.line)) (usage w.kinds (run_state (point w n g) r) d) kept order grip;
     }
   where
     own : (r : ℕ) → ((r == r) && true) ≡ true
@@ -224,7 +225,7 @@ reads_at w n g held d r k s o device h =
     to_read false y e f = absurd (cc)
 
 -- it finds the run's own last write, else the last committed write before it, else the first value
-pub finds_clean : (w : Setting) (n : Reading) (g : Grips) (held : ℕ → ℕ) (d r k : ℕ) → IsRead w n → OrderIsKept w n g held → is_device w d ≡ true → ReadIsOut w g d r k
+pub finds_clean : (w : Setting) (n : Reading) (g : Grips) (held : ℕ → ℕ) (d r k : ℕ) → IsRead w n → OrderIsKept (point w n g) held → is_device w d ≡ true → ReadIsOut w g d r k
     → held d ≡ unwrap_or (option_or ((n.run r).on d).wrote (last_some (committed_write n d) (before r n.line))) (stand_at w.first d).value
 finds_clean w n g held d r k s o device h = by ((n.run r).on d).wrote refl (reads_at w n g held d r k s o device h)
   where
@@ -276,14 +277,14 @@ writer_behind w n g held d r k s out at e h =
     no_write (Some v) false true p q f = absurd (cc)
     no_write (Some v) true y p q f = absurd (cc)
 
-    settled : last_some (write_of n g d) (before r n.line) ≡ Some e → is_write_settled (effective None (entries w.kinds (λ q. run_state w n g q) d (before r n.line))) ≡ true → is_committed n e.run ≡ true
+    settled : last_some (write_of n g d) (before r n.line) ≡ Some e → is_write_settled (effective None (entries w.kinds (λ q. run_state (point w n g) q) d (before r n.line))) ≡ true → is_committed n e.run ≡ true
     settled f x =
         settled_run (is_committed n e.run) (is_doomed n e.run) (uses e.run)
-        (sym (ap is_write_settled (effective_entries w.kinds (λ q. run_state w n g q) d None (before r n.line)
-        ∙ ap (option_map (λ q. usage w.kinds (run_state w n g q) d)) (writer_on_line w n g d (before r n.line) s ∙ ap (option_map (λ e. e.run)) f))) ∙ x)
+        (sym (ap is_write_settled (effective_entries w.kinds (λ q. run_state (point w n g) q) d None (before r n.line)
+        ∙ ap (option_map (λ q. usage w.kinds (run_state (point w n g) q) d)) (writer_on_line w n g d (before r n.line) s ∙ ap (option_map (λ e. e.run)) f))) ∙ x)
       where
         uses : ℕ → Bool
-        uses q = uses_device d (rest (run_state w n g q))
+        uses q = uses_device d (rest (run_state (point w n g) q))
 
     by : (x y : Option Write) → last_some (write_of n g d) (behind r n.line) ≡ x → write_of n g d (Ran (run_no r)) ≡ y → option_or (last_some (write_of n g d) (behind r n.line)) (option_or (write_of n g d (Ran (run_no r))) (last_some (write_of n g d) (before r n.line))) ≡ Some e
         → (list_any (is_ran e.run) (before r n.line) ≡ false) ⊎ (is_live n e.run ≡ false)
@@ -294,7 +295,7 @@ writer_behind w n g held d r k s out at e h =
         (at.finds.settled ((s.summarized r).wrote d ∙ no_write ((n.run r).on d).wrote ((n.run r).on d).undid (grips_undo g r d) at.undid no_undo c))))
 
 -- .. and no live run before the run has the effective write
-pub none_dirty : (w : Setting) (n : Reading) (g : Grips) (held : ℕ → ℕ) (d r k : ℕ) → IsRead w n → OrderIsKept w n g held → is_device w d ≡ true → ReadIsOut w g d r k → list_any (λ x. has_effect n no_grips x d) (live_before n r) ≡ false
+pub none_dirty : (w : Setting) (n : Reading) (g : Grips) (held : ℕ → ℕ) (d r k : ℕ) → IsRead w n → OrderIsKept (point w n g) held → is_device w d ≡ true → ReadIsOut w g d r k → list_any (λ x. has_effect n no_grips x d) (live_before n r) ≡ false
 none_dirty w n g held d r k s o device h =
     no_effect_there n (effective_write n no_grips d) (before r n.line) (λ e f. writer_behind w n g held d r k s h.out (reads_at w n g held d r k s o device h) e (sym same_effect ∙ f))
   where

@@ -10,7 +10,7 @@ use Rattle.home_types.specs.declared.items.Item.TheVariants.{Back, Failed, Ran}
 use Rattle.home_types.specs.declared.items.Item.{Item}
 use Rattle.home_types.specs.declared.numbers.RunNo.{RunNo}
 use Rattle.lock_leasing.proofs.ClearPlaces.{clear_touch, none_beside, unbound_touch}
-use Rattle.lock_leasing.specs.Configurations.{Grips, grips_command}
+use Rattle.lock_leasing.specs.Configurations.{Grips, grips_command, point}
 use Rattle.lock_leasing.specs.Places.{IsClear, binds}
 use Rattle.lock_leasing.specs.Words.{has_touched}
 use Rattle.std.proofs.Common.{ap, arith, refl, sym, ◌∙◌}
@@ -25,7 +25,7 @@ use Rattle.window_order.specs.ReadWindows.{held_by, run_state, window_of}
 use Rattle.window_order.specs.TableKept.{commits_write}
 
 -- no committed run there wrote one
-pub clear_written : (w : Setting) (n : Reading) (g : Grips) (r at d : ℕ) → IsRead w n → IsClear w n g r at → is_device w d ≡ true → touches w.runs r d ≡ true → list_any (of_run (commits_write n d)) (drop at n.line) ≡ false
+pub clear_written : (w : Setting) (n : Reading) (g : Grips) (r at d : ℕ) → IsRead w n → IsClear (point w n g) r at → is_device w d ≡ true → touches w.runs r d ≡ true → list_any (of_run (commits_write n d)) (drop at n.line) ≡ false
 clear_written w n g r at d read clear device used = none_beside (of_run (λ x. has_touched n g x d)) (of_run (commits_write n d)) (drop at n.line) unwritten (clear_touch w n g r at d clear device used)
   where
     none : (c h t o : Bool) → (h ≡ true → t ≡ true) → (t || o) ≡ false → (c && h) ≡ false
@@ -39,7 +39,7 @@ clear_written w n g r at d read clear device used = none_beside (of_run (λ x. h
     unwritten (Back e k) untouched = refl
 
 -- no run there has touched one
-pub clear_run : (w : Setting) (n : Reading) (g : Grips) (r at d x : ℕ) → IsClear w n g r at → is_device w d ≡ true → touches w.runs r d ≡ true → list_any (is_ran x) (drop at n.line) ≡ true → has_touched n g x d ≡ false
+pub clear_run : (w : Setting) (n : Reading) (g : Grips) (r at d x : ℕ) → IsClear (point w n g) r at → is_device w d ≡ true → touches w.runs r d ≡ true → list_any (is_ran x) (drop at n.line) ≡ true → has_touched n g x d ≡ false
 clear_run w n g r at d x clear device used there = found (drop at n.line) (clear_touch w n g r at d clear device used) there
   where
     found : (is : List Item) → list_any (of_run (λ q. has_touched n g q d)) is ≡ false → list_any (is_ran x) is ≡ true → has_touched n g x d ≡ false
@@ -54,15 +54,15 @@ clear_run w n g r at d x clear device used there = found (drop at n.line) (clear
     found (Back e k ∷ is) none there = found is none there
 
 -- it is calm
-pub calm_place : (w : Setting) (n : Reading) (g : Grips) (held : ℕ → ℕ) (r at d : ℕ) → IsRead w n → IsClear w n g r at → is_device w d ≡ true → touches w.runs r d ≡ true → is_calm_line w.kinds (window_of w n g held).states d (drop at n.line) ≡ true
+pub calm_place : (w : Setting) (n : Reading) (g : Grips) (held : ℕ → ℕ) (r at d : ℕ) → IsRead w n → IsClear (point w n g) r at → is_device w d ≡ true → touches w.runs r d ≡ true → is_calm_line w.kinds (window_of (point w n g) held).states d (drop at n.line) ≡ true
 unfolding is_calm_line
 calm_place w n g held r at d read clear device used = along (drop at n.line) clear
   where
     -- the use of a run that has not touched the device
-    untouched : (q : RunNo) → has_touched n g q.0 d ≡ false → at_device w.kinds (window_of w n g held).states d has_used_device q.0 ≡ false
-    untouched q none = none_used (uses_device d (commands_of w.runs q.0)) (is_some (device_summary w.kinds (run_state w n g q.0) d).view) (holds_command (held_by w q.0 (g d))) (did n q.0 d) (grips_command g q.0 d) view (command_held w g q.0 d) none
+    untouched : (q : RunNo) → has_touched n g q.0 d ≡ false → at_device w.kinds (window_of (point w n g) held).states d has_used_device q.0 ≡ false
+    untouched q none = none_used (uses_device d (commands_of w.runs q.0)) (is_some (device_summary w.kinds (run_state (point w n g) q.0) d).view) (holds_command (held_by w q.0 (g d))) (did n q.0 d) (grips_command g q.0 d) view (command_held w g q.0 d) none
       where
-        view : is_some (device_summary w.kinds (run_state w n g q.0) d).view ≡ did n q.0 d
+        view : is_some (device_summary w.kinds (run_state (point w n g) q.0) d).view ≡ did n q.0 d
         view = ap is_some ((read.summarized q.0).view d) ∙ seen_view (view_of n q.0 d)
 
         none_used : (u v c x y : Bool) → v ≡ x → c ≡ y → (x || y) ≡ false → (u && (v || c)) ≡ false
@@ -72,8 +72,8 @@ calm_place w n g held r at d read clear device used = along (drop at n.line) cle
     apart e off true h = absurd (let same : e ≡ d = grind (arith, common_steps) in let clash : true ≡ false = sym used ∙ sym (ap (touches w.runs r) same) ∙ off in cc)
     apart e off false h = refl
 
-    along : (is : List Item) → list_any (binds w n g r) is ≡ false → is_calm_line w.kinds (window_of w n g held).states d is ≡ true
+    along : (is : List Item) → list_any (binds (point w n g) r) is ≡ false → is_calm_line w.kinds (window_of (point w n g) held).states d is ≡ true
     along [] none = refl
-    along (Ran q ∷ is) none = let parts = or_parts (binds w n g r (Ran q)) (list_any (binds w n g r) is) none in λ i. not (untouched q (unbound_touch w n g r d q parts.0 device used) i) && along is parts.1 i
-    along (Failed e k ∷ is) none = let parts = or_parts (binds w n g r (Failed e k)) (list_any (binds w n g r) is) none in λ i. not (apart e.0 parts.0 (e.0 == d) refl i) && along is parts.1 i
-    along (Back e k ∷ is) none = let parts = or_parts (binds w n g r (Back e k)) (list_any (binds w n g r) is) none in λ i. not (apart e.0 parts.0 (e.0 == d) refl i) && along is parts.1 i
+    along (Ran q ∷ is) none = let parts = or_parts (binds (point w n g) r (Ran q)) (list_any (binds (point w n g) r) is) none in λ i. not (untouched q (unbound_touch w n g r d q parts.0 device used) i) && along is parts.1 i
+    along (Failed e k ∷ is) none = let parts = or_parts (binds (point w n g) r (Failed e k)) (list_any (binds (point w n g) r) is) none in λ i. not (apart e.0 parts.0 (e.0 == d) refl i) && along is parts.1 i
+    along (Back e k ∷ is) none = let parts = or_parts (binds (point w n g) r (Back e k)) (list_any (binds (point w n g) r) is) none in λ i. not (apart e.0 parts.0 (e.0 == d) refl i) && along is parts.1 i

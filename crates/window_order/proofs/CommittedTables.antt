@@ -19,7 +19,9 @@ use Rattle.lineage_table.proofs.Steps.{written_at}
 use Rattle.lineage_table.specs.Accesses.{access_of, accesses_behind, accesses_without, has_access, is_of, written_by}
 use Rattle.lineage_table.specs.Lineages.{LineageState, committed_lineage, removed, settled}
 use Rattle.lineage_table.specs.declared.accesses.Access.{Access}
-use Rattle.lock_leasing.specs.Configurations.{Commands, Grip, Grips, Probes, Purpose, Undoes, grips_undo, is_undo}
+use Rattle.lock_leasing.specs.Configurations.{Grip, Grips, grips_undo, is_undo, point}
+use Rattle.lock_leasing.specs.declared.purposes.Purpose.TheVariants.{Commands, Probes, Undoes}
+use Rattle.lock_leasing.specs.declared.purposes.Purpose.{Purpose}
 use Rattle.lock_leasing.specs.Order.{committed_value}
 use Rattle.lock_leasing.specs.Places.{GripsFit}
 use Rattle.lock_leasing.specs.Tables.{uses}
@@ -163,7 +165,7 @@ abbrev ended_run : Reading → ℕ → OfRun
 ended_run n r = record (n.run r) { ended = Some Committed }
 
 -- on a device that it does not use nothing changes
-committed_elsewhere : (w : Setting) (n : Reading) (g : Grips) (r d : ℕ) (s : LineageState) → IsRead w n → is_live n r ≡ true → uses w n d r ≡ false → LineageIsKept w n g d s → LineageIsKept w (entry w n (Ended (run_no r) Committed)) g d s
+committed_elsewhere : (w : Setting) (n : Reading) (g : Grips) (r d : ℕ) (s : LineageState) → IsRead w n → is_live n r ≡ true → uses w n d r ≡ false → LineageIsKept (point w n g) d s → LineageIsKept (point w (entry w n (Ended (run_no r) Committed)) g) d s
 committed_elsewhere w n g r d s read live off kept = lineage_same w n (entry w n (Ended (run_no r) Committed)) g g d s (record {
   line = refl;
   has_one = put_says (uses_by w d) n.run r (ended_run n r) (gone (is_some (n.run r).placed) (touches w.runs r d) (touches w.runs r d && not (touches_from w.runs r d (length (n.run r).answers)) && not (is_some ((n.run r).on d).view)) ∙ sym off);
@@ -184,7 +186,8 @@ committed_elsewhere w n g r d s read live off kept = lineage_same w n (entry w n
     gone a b x = grind (arith, common_steps)
 
 -- on those that it uses its value is committed, or its access is gone
-committed_there : (w : Setting) (n : Reading) (g : Grips) (r d : ℕ) → IsRead w n → is_live n r ≡ true → uses w n d r ≡ true → is_undone n g r d ≡ false → (s : LineageState) → LineageIsKept w n g d s → LineageIsKept w (entry w n (Ended (run_no r) Committed)) g d (committed_lineage r s)
+committed_there : (w : Setting) (n : Reading) (g : Grips) (r d : ℕ) → IsRead w n → is_live n r ≡ true → uses w n d r ≡ true → is_undone n g r d ≡ false
+    → (s : LineageState) → LineageIsKept (point w n g) d s → LineageIsKept (point w (entry w n (Ended (run_no r) Committed)) g) d (committed_lineage r s)
 committed_there w n g r d read live on sound s kept = record {
   passed = kept.passed;
   may_pass = λ q passed. put_says (may_by g d) n.run r (ended_run n r) refl q ∙ kept.may_pass q passed;
@@ -213,10 +216,10 @@ committed_there w n g r d read live on sound s kept = record {
     c = commits_write n d
 
     f : ℕ → Access
-    f = access_read w n g kept.passed d
+    f = access_read (point w n g) kept.passed d
 
     h : ℕ → Access
-    h = access_read w m g kept.passed d
+    h = access_read (point w m g) kept.passed d
 
     wrote : Option ℕ
     wrote = ((n.run r).on d).wrote
@@ -272,10 +275,10 @@ committed_there w n g r d read live on sound s kept = record {
 
     -- a committed run behind it has written the device: it has no access any more
     covered : list_any (of_run c) cut.back ≡ true → s.accesses ≡ back
-    covered e = kept.accesses ∙ ap (accesses_read w n g kept.passed d) cut.at ∙ along_covered p c f r cut.front cut.back e
+    covered e = kept.accesses ∙ ap (accesses_read (point w n g) kept.passed d) cut.at ∙ along_covered p c f r cut.front cut.back e
 
     around : list_any (of_run c) cut.back ≡ false → s.accesses ≡ front ++ f r ∷ back
-    around e = kept.accesses ∙ ap (accesses_read w n g kept.passed d) cut.at ∙ along_there p c f r cut.front cut.back used uncovering e
+    around e = kept.accesses ∙ ap (accesses_read (point w n g) kept.passed d) cut.at ∙ along_there p c f r cut.front cut.back used uncovering e
 
     written : list_any (of_run c) cut.back ≡ false → written_by r s.accesses ≡ wrote
     written e = ap (written_by r) (around e) ∙ written_at r front (f r) back none_before own_access ∙ (λ i. if sound i then None else wrote)
@@ -283,9 +286,9 @@ committed_there w n g r d read live on sound s kept = record {
     unwritten_there : list_any (of_run c) cut.back ≡ true → written_by r s.accesses ≡ None
     unwritten_there e = ap (written_by r) (covered e) ∙ none_written r back none_behind
 
-    list_after : (b : Bool) → list_any (of_run c) cut.back ≡ b → accesses_read w m g kept.passed d n.line ≡ front_accesses p c f (is_some wrote || b) cut.front ++ back
+    list_after : (b : Bool) → list_any (of_run c) cut.back ≡ b → accesses_read (point w m g) kept.passed d n.line ≡ front_accesses p c f (is_some wrote || b) cut.front ++ back
     list_after b e =
-        ap (accesses_read w m g kept.passed d) cut.at
+        ap (accesses_read (point w m g) kept.passed d) cut.at
         ∙ along_absent (uses w m d) (commits_write m d) h r cut.front cut.back unused
         ∙ (λ i. front_accesses (uses w m d) (commits_write m d) h (covering i || (back_covers ∙ e) i) cut.front ++ along_but r p (uses w m d) c (commits_write m d) f h cut.back others cut.behind i)
         ∙ ap (λ xs. xs ++ back) (front_but r p (uses w m d) c (commits_write m d) f h (is_some wrote || b) cut.front others cut.before)
@@ -302,7 +305,7 @@ committed_there w n g r d read live on sound s kept = record {
         (λ i. if is_some ((written e ∙ w) i) then accesses_behind r s.accesses else accesses_without r s.accesses) ∙ ap (accesses_without r) (around e) ∙ without_at r front (f r) back none_before none_behind own_access
         ∙ sym (λ i. front_accesses p c f (is_some (w i) || false) cut.front ++ back)
 
-    at_list : (b : Bool) → list_any (of_run c) cut.back ≡ b → (if is_some (written_by r s.accesses) then accesses_behind r s.accesses else accesses_without r s.accesses) ≡ accesses_read w m g kept.passed d m.line
+    at_list : (b : Bool) → list_any (of_run c) cut.back ≡ b → (if is_some (written_by r s.accesses) then accesses_behind r s.accesses else accesses_without r s.accesses) ≡ accesses_read (point w m g) kept.passed d m.line
     at_list true e =
         (λ i. if is_some (unwritten_there e i) then accesses_behind r s.accesses else accesses_without r s.accesses) ∙ ap (accesses_without r) (covered e) ∙ without_none r back none_behind
         ∙ sym (list_after true e ∙ (λ i. front_accesses p c f (either (is_some wrote) i) cut.front ++ back) ∙ ap (λ xs. xs ++ back) (front_covered p c f cut.front))
@@ -341,7 +344,7 @@ committed_there w n g r d read live on sound s kept = record {
         ∙ sym (value_after ∙ ap (λ o. unwrap_or o first) (write_absent n d cut.back e (option_or wrote (last_write n d None cut.front))))
 
 -- a run that is not doomed is not undone
-never_undone : (w : Setting) (n : Reading) (g : Grips) (r d : ℕ) → IsRead w n → GripsFit w n g → is_doomed n r ≡ false → is_undone n g r d ≡ false
+never_undone : (w : Setting) (n : Reading) (g : Grips) (r d : ℕ) → IsRead w n → GripsFit (point w n g) → is_doomed n r ≡ false → is_undone n g r d ≡ false
 never_undone w n g r d read fit sound = λ i. undid (((n.run r).on d).undid) refl i || none (grips_undo g r d) refl i
   where
     clash : is_doomed n r ≡ true → ⊥
@@ -371,7 +374,9 @@ never_undone w n g r d read fit sound = λ i. undid (((n.run r).on d).undid) ref
     none false e = e
 
 -- each lineage is kept
-pub committed_kept : (w : Setting) (n : Reading) (g : Grips) (r : ℕ) → IsRead w n → GripsFit w n g → may_follow w n (Ended (run_no r) Committed) ≡ true → (d : ℕ) (s : LineageState) → LineageIsKept w n g d s → LineageIsKept w (entry w n (Ended (run_no r) Committed)) g d (committed_lineage r s)
+pub committed_kept : (w : Setting) (n : Reading) (g : Grips) (r : ℕ) → IsRead w n → GripsFit (point w n g) → may_follow w n (Ended (run_no r) Committed) ≡ true
+    → (d : ℕ) (s : LineageState) → LineageIsKept (point w n g) d s
+    → LineageIsKept (point w (entry w n (Ended (run_no r) Committed)) g) d (committed_lineage r s)
 committed_kept w n g r read fit may d s kept = at_ (uses w n d r) refl
   where
     live : is_live n r ≡ true
@@ -381,13 +386,13 @@ committed_kept w n g r read fit may d s kept = at_ (uses w n d r) refl
     sound = grind (arith, common_steps)
 
     f : ℕ → Access
-    f = access_read w n g kept.passed d
+    f = access_read (point w n g) kept.passed d
 
     -- on a device that it does not use it has no access
     no_access : uses w n d r ≡ false → access_of r s.accesses ≡ None
     no_access e =
         let cut : CutAt r n.line = cut_live w n r read live in
-        ap (access_of r) (kept.accesses ∙ ap (accesses_read w n g kept.passed d) cut.at
+        ap (access_of r) (kept.accesses ∙ ap (accesses_read (point w n g) kept.passed d) cut.at
         ∙ along_absent (uses w n d) (commits_write n d) f r cut.front cut.back e)
         ∙ none_of r _ (apart (front_accesses (uses w n d) (commits_write n d) f _ cut.front) (accesses_along (uses w n d) (commits_write n d) f cut.back)
         (front_lacks (uses w n d) (commits_write n d) f _ r cut.front (λ x. refl) cut.before) (along_lacks (uses w n d) (commits_write n d) f r cut.back (λ x. refl) cut.behind))
@@ -395,6 +400,6 @@ committed_kept w n g r read fit may d s kept = at_ (uses w n d r) refl
         apart : (a b : List Access) → has_access r a ≡ false → has_access r b ≡ false → has_access r (a ++ b) ≡ false
         apart a b h k = list_any-append (is_of r) a b ∙ (λ i. h i || k i)
 
-    at_ : (b : Bool) → uses w n d r ≡ b → LineageIsKept w (entry w n (Ended (run_no r) Committed)) g d (committed_lineage r s)
+    at_ : (b : Bool) → uses w n d r ≡ b → LineageIsKept (point w (entry w n (Ended (run_no r) Committed)) g) d (committed_lineage r s)
     at_ true e = committed_there w n g r d read live e (never_undone w n g r d read fit sound) s kept
-    at_ false e = subst (LineageIsKept w (entry w n (Ended (run_no r) Committed)) g d) (sym (unchanged r s (no_access e))) (committed_elsewhere w n g r d s read live e kept)
+    at_ false e = subst (LineageIsKept (point w (entry w n (Ended (run_no r) Committed)) g) d) (sym (unchanged r s (no_access e))) (committed_elsewhere w n g r d s read live e kept)

@@ -21,7 +21,8 @@ use Rattle.home_types.specs.Kinds.{kind_at}
 use Rattle.home_types.specs.declared.commands.Command.{Command}
 use Rattle.home_types.specs.declared.items.Item.TheVariants.{Failed, Ran}
 use Rattle.home_types.specs.declared.items.Item.{Item}
-use Rattle.lock_leasing.specs.Configurations.{Commands, Grips}
+use Rattle.lock_leasing.specs.Configurations.{Grips, point}
+use Rattle.lock_leasing.specs.declared.purposes.Purpose.TheVariants.{Commands}
 use Rattle.lock_leasing.specs.Order.{InHistoryOrder, is_in_line, is_late}
 use Rattle.std.proofs.Common.{ap, arith, inl, inr, refl, subst, sym, ◌∙◌}
 use Rattle.std.proofs.lemmas.Bool.{and_right, both_ways, eqb-false, eqb-true, or_right}
@@ -116,7 +117,7 @@ record IsCalled (w : Setting) (n : Reading) (g : Grips) (held : ℕ → ℕ) (r 
   strong : is_weak w.mode ≡ false
   at : g (command_at w.runs r k).device.0 ≡ Some (record { maker = r; purpose = Commands k })
   out : IsOut w n (command_at w.runs r k).device.0 r k
-  kept : OrderIsKept w n g held
+  kept : OrderIsKept (point w n g) held
 
 -- the failure as it comes into the line
 abbrev failure_of : Setting → Reading → ℕ → ℕ → Item
@@ -262,16 +263,16 @@ falls_doomed w n g held r k s cause = record {
 
 -- the window, with the failure in its line
 failed_window : (w : Setting) (n m : Reading) (g : Grips) (held after : ℕ → ℕ) (r k : ℕ) (s : IsCalled w n g held r k) → m.line ≡ with_event w n (command_at w.runs r k).device (failure_of w n r k) → ((q : ℕ) → q ≢ r → m.run q ≡ n.run q)
-    → ChangesInPlace (with_event_in w.kinds (window_of w n g held) (command_at w.runs r k).device.0 (failure_of w n r k)) (window_of w m (put g (command_at w.runs r k).device.0 None) after) r
+    → ChangesInPlace (with_event_in w.kinds (window_of (point w n g) held) (command_at w.runs r k).device.0 (failure_of w n r k)) (window_of (point w m (put g (command_at w.runs r k).device.0 None)) after) r
 failed_window w n m g held after r k s line others = event_window w n m g (put g (command_at w.runs r k).device.0 None) held after (command_at w.runs r k).device.0 r (failure_of w n r k) (called_cut w n g held r k s) s.read s.strong (λ p. refl) line others
     (λ q e ne. put_keeps (held_by w q) g (command_at w.runs r k).device.0 None (sym (ap (held_by w q) s.at ∙ held_other w r q (Commands k) ne)) e)
 
 -- the device fails at the command of a run that is not doomed by it
 died_at : (w : Setting) (n : Reading) (g : Grips) (held after : ℕ → ℕ) (r k : ℕ) → IsCalled w n g held r k → (did n r (command_at w.runs r k).device.0 ≡ true → is_doomed n r ≡ true) → (fails (command_at w.runs r k) Down ≡ true → is_doomed n r ≡ true)
-    → ((e : ℕ) → e ≢ (command_at w.runs r k).device.0 → after e ≡ held e) → OrderIsKept w (entry w (entry w n (Fell (command_at w.runs r k).device)) (Did (run_no r) k Down)) (put g (command_at w.runs r k).device.0 None) after
+    → ((e : ℕ) → e ≢ (command_at w.runs r k).device.0 → after e ≡ held e) → OrderIsKept (point w (entry w (entry w n (Fell (command_at w.runs r k).device)) (Did (run_no r) k Down)) (put g (command_at w.runs r k).device.0 None)) after
 died_at w n g held after r k s lost must still = record {
   grips = home_fits w n next g d r (Commands k) others (live_run w n r s.read s.out.live) s.at s.kept.grips;
-  window = access_died w.kinds (window_of w n g held) (window_of w next (put g d None) after) r (n.fell d + 1) (command_at w.runs r k) (drop (next_of n r + 1) (commands_of w.runs r)) (is_doomed n r) (record {
+  window = access_died w.kinds (window_of (point w n g) held) (window_of (point w next (put g d None)) after) r (n.fell d + 1) (command_at w.runs r k) (drop (next_of n r + 1) (commands_of w.runs r)) (is_doomed n r) (record {
     place = failed_window w n next g held after r k s refl others;
     answer = gets_answer w n g r k Down s.out.number s.out.more;
     guard = ap (holds (command_at w.runs r k).when) (s.read.summarized r).register ∙ s.out.guard;
@@ -297,10 +298,10 @@ died_at w n g held after r k s lost must still = record {
 
 -- .. and of one that is
 died_doomed_at : (w : Setting) (n : Reading) (g : Grips) (held after : ℕ → ℕ) (r k : ℕ) (cause : Cause) → IsCalled w n g held r k → ((e : ℕ) → e ≢ (command_at w.runs r k).device.0 → after e ≡ held e)
-    → OrderIsKept w (entry w (entry w (entry w n (Fell (command_at w.runs r k).device)) (Did (run_no r) k Down)) (Doomed (run_no r) cause)) (put g (command_at w.runs r k).device.0 None) after
+    → OrderIsKept (point w (entry w (entry w (entry w n (Fell (command_at w.runs r k).device)) (Did (run_no r) k Down)) (Doomed (run_no r) cause)) (put g (command_at w.runs r k).device.0 None)) after
 died_doomed_at w n g held after r k cause s still = record {
   grips = home_fits w n next g d r (Commands k) others (live_run w n r s.read s.out.live) s.at s.kept.grips;
-  window = access_died w.kinds (window_of w n g held) (window_of w next (put g d None) after) r (n.fell d + 1) (command_at w.runs r k) (drop (next_of n r + 1) (commands_of w.runs r)) true (record {
+  window = access_died w.kinds (window_of (point w n g) held) (window_of (point w next (put g d None)) after) r (n.fell d + 1) (command_at w.runs r k) (drop (next_of n r + 1) (commands_of w.runs r)) true (record {
     place = failed_window w n next g held after r k s refl others;
     answer = gets_and_doomed w n g r k Down cause s.out.number s.out.more;
     guard = ap (holds (command_at w.runs r k).when) (s.read.summarized r).register ∙ s.out.guard;
@@ -335,23 +336,23 @@ died_doomed_at w n g held after r k cause s still = record {
     by_view e false none = doomed_history w did_ r cause e (failed_history w n fell g held r k s (falls w n g held r k s (λ has. absurd (both_ways (did n r d) none has))) e)
 
 -- the command of the run that is out on the device
-called : (w : Setting) (n : Reading) (g : Grips) (held : ℕ → ℕ) (d r k : ℕ) → IsRead w n → is_weak w.mode ≡ false → g d ≡ Some (record { maker = r; purpose = Commands k }) → OrderIsKept w n g held → IsCalled w n g held r k
+called : (w : Setting) (n : Reading) (g : Grips) (held : ℕ → ℕ) (d r k : ℕ) → IsRead w n → is_weak w.mode ≡ false → g d ≡ Some (record { maker = r; purpose = Commands k }) → OrderIsKept (point w n g) held → IsCalled w n g held r k
 called w n g held d r k read strong at kept =
     let out = out_is w n g d r k kept.grips at in
     record { read = read; strong = strong; at = subst (λ x. g x ≡ Some (record { maker = r; purpose = Commands k })) out.device at; out = subst (λ x. IsOut w n x r k) out.device out; kept = kept }
 
 -- the device fails at a command, where its run is doomed already, or has no answer there and may miss it
 pub died_kept : (w : Setting) (n : Reading) (g : Grips) (held after : ℕ → ℕ) (d r k : ℕ) → IsRead w n → is_weak w.mode ≡ false → g d ≡ Some (record { maker = r; purpose = Commands k }) → (did n r d ≡ true → is_doomed n r ≡ true) → (fails (command_at w.runs r k) Down ≡ true → is_doomed n r ≡ true)
-    → ((e : ℕ) → e ≢ d → after e ≡ held e) → OrderIsKept w n g held → OrderIsKept w (entry w (entry w n (Fell (command_at w.runs r k).device)) (Did (run_no r) k Down)) (put g d None) after
+    → ((e : ℕ) → e ≢ d → after e ≡ held e) → OrderIsKept (point w n g) held → OrderIsKept (point w (entry w (entry w n (Fell (command_at w.runs r k).device)) (Did (run_no r) k Down)) (put g d None)) after
 died_kept w n g held after d r k read strong at lost must still kept =
     let device = (out_is w n g d r k kept.grips at).device in
-    subst (λ x. OrderIsKept w (entry w (entry w n (Fell (command_at w.runs r k).device)) (Did (run_no r) k Down)) (put g x None) after) (sym device)
+    subst (λ x. OrderIsKept (point w (entry w (entry w n (Fell (command_at w.runs r k).device)) (Did (run_no r) k Down)) (put g x None)) after) (sym device)
     (died_at w n g held after r k (called w n g held d r k read strong at kept) (subst (λ x. did n r x ≡ true → is_doomed n r ≡ true) device lost) must (subst (λ x. (e : ℕ) → e ≢ x → after e ≡ held e) device still))
 
 -- .. and where its run is doomed for it, for whatever cause
 pub died_doomed_kept : (w : Setting) (n : Reading) (g : Grips) (held after : ℕ → ℕ) (d r k : ℕ) (cause : Cause) → IsRead w n → is_weak w.mode ≡ false → g d ≡ Some (record { maker = r; purpose = Commands k })
-    → ((e : ℕ) → e ≢ d → after e ≡ held e) → OrderIsKept w n g held → OrderIsKept w (entry w (entry w (entry w n (Fell (command_at w.runs r k).device)) (Did (run_no r) k Down)) (Doomed (run_no r) cause)) (put g d None) after
+    → ((e : ℕ) → e ≢ d → after e ≡ held e) → OrderIsKept (point w n g) held → OrderIsKept (point w (entry w (entry w (entry w n (Fell (command_at w.runs r k).device)) (Did (run_no r) k Down)) (Doomed (run_no r) cause)) (put g d None)) after
 died_doomed_kept w n g held after d r k cause read strong at still kept =
     let device = (out_is w n g d r k kept.grips at).device in
-    subst (λ x. OrderIsKept w (entry w (entry w (entry w n (Fell (command_at w.runs r k).device)) (Did (run_no r) k Down)) (Doomed (run_no r) cause)) (put g x None) after) (sym device)
+    subst (λ x. OrderIsKept (point w (entry w (entry w (entry w n (Fell (command_at w.runs r k).device)) (Did (run_no r) k Down)) (Doomed (run_no r) cause)) (put g x None)) after) (sym device)
     (died_doomed_at w n g held after r k cause (called w n g held d r k read strong at kept) (subst (λ x. (e : ℕ) → e ≢ x → after e ≡ held e) device still))

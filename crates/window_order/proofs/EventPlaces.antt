@@ -20,7 +20,7 @@ use Rattle.history_book.specs.Readings.{Reading, did, is_committed, is_doomed, i
 use Rattle.history_book.specs.Settings.{Setting, is_device, is_weak}
 use Rattle.home_types.specs.declared.items.Item.TheVariants.{Back, Failed, Ran}
 use Rattle.home_types.specs.declared.items.Item.{Item}
-use Rattle.lock_leasing.specs.Configurations.{Grips}
+use Rattle.lock_leasing.specs.Configurations.{Grips, point}
 use Rattle.std.proofs.Common.{ap, arith, inl, inr, refl, subst, sym, ◌∙◌}
 use Rattle.std.proofs.lemmas.Bool.{both_ways, eq-eqb, or_left, or_right}
 use Rattle.std.proofs.lemmas.Grind.{common_steps}
@@ -42,28 +42,30 @@ abbrev pub awaits_there : Setting → Reading → ℕ → ℕ → Bool
 awaits_there w n d r = not (is_weak w.mode) && is_open w n r d && not (did n r d)
 
 -- of a run that stands in the line, a window says so too
-awaits_same : (w : Setting) (n : Reading) (g : Grips) (held : ℕ → ℕ) (d q : ℕ) → IsRead w n → is_weak w.mode ≡ false → stands_in (n.run q) ≡ true → awaits_there w n d q ≡ waits_at w.kinds (window_of w n g held).states d (Ran (run_no q))
+awaits_same : (w : Setting) (n : Reading) (g : Grips) (held : ℕ → ℕ) (d q : ℕ) → IsRead w n → is_weak w.mode ≡ false → stands_in (n.run q) ≡ true → awaits_there w n d q ≡ waits_at w.kinds (window_of (point w n g) held).states d (Ran (run_no q))
 awaits_same w n g held d q read strong stands = by_live (is_live n q) refl
   where
-    left : uses_device d (rest (run_state w n g q)) ≡ pends w n q d
+    left : uses_device d (rest (run_state (point w n g) q)) ≡ pends w n q d
     left = ap (uses_device d) (rest_drop (commands_of w.runs q) (n.run q).answers)
 
-    seen : is_some (device_summary w.kinds (run_state w n g q) d).view ≡ did n q d
+    seen : is_some (device_summary w.kinds (run_state (point w n g) q) d).view ≡ did n q d
     seen = ap is_some ((read.summarized q).view d) ∙ seen_view (view_of n q d)
 
     alike : (k l c x p u v s : Bool) → k ≡ false → l ≡ not c → u ≡ p → s ≡ v → (not k && (l && not x && p) && not v) ≡ (not c && not x && u && not s)
     alike k l c x p u v s h e f i = grind (arith, common_steps)
 
-    by_live : (b : Bool) → is_live n q ≡ b → awaits_there w n d q ≡ waits_at w.kinds (window_of w n g held).states d (Ran (run_no q))
-    by_live true live = alike (is_weak w.mode) (is_live n q) (is_committed n q) (is_doomed n q) (pends w n q d) (uses_device d (rest (run_state w n g q))) (did n q d) (is_some (device_summary w.kinds (run_state w n g q) d).view) strong (live ∙ sym (ap not (live_uncommitted n q live))) left seen
+    by_live : (b : Bool) → is_live n q ≡ b → awaits_there w n d q ≡ waits_at w.kinds (window_of (point w n g) held).states d (Ran (run_no q))
+    by_live true live =
+        alike (is_weak w.mode) (is_live n q) (is_committed n q) (is_doomed n q) (pends w n q d) (uses_device d (rest (run_state (point w n g) q))) (did n q d)
+        (is_some (device_summary w.kinds (run_state (point w n g) q) d).view) strong (live ∙ sym (ap not (live_uncommitted n q live))) left seen
     by_live false dead =
-        alike (is_weak w.mode) (is_live n q) (is_committed n q) (is_doomed n q) (pends w n q d) (uses_device d (rest (run_state w n g q))) (did n q d)
-        (is_some (device_summary w.kinds (run_state w n g q) d).view) strong (dead ∙ sym (ap not (stands_committed n q stands dead))) left seen
+        alike (is_weak w.mode) (is_live n q) (is_committed n q) (is_doomed n q) (pends w n q d) (uses_device d (rest (run_state (point w n g) q))) (did n q d)
+        (is_some (device_summary w.kinds (run_state (point w n g) q) d).view) strong (dead ∙ sym (ap not (stands_committed n q stands dead))) left seen
 
 pub line_stands : (w : Setting) (n : Reading) → IsRead w n → StandIn n n.line
 line_stands w n read x h = sym (read.standing.line x) ∙ h
 
-event_on_part : (w : Setting) (n : Reading) (g : Grips) (held : ℕ → ℕ) (d : ℕ) (x : Item) (part : List Item) → IsRead w n → is_weak w.mode ≡ false → StandIn n part → put_before (of_run (awaits_there w n d)) x part ≡ line_with_event w.kinds (window_of w n g held).states d x part
+event_on_part : (w : Setting) (n : Reading) (g : Grips) (held : ℕ → ℕ) (d : ℕ) (x : Item) (part : List Item) → IsRead w n → is_weak w.mode ≡ false → StandIn n part → put_before (of_run (awaits_there w n d)) x part ≡ line_with_event w.kinds (window_of (point w n g) held).states d x part
 unfolding line_with_event
 event_on_part w n g held d x [] read strong stands = refl
 event_on_part w n g held d x (Ran q ∷ is) read strong stands =
@@ -72,18 +74,18 @@ event_on_part w n g held d x (Failed e k ∷ is) read strong stands = ap (λ xs.
 event_on_part w n g held d x (Back e k ∷ is) read strong stands = ap (λ xs. Back e k ∷ xs) (event_on_part w n g held d x is read strong stands)
 
 -- the place that the history gives an event is the one that the window's order gives it
-pub event_place : (w : Setting) (n : Reading) (g : Grips) (held : ℕ → ℕ) (d : ℕ) (x : Item) → IsRead w n → is_weak w.mode ≡ false → with_event w n (device_no d) x ≡ line_with_event w.kinds (window_of w n g held).states d x n.line
+pub event_place : (w : Setting) (n : Reading) (g : Grips) (held : ℕ → ℕ) (d : ℕ) (x : Item) → IsRead w n → is_weak w.mode ≡ false → with_event w n (device_no d) x ≡ line_with_event w.kinds (window_of (point w n g) held).states d x n.line
 event_place w n g held d x read strong = event_on_part w n g held d x n.line read strong (line_stands w n read)
 
 -- What stands behind it
 
 -- nothing has happened on the device behind the place of its event
-pub event_calm : (w : Setting) (n : Reading) (g : Grips) (held : ℕ → ℕ) (d : ℕ) (x : Item) (c : EventCut w.kinds (window_of w n g held).states d x n.line) → IsRead w n → OrderIsKept w n g held → is_device w d ≡ true → list_any (is_marked n d) c.back ≡ false
+pub event_calm : (w : Setting) (n : Reading) (g : Grips) (held : ℕ → ℕ) (d : ℕ) (x : Item) (c : EventCut w.kinds (window_of (point w n g) held).states d x n.line) → IsRead w n → OrderIsKept (point w n g) held → is_device w d ≡ true → list_any (is_marked n d) c.back ≡ false
 event_calm w n g held d x c read kept device = elim c.head [ inl none ↦ ap (list_any (is_marked n d)) none | inr e ↦ ap (list_any (is_marked n d)) e.2 ∙ behind e.0 e.1 (c.whole ∙ ap (λ l. c.front ++ l) e.2) e.3 ]
   where
-    left_used : (q : ℕ) (b : Bool) → touches w.runs q d ≡ b → uses_device d (rest (run_state w n g q)) ≡ true → touches w.runs q d ≡ true
+    left_used : (q : ℕ) (b : Bool) → touches w.runs q d ≡ b → uses_device d (rest (run_state (point w n g) q)) ≡ true → touches w.runs q d ≡ true
     left_used q true e left = e
-    left_used q false e left = absurd (both_ways (uses_device d (rest (run_state w n g q))) (uses_rest d (commands_of w.runs q) (n.run q).answers e) left)
+    left_used q false e left = absurd (both_ways (uses_device d (rest (run_state (point w n g) q))) (uses_rest d (commands_of w.runs q) (n.run q).answers e) left)
 
     parts : (c x u s : Bool) → (not c && not x && u && not s) ≡ true → (u ≡ true) × (s ≡ false)
     parts c x u s h = (grind (arith, common_steps), grind (arith, common_steps))
@@ -91,19 +93,23 @@ event_calm w n g held d x c read kept device = elim c.head [ inl none ↦ ap (li
     awaits : (c x u s : Bool) → (not c && not x && u && not s) ≡ true → (stage_is_open (stage_of c x u) && not s) ≡ true
     awaits c x u s h = grind (arith, common_steps)
 
-    own : (q : ℕ) → is_some (device_summary w.kinds (run_state w n g q) d).view ≡ false → is_marked n d (Ran (run_no q)) ≡ false
+    own : (q : ℕ) → is_some (device_summary w.kinds (run_state (point w n g) q) d).view ≡ false → is_marked n d (Ran (run_no q)) ≡ false
     own q none = off (did n q d) _ (sym (ap is_some ((read.summarized q).view d) ∙ seen_view (view_of n q d)) ∙ none)
       where
         off : (a b : Bool) → a ≡ false → (false || (a && b)) ≡ false
         off a b h = grind (arith, common_steps)
 
-    behind : (q : ℕ) (rest' : List Item) → n.line ≡ c.front ++ Ran (run_no q) ∷ rest' → waits_at w.kinds (window_of w n g held).states d (Ran (run_no q)) ≡ true → list_any (is_marked n d) (Ran (run_no q) ∷ rest') ≡ false
+    behind : (q : ℕ) (rest' : List Item) → n.line ≡ c.front ++ Ran (run_no q) ∷ rest' → waits_at w.kinds (window_of (point w n g) held).states d (Ran (run_no q)) ≡ true → list_any (is_marked n d) (Ran (run_no q) ∷ rest') ≡ false
     behind q rest' at waits =
-        let own_parts = parts (is_committed n q) (is_doomed n q) (uses_device d (rest (run_state w n g q))) (is_some (device_summary w.kinds (run_state w n g q) d).view) waits in
+        let own_parts = parts (is_committed n q) (is_doomed n q) (uses_device d (rest (run_state (point w n g) q))) (is_some (device_summary w.kinds (run_state (point w n g) q) d).view) waits in
         let used : touches w.runs q d ≡ true = left_used q (touches w.runs q d) refl own_parts.0 in
-        let calm : is_calm_line w.kinds (window_of w n g held).states d rest' ≡ true = sym (calm_entries w.kinds (window_of w n g held).states d rest')
-        ∙ waits_calm (device_record w.kinds (window_of w n g held) d) (entries w.kinds (window_of w n g held).states d c.front) (entries w.kinds (window_of w n g held).states d rest') (usage w.kinds (run_state w n g q) d) (kept.window.devices d (below_home w d device))
-        (ap (entries w.kinds (window_of w n g held).states d) at ∙ used_at w.kinds (window_of w n g held).states d q c.front rest' used) (awaits (is_committed n q) (is_doomed n q) (uses_device d (rest (run_state w n g q))) (is_some (device_summary w.kinds (run_state w n g q) d).view) waits) in
+        let calm : is_calm_line w.kinds (window_of (point w n g) held).states d rest' ≡ true = sym (calm_entries w.kinds (window_of (point w n g) held).states d rest')
+        ∙ waits_calm (device_record w.kinds (window_of (point w n g) held) d) (entries w.kinds (window_of (point w n g) held).states d c.front)
+        (entries w.kinds (window_of (point w n g) held).states d rest') (usage w.kinds (run_state (point w n g) q) d)
+        (kept.window.devices d (below_home w d device))
+        (ap (entries w.kinds (window_of (point w n g) held).states d) at ∙ used_at w.kinds (window_of (point w n g) held).states d q c.front rest' used)
+        (awaits (is_committed n q) (is_doomed n q) (uses_device d (rest (run_state (point w n g) q)))
+        (is_some (device_summary w.kinds (run_state (point w n g) q) d).view) waits) in
         λ i. own q own_parts.1 i || none_marked w n g held d rest' read calm i
 
 -- The run whose device it is
@@ -170,8 +176,8 @@ cut_with t x line r old event = elim (put_in_two t x old.front old.back (Ran (ru
 
 -- .. and so the run changes in its place in the line with the event
 pub event_window : (w : Setting) (n m : Reading) (g h : Grips) (held after : ℕ → ℕ) (d r : ℕ) (x : Item) → CutAt r n.line → IsRead w n → is_weak w.mode ≡ false → ((p : ℕ → Bool) → of_run p x ≡ false) → m.line ≡ with_event w n (device_no d) x → ((q : ℕ) → q ≢ r → m.run q ≡ n.run q)
-    → ((q e : ℕ) → q ≢ r → held_by w q (h e) ≡ held_by w q (g e)) → ChangesInPlace (with_event_in w.kinds (window_of w n g held) d x) (window_of w m h after) r
-event_window w n m g h held after d r x cut read strong event line others grips = in_place w (record n { line = line_with_event w.kinds (window_of w n g held).states d x n.line }) m g h held after r
+    → ((q e : ℕ) → q ≢ r → held_by w q (h e) ≡ held_by w q (g e)) → ChangesInPlace (with_event_in w.kinds (window_of (point w n g) held) d x) (window_of (point w m h) after) r
+event_window w n m g h held after d r x cut read strong event line others grips = in_place w (record n { line = line_with_event w.kinds (window_of (point w n g) held).states d x n.line }) m g h held after r
     (record { front = with_it.front; back = with_it.back; at = sym (event_place w n g held d x read strong) ∙ with_it.at; before = with_it.before; behind = with_it.behind }) (line ∙ event_place w n g held d x read strong) others grips
   where
     with_it : CutAt r (put_before (of_run (awaits_there w n d)) x n.line)
@@ -180,10 +186,10 @@ event_window w n m g h held after d r x cut read strong event line others grips 
 -- Runs that see the device up
 
 -- of a run that stands in the line, a window says that it spans an event there
-pub spans_same : (w : Setting) (n : Reading) (g : Grips) (held : ℕ → ℕ) (d q : ℕ) → IsRead w n → stands_in (n.run q) ≡ true → at_device w.kinds (window_of w n g held).states d spans_up q ≡ (is_open w n q d && sees_up n q d)
+pub spans_same : (w : Setting) (n : Reading) (g : Grips) (held : ℕ → ℕ) (d q : ℕ) → IsRead w n → stands_in (n.run q) ≡ true → at_device w.kinds (window_of (point w n g) held).states d spans_up q ≡ (is_open w n q d && sees_up n q d)
 spans_same w n g held d q read stands = by_live (is_live n q) refl
   where
-    left : uses_device d (rest (run_state w n g q)) ≡ pends w n q d
+    left : uses_device d (rest (run_state (point w n g) q)) ≡ pends w n q d
     left = ap (uses_device d) (rest_drop (commands_of w.runs q) (n.run q).answers)
 
     up_view : (v : Option Bool) → is_up (option_map view_from v) ≡ unwrap_or v false
@@ -191,7 +197,7 @@ spans_same w n g held d q read stands = by_live (is_live n q) refl
     up_view (Some true) = refl
     up_view (Some false) = refl
 
-    seen : is_up (device_summary w.kinds (run_state w n g q) d).view ≡ sees_up n q d
+    seen : is_up (device_summary w.kinds (run_state (point w n g) q) d).view ≡ sees_up n q d
     seen = ap is_up ((read.summarized q).view d) ∙ up_view (view_of n q d)
 
     viewed : (v : Option Bool) → unwrap_or v false ≡ true → is_some v ≡ true
@@ -205,8 +211,10 @@ spans_same w n g held d q read stands = by_live (is_live n q) refl
     alike t l c x p u true s e f i used = grind (arith, common_steps)
     alike t l c x p u false s e f i used = grind (arith, common_steps)
 
-    by_live : (b : Bool) → is_live n q ≡ b → at_device w.kinds (window_of w n g held).states d spans_up q ≡ (is_open w n q d && sees_up n q d)
-    by_live true live = alike (touches w.runs q d) (is_live n q) (is_committed n q) (is_doomed n q) (pends w n q d) (uses_device d (rest (run_state w n g q))) (sees_up n q d) (is_up (device_summary w.kinds (run_state w n g q) d).view) (live ∙ sym (ap not (live_uncommitted n q live))) left seen used
+    by_live : (b : Bool) → is_live n q ≡ b → at_device w.kinds (window_of (point w n g) held).states d spans_up q ≡ (is_open w n q d && sees_up n q d)
+    by_live true live =
+        alike (touches w.runs q d) (is_live n q) (is_committed n q) (is_doomed n q) (pends w n q d) (uses_device d (rest (run_state (point w n g) q)))
+        (sees_up n q d) (is_up (device_summary w.kinds (run_state (point w n g) q) d).view) (live ∙ sym (ap not (live_uncommitted n q live))) left seen used
     by_live false dead =
-        alike (touches w.runs q d) (is_live n q) (is_committed n q) (is_doomed n q) (pends w n q d) (uses_device d (rest (run_state w n g q))) (sees_up n q d)
-        (is_up (device_summary w.kinds (run_state w n g q) d).view) (dead ∙ sym (ap not (stands_committed n q stands dead))) left seen used
+        alike (touches w.runs q d) (is_live n q) (is_committed n q) (is_doomed n q) (pends w n q d) (uses_device d (rest (run_state (point w n g) q))) (sees_up n q d)
+        (is_up (device_summary w.kinds (run_state (point w n g) q) d).view) (dead ∙ sym (ap not (stands_committed n q stands dead))) left seen used

@@ -11,7 +11,7 @@ use Rattle.lineage_table.proofs.Splits.{without_none}
 use Rattle.lineage_table.specs.Accesses.{AreOfTwoRuns, IsDisciplined, accesses_without, is_of}
 use Rattle.lineage_table.specs.Lineages.{LineageState}
 use Rattle.lineage_table.specs.declared.accesses.Access.{Access}
-use Rattle.lock_leasing.specs.Configurations.{Grips}
+use Rattle.lock_leasing.specs.Configurations.{Grips, point}
 use Rattle.lock_leasing.specs.Tables.{uses}
 use Rattle.std.proofs.Common.{ap, arith, refl, subst, sym}
 use Rattle.std.proofs.lemmas.Grind.{common_steps}
@@ -76,11 +76,11 @@ along_each P has_one covering access own each (Failed e k ∷ is) = along_each P
 along_each P has_one covering access own each (Back e k ∷ is) = along_each P has_one covering access own each is
 
 -- at most one for each run
-pub few_accesses : (w : Setting) (n : Reading) (g : Grips) (d : ℕ) (s : LineageState) → LineageIsKept w n g d s → IsDisciplined s.accesses → length s.accesses ≤ length w.runs
+pub few_accesses : (w : Setting) (n : Reading) (g : Grips) (d : ℕ) (s : LineageState) → LineageIsKept (point w n g) d s → IsDisciplined s.accesses → length s.accesses ≤ length w.runs
 few_accesses w n g d s kept disciplined =
     few_runs (length w.runs) s.accesses disciplined.one_each
     (subst (AllByRecursion (IsOneOf (length w.runs))) (sym kept.accesses)
-    (along_each (λ r. (0 < r) × (r ≤ length w.runs)) (uses w n d) (commits_write n d) (access_read w n g kept.passed d) (λ r. refl) (λ r used. run_there w.runs r d (touched r used)) n.line))
+    (along_each (λ r. (0 < r) × (r ≤ length w.runs)) (uses w n d) (commits_write n d) (access_read (point w n g) kept.passed d) (λ r. refl) (λ r used. run_there w.runs r d (touched r used)) n.line))
   where
     touched : (r : ℕ) → uses w n d r ≡ true → touches w.runs r d ≡ true
     touched r used = grind (arith, common_steps)

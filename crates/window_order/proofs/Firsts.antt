@@ -23,7 +23,7 @@ use Rattle.home_types.specs.declared.commands.Answer.{Answer}
 use Rattle.home_types.specs.declared.commands.Command.{Command}
 use Rattle.home_types.specs.declared.items.Item.TheVariants.{Back, Failed, Ran}
 use Rattle.home_types.specs.declared.items.Item.{Item}
-use Rattle.lock_leasing.specs.Configurations.{Grips}
+use Rattle.lock_leasing.specs.Configurations.{Grips, point}
 use Rattle.lock_leasing.specs.Order.{InHistoryOrder, is_late}
 use Rattle.std.proofs.Common.{ap, arith, refl, sym, ◌∙◌}
 use Rattle.std.proofs.lemmas.Bool.{ltb-true, or_parts}
@@ -44,69 +44,69 @@ seen_view None = refl
 seen_view (Some b) = refl
 
 -- a run that has not touched a device has no answer there
-pub untouched_unseen : (w : Setting) (n : Reading) (g : Grips) (held : ℕ → ℕ) (d q : ℕ) → IsRead w n → at_device w.kinds (window_of w n g held).states d has_used_device q ≡ false → did n q d ≡ false
+pub untouched_unseen : (w : Setting) (n : Reading) (g : Grips) (held : ℕ → ℕ) (d q : ℕ) → IsRead w n → at_device w.kinds (window_of (point w n g) held).states d has_used_device q ≡ false → did n q d ≡ false
 untouched_unseen w n g held d q read none = at_ (did n q d) refl
   where
-    view : is_some (device_summary w.kinds (run_state w n g q) d).view ≡ did n q d
+    view : is_some (device_summary w.kinds (run_state (point w n g) q) d).view ≡ did n q d
     view = ap is_some ((read.summarized q).view d) ∙ seen_view (view_of n q d)
 
     clash : (u v c x : Bool) → u ≡ true → v ≡ x → x ≡ true → (u && (v || c)) ≡ false → ⊥
     clash u v c x h k e f = grind (arith, common_steps)
 
     at_ : (b : Bool) → did n q d ≡ b → did n q d ≡ false
-    at_ true e = absurd (clash (uses_device d (commands_of w.runs q)) (is_some (device_summary w.kinds (run_state w n g q) d).view) (holds_command (held_by w q (g d))) (did n q d) (did_touches w n q d read.shaped e) view e none)
+    at_ true e = absurd (clash (uses_device d (commands_of w.runs q)) (is_some (device_summary w.kinds (run_state (point w n g) q) d).view) (holds_command (held_by w q (g d))) (did n q d) (did_touches w n q d read.shaped e) view e none)
     at_ false e = e
 
-pub none_seen : (w : Setting) (n : Reading) (g : Grips) (held : ℕ → ℕ) (d : ℕ) (is : List Item) → IsRead w n → any_run (at_device w.kinds (window_of w n g held).states d has_used_device) is ≡ false → list_any (of_run (λ q. did n q d)) is ≡ false
+pub none_seen : (w : Setting) (n : Reading) (g : Grips) (held : ℕ → ℕ) (d : ℕ) (is : List Item) → IsRead w n → any_run (at_device w.kinds (window_of (point w n g) held).states d has_used_device) is ≡ false → list_any (of_run (λ q. did n q d)) is ≡ false
 unfolding any_run
 none_seen w n g held d [] read none = refl
 none_seen w n g held d (Ran q ∷ is) read none =
-    let parts = or_parts (at_device w.kinds (window_of w n g held).states d has_used_device q.0)
-    (any_run (at_device w.kinds (window_of w n g held).states d has_used_device) is) none in
+    let parts = or_parts (at_device w.kinds (window_of (point w n g) held).states d has_used_device q.0)
+    (any_run (at_device w.kinds (window_of (point w n g) held).states d has_used_device) is) none in
     λ i. untouched_unseen w n g held d q.0 read parts.0 i || none_seen w n g held d is read parts.1 i
 none_seen w n g held d (Failed e k ∷ is) read none = none_seen w n g held d is read none
 none_seen w n g held d (Back e k ∷ is) read none = none_seen w n g held d is read none
 
-pub none_marked : (w : Setting) (n : Reading) (g : Grips) (held : ℕ → ℕ) (d : ℕ) (is : List Item) → IsRead w n → is_calm_line w.kinds (window_of w n g held).states d is ≡ true → list_any (is_marked n d) is ≡ false
+pub none_marked : (w : Setting) (n : Reading) (g : Grips) (held : ℕ → ℕ) (d : ℕ) (is : List Item) → IsRead w n → is_calm_line w.kinds (window_of (point w n g) held).states d is ≡ true → list_any (is_marked n d) is ≡ false
 unfolding is_calm_line
 none_marked w n g held d [] read calm = refl
 none_marked w n g held d (Ran q ∷ is) read calm =
-    let parts = split (at_device w.kinds (window_of w n g held).states d has_used_device q.0) (is_calm_line w.kinds (window_of w n g held).states d is) calm in
+    let parts = split (at_device w.kinds (window_of (point w n g) held).states d has_used_device q.0) (is_calm_line w.kinds (window_of (point w n g) held).states d is) calm in
     λ i. (false || (untouched_unseen w n g held d q.0 read parts.0 i && not (is_late n q.0 d))) || none_marked w n g held d is read parts.1 i
   where
     split : (a b : Bool) → (not a && b) ≡ true → (a ≡ false) × (b ≡ true)
     split a b h = (grind (arith, common_steps), grind (arith, common_steps))
-none_marked w n g held d (Failed e k ∷ is) read calm = let parts = split (e.0 == d) (is_calm_line w.kinds (window_of w n g held).states d is) calm in λ i. (parts.0 i || false) || none_marked w n g held d is read parts.1 i
+none_marked w n g held d (Failed e k ∷ is) read calm = let parts = split (e.0 == d) (is_calm_line w.kinds (window_of (point w n g) held).states d is) calm in λ i. (parts.0 i || false) || none_marked w n g held d is read parts.1 i
   where
     split : (a b : Bool) → (not a && b) ≡ true → (a ≡ false) × (b ≡ true)
     split a b h = (grind (arith, common_steps), grind (arith, common_steps))
-none_marked w n g held d (Back e k ∷ is) read calm = let parts = split (e.0 == d) (is_calm_line w.kinds (window_of w n g held).states d is) calm in λ i. (parts.0 i || false) || none_marked w n g held d is read parts.1 i
+none_marked w n g held d (Back e k ∷ is) read calm = let parts = split (e.0 == d) (is_calm_line w.kinds (window_of (point w n g) held).states d is) calm in λ i. (parts.0 i || false) || none_marked w n g held d is read parts.1 i
   where
     split : (a b : Bool) → (not a && b) ≡ true → (a ≡ false) × (b ≡ true)
     split a b h = (grind (arith, common_steps), grind (arith, common_steps))
 
 pub device_order_at : (w : Setting) (n : Reading) (g : Grips) (held : ℕ → ℕ) (d r : ℕ) (cut : CutAt r n.line) → touches w.runs r d ≡ true
-    → (device_record w.kinds (window_of w n g held) d).order ≡ entries w.kinds (window_of w n g held).states d cut.front ++ Used (usage w.kinds (run_state w n g r) d) ∷ entries w.kinds (window_of w n g held).states d cut.back
-device_order_at w n g held d r cut used = ap (entries w.kinds (window_of w n g held).states d) cut.at ∙ used_at w.kinds (window_of w n g held).states d r cut.front cut.back used
+    → (device_record w.kinds (window_of (point w n g) held) d).order ≡ entries w.kinds (window_of (point w n g) held).states d cut.front ++ Used (usage w.kinds (run_state (point w n g) r) d) ∷ entries w.kinds (window_of (point w n g) held).states d cut.back
+device_order_at w n g held d r cut used = ap (entries w.kinds (window_of (point w n g) held).states d) cut.at ∙ used_at w.kinds (window_of (point w n g) held).states d r cut.front cut.back used
 
 -- behind a run whose command is out on the device no run has an answer there
-pub unseen_behind : (w : Setting) (n : Reading) (g : Grips) (held : ℕ → ℕ) (d r : ℕ) (cut : CutAt r n.line) → IsRead w n → OrderIsKept w n g held → is_device w d ≡ true → touches w.runs r d ≡ true → holds_command (held_by w r (g d)) ≡ true
+pub unseen_behind : (w : Setting) (n : Reading) (g : Grips) (held : ℕ → ℕ) (d r : ℕ) (cut : CutAt r n.line) → IsRead w n → OrderIsKept (point w n g) held → is_device w d ≡ true → touches w.runs r d ≡ true → holds_command (held_by w r (g d)) ≡ true
     → list_any (of_run (λ q. did n q d)) cut.back ≡ false
 unseen_behind w n g held d r cut read kept device used out =
     none_seen w n g held d cut.back read
-    (sym (has_entries w.kinds (window_of w n g held).states d has_used_device cut.back)
-    ∙ alone_behind (device_record w.kinds (window_of w n g held) d) (entries w.kinds (window_of w n g held).states d cut.front)
-    (entries w.kinds (window_of w n g held).states d cut.back) (usage w.kinds (run_state w n g r) d) (kept.window.devices d (below_home w d device))
+    (sym (has_entries w.kinds (window_of (point w n g) held).states d has_used_device cut.back)
+    ∙ alone_behind (device_record w.kinds (window_of (point w n g) held) d) (entries w.kinds (window_of (point w n g) held).states d cut.front)
+    (entries w.kinds (window_of (point w n g) held).states d cut.back) (usage w.kinds (run_state (point w n g) r) d) (kept.window.devices d (below_home w d device))
     (device_order_at w n g held d r cut used) out)
 
 -- behind one whose first answer is still to come, and will count, nothing has happened on the device
-pub calm_behind : (w : Setting) (n : Reading) (g : Grips) (held : ℕ → ℕ) (d r : ℕ) (cut : CutAt r n.line) → IsRead w n → OrderIsKept w n g held → is_device w d ≡ true → touches w.runs r d ≡ true → awaits_first (usage w.kinds (run_state w n g r) d) ≡ true
+pub calm_behind : (w : Setting) (n : Reading) (g : Grips) (held : ℕ → ℕ) (d r : ℕ) (cut : CutAt r n.line) → IsRead w n → OrderIsKept (point w n g) held → is_device w d ≡ true → touches w.runs r d ≡ true → awaits_first (usage w.kinds (run_state (point w n g) r) d) ≡ true
     → list_any (is_marked n d) cut.back ≡ false
 calm_behind w n g held d r cut read kept device used awaits =
     none_marked w n g held d cut.back read
-    (sym (calm_entries w.kinds (window_of w n g held).states d cut.back)
-    ∙ waits_calm (device_record w.kinds (window_of w n g held) d) (entries w.kinds (window_of w n g held).states d cut.front)
-    (entries w.kinds (window_of w n g held).states d cut.back) (usage w.kinds (run_state w n g r) d) (kept.window.devices d (below_home w d device))
+    (sym (calm_entries w.kinds (window_of (point w n g) held).states d cut.back)
+    ∙ waits_calm (device_record w.kinds (window_of (point w n g) held) d) (entries w.kinds (window_of (point w n g) held).states d cut.front)
+    (entries w.kinds (window_of (point w n g) held).states d cut.back) (usage w.kinds (run_state (point w n g) r) d) (kept.window.devices d (below_home w d device))
     (device_order_at w n g held d r cut used) awaits)
 
 -- An answer

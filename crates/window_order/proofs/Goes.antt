@@ -26,7 +26,7 @@ use Rattle.history_book.specs.declared.entries.End.{End}
 use Rattle.home_types.specs.declared.items.Item.TheVariants.{Back, Failed, Ran}
 use Rattle.home_types.specs.declared.items.Item.{Item}
 use Rattle.home_types.specs.declared.numbers.RunNo.{RunNo}
-use Rattle.lock_leasing.specs.Configurations.{Grip, Grips}
+use Rattle.lock_leasing.specs.Configurations.{Grip, Grips, point}
 use Rattle.lock_leasing.specs.Waits.{behind_wait}
 use Rattle.lock_leasing.specs.Words.{Write, effective_write, has_effect, holds_device, is_undone, last_some, live_before, live_runs, write_of}
 use Rattle.std.proofs.Common.{ap, arith, cond, inl, inr, refl, subst, sym, ◌∙◌}
@@ -107,10 +107,10 @@ found_live n p (Back d k ∷ is) none x stands live = found_live n p is none x s
 -- No run before it has a command left
 
 -- a run that does not hold the device has none left there
-none_left_there : (w : Setting) (n : Reading) (g : Grips) (held : ℕ → ℕ) (d x : ℕ) → stands_in (n.run x) ≡ true → (is_live n x ≡ true → holds_device w n g x d ≡ false) → at_device w.kinds (window_of w n g held).states d has_pending x ≡ false
+none_left_there : (w : Setting) (n : Reading) (g : Grips) (held : ℕ → ℕ) (d x : ℕ) → stands_in (n.run x) ≡ true → (is_live n x ≡ true → holds_device (point w n g) x d ≡ false) → at_device w.kinds (window_of (point w n g) held).states d has_pending x ≡ false
 none_left_there w n g held d x stands none = at_ (is_live n x) refl
   where
-    left : uses_device d (rest (run_state w n g x)) ≡ pends w n x d
+    left : uses_device d (rest (run_state (point w n g) x)) ≡ pends w n x d
     left = ap (uses_device d) (rest_drop (commands_of w.runs x) (n.run x).answers)
 
     closed : (u y z : Bool) → (u && stage_is_open (stage_of true y z)) ≡ false
@@ -122,14 +122,18 @@ none_left_there w n g held d x stands none = at_ (is_live n x) refl
     live_off : (l x p e : Bool) → l ≡ true → (l && (if x then e else p)) ≡ false → (true && (if x then e else p)) ≡ false
     live_off l x p e h k = grind (arith, common_steps)
 
-    at_ : (b : Bool) → is_live n x ≡ b → at_device w.kinds (window_of w n g held).states d has_pending x ≡ false
+    at_ : (b : Bool) → is_live n x ≡ b → at_device w.kinds (window_of (point w n g) held).states d has_pending x ≡ false
     at_ true live =
-        off (uses_device d (commands_of w.runs x)) (is_committed n x) (is_doomed n x) (uses_device d (rest (run_state w n g x))) (pends w n x d)
+        off (uses_device d (commands_of w.runs x)) (is_committed n x) (is_doomed n x) (uses_device d (rest (run_state (point w n g) x))) (pends w n x d)
         (touches w.runs x d && has_effect n g x d) left
         (live_off (is_live n x) (is_doomed n x) (pends w n x d) (touches w.runs x d && has_effect n g x d) live (none live))
-    at_ false dead = ap (λ c. uses_device d (commands_of w.runs x) && stage_is_open (stage_of c (is_doomed n x) (uses_device d (rest (run_state w n g x))))) (stands_committed n x stands dead) ∙ closed (uses_device d (commands_of w.runs x)) (is_doomed n x) (uses_device d (rest (run_state w n g x)))
+    at_ false dead =
+        ap (λ c. uses_device d (commands_of w.runs x) && stage_is_open (stage_of c (is_doomed n x) (uses_device d (rest (run_state (point w n g) x)))))
+        (stands_committed n x stands dead) ∙ closed (uses_device d (commands_of w.runs x)) (is_doomed n x) (uses_device d (rest (run_state (point w n g) x)))
 
-none_pending : (w : Setting) (n : Reading) (g : Grips) (held : ℕ → ℕ) (d : ℕ) (part : List Item) → StandIn n part → ((x : ℕ) → list_any (is_ran x) part ≡ true → is_live n x ≡ true → holds_device w n g x d ≡ false) → any_run (at_device w.kinds (window_of w n g held).states d has_pending) part ≡ false
+none_pending : (w : Setting) (n : Reading) (g : Grips) (held : ℕ → ℕ) (d : ℕ) (part : List Item) → StandIn n part
+    → ((x : ℕ) → list_any (is_ran x) part ≡ true → is_live n x ≡ true → holds_device (point w n g) x d ≡ false)
+    → any_run (at_device w.kinds (window_of (point w n g) held).states d has_pending) part ≡ false
 unfolding any_run
 none_pending w n g held d [] stands none = refl
 none_pending w n g held d (Ran q ∷ is) stands none =
@@ -138,19 +142,19 @@ none_pending w n g held d (Ran q ∷ is) stands none =
 none_pending w n g held d (Failed e k ∷ is) stands none = none_pending w n g held d is stands none
 none_pending w n g held d (Back e k ∷ is) stands none = none_pending w n g held d is stands none
 
-pub none_before : (w : Setting) (n : Reading) (g : Grips) (held : ℕ → ℕ) (r d : ℕ) (cut : CutAt r n.line) → IsRead w n → behind_wait w n g r d ≡ None → any_run (at_device w.kinds (window_of w n g held).states d has_pending) cut.front ≡ false
+pub none_before : (w : Setting) (n : Reading) (g : Grips) (held : ℕ → ℕ) (r d : ℕ) (cut : CutAt r n.line) → IsRead w n → behind_wait (point w n g) r d ≡ None → any_run (at_device w.kinds (window_of (point w n g) held).states d has_pending) cut.front ≡ false
 none_before w n g held r d cut read none =
-    none_pending w n g held d cut.front (front_stands w n r cut read) (found_live n (λ x. holds_device w n g x d) cut.front
-    (sym (ap (λ l. find (λ x. holds_device w n g x d) (live_runs n l)) (ap (before r) cut.at ∙ before_cut r cut.front cut.back cut.before)) ∙ none))
+    none_pending w n g held d cut.front (front_stands w n r cut read) (found_live n (λ x. holds_device (point w n g) x d) cut.front
+    (sym (ap (λ l. find (λ x. holds_device (point w n g) x d) (live_runs n l)) (ap (before r) cut.at ∙ before_cut r cut.front cut.back cut.before)) ∙ none))
 
 -- No grip of the device is out
 
-pub none_hold : (w : Setting) (n : Reading) (g : Grips) (held : ℕ → ℕ) (d : ℕ) (line : List Item) → g d ≡ None → any_run (at_device w.kinds (window_of w n g held).states d holds_grip) line ≡ false
+pub none_hold : (w : Setting) (n : Reading) (g : Grips) (held : ℕ → ℕ) (d : ℕ) (line : List Item) → g d ≡ None → any_run (at_device w.kinds (window_of (point w n g) held).states d holds_grip) line ≡ false
 unfolding any_run
 none_hold w n g held d [] home = refl
 none_hold w n g held d (Ran q ∷ is) home = λ i. free i || none_hold w n g held d is home i
   where
-    free : at_device w.kinds (window_of w n g held).states d holds_grip q.0 ≡ false
+    free : at_device w.kinds (window_of (point w n g) held).states d holds_grip q.0 ≡ false
     free = ap (λ (o : Option Grip). uses_device d (commands_of w.runs q.0) && not (is_free (held_by w q.0 o))) home ∙ and_right (uses_device d (commands_of w.runs q.0)) false refl
 none_hold w n g held d (Failed e k ∷ is) home = none_hold w n g held d is home
 none_hold w n g held d (Back e k ∷ is) home = none_hold w n g held d is home
@@ -158,25 +162,25 @@ none_hold w n g held d (Back e k ∷ is) home = none_hold w n g held d is home
 -- It reads no live write
 
 -- behind an open run no run has an answer
-pub open_behind : (w : Setting) (n : Reading) (g : Grips) (held : ℕ → ℕ) (d r : ℕ) (cut : CutAt r n.line) → IsRead w n → OrderIsKept w n g held → is_device w d ≡ true → touches w.runs r d ≡ true → stage_is_open (usage w.kinds (run_state w n g r) d).stage ≡ true
+pub open_behind : (w : Setting) (n : Reading) (g : Grips) (held : ℕ → ℕ) (d r : ℕ) (cut : CutAt r n.line) → IsRead w n → OrderIsKept (point w n g) held → is_device w d ≡ true → touches w.runs r d ≡ true → stage_is_open (usage w.kinds (run_state (point w n g) r) d).stage ≡ true
     → list_any (of_run (λ q. did n q d)) cut.back ≡ false
 open_behind w n g held d r at read kept device used pending =
-    none_seen w n g held d at.back read (sym (has_entries w.kinds (window_of w n g held).states d has_used_device at.back) ∙ untouched_behind (after_usage (walk_end z a) u) b (opened (walk_end z a) u pending) parts.rest)
+    none_seen w n g held d at.back read (sym (has_entries w.kinds (window_of (point w n g) held).states d has_used_device at.back) ∙ untouched_behind (after_usage (walk_end z a) u) b (opened (walk_end z a) u pending) parts.rest)
   where
     z : WalkState
-    z = walk_start (device_record w.kinds (window_of w n g held) d).first_up (device_record w.kinds (window_of w n g held) d).first
+    z = walk_start (device_record w.kinds (window_of (point w n g) held) d).first_up (device_record w.kinds (window_of (point w n g) held) d).first
 
     u : Usage
-    u = usage w.kinds (run_state w n g r) d
+    u = usage w.kinds (run_state (point w n g) r) d
 
     a : List OrderEntry
-    a = entries w.kinds (window_of w n g held).states d at.front
+    a = entries w.kinds (window_of (point w n g) held).states d at.front
 
     b : List OrderEntry
-    b = entries w.kinds (window_of w n g held).states d at.back
+    b = entries w.kinds (window_of (point w n g) held).states d at.back
 
     parts : Cut z a u b
-    parts = cut z a u b (subst (λ l. WalkHolds z l) (ap (entries w.kinds (window_of w n g held).states d) at.at ∙ used_at w.kinds (window_of w n g held).states d r at.front at.back used) (kept.window.devices d (below_home w d device)).walk)
+    parts = cut z a u b (subst (λ l. WalkHolds z l) (ap (entries w.kinds (window_of (point w n g) held).states d) at.at ∙ used_at w.kinds (window_of (point w n g) held).states d r at.front at.back used) (kept.window.devices d (below_home w d device)).walk)
 
     opened : (s : WalkState) (c : Usage) → stage_is_open c.stage ≡ true → ((after_usage s c).opened || is_command_out (after_usage s c).out) ≡ true
     opened s c h = grind (arith, common_steps)
@@ -224,7 +228,7 @@ writer_stands n g d (Back x k ∷ is) best e at = writer_stands n g d is best e 
 
 -- where nothing is written from the run on, and no live run before it has the effective write, the effective write before it is a committed run's
 pub clean_before : (w : Setting) (n : Reading) (g : Grips) (held : ℕ → ℕ) (r d : ℕ) (cut : CutAt r n.line) → IsRead w n → list_any (of_run (λ q. did n q d)) cut.back ≡ false → ((n.run r).on d).wrote ≡ None → find (λ x. has_effect n g x d) (live_before n r) ≡ None
-    → option_map_or (λ q. ((window_of w n g held).states q).committed) (last_in_effect w.kinds (window_of w n g held).states d None cut.front) true ≡ true
+    → option_map_or (λ q. ((window_of (point w n g) held).states q).committed) (last_in_effect w.kinds (window_of (point w n g) held).states d None cut.front) true ≡ true
 clean_before w n g held r d cut read unseen own none =
     ap (λ o. option_map_or (λ q. is_committed n q) o true) (writer_on_line w n g d cut.front read) ∙ at_ (last_some (write_of n g d) cut.front) refl
   where

@@ -1,7 +1,9 @@
 -- What the grip of one device says of the runs.
 use Rattle.history_book.proofs.Snoc.{put_keeps, put_other, put_same}
 use Rattle.history_book.specs.Readings.{put}
-use Rattle.lock_leasing.specs.Configurations.{Grip, Grips, Probes, Purpose, grips_command, grips_undo, is_command, is_undo}
+use Rattle.lock_leasing.specs.Configurations.{Grip, Grips, grips_command, grips_undo, is_command, is_undo}
+use Rattle.lock_leasing.specs.declared.purposes.Purpose.TheVariants.{Probes}
+use Rattle.lock_leasing.specs.declared.purposes.Purpose.{Purpose}
 use Rattle.std.proofs.Common.{ap, arith, refl, sym, ◌∙◌}
 use Rattle.std.proofs.lemmas.Bool.{and_right}
 use Rattle.std.proofs.lemmas.Grind.{common_steps}

@@ -15,7 +15,8 @@ use Rattle.lineage_table.specs.Lineages.{LineageState, undone}
 use Rattle.lineage_table.specs.declared.accesses.Access.{Access}
 use Rattle.lineage_table.specs.declared.accesses.Status.TheVariants.{Acquired, Released, Scheduled}
 use Rattle.lineage_table.specs.declared.accesses.Status.{Status}
-use Rattle.lock_leasing.specs.Configurations.{Commands, Grips, Undoes, grips_command, grips_undo}
+use Rattle.lock_leasing.specs.Configurations.{Grips, grips_command, grips_undo, point}
+use Rattle.lock_leasing.specs.declared.purposes.Purpose.TheVariants.{Commands, Undoes}
 use Rattle.lock_leasing.specs.Tables.{may_be_passed, view_when}
 use Rattle.std.proofs.Common.{ap, arith, refl, subst, sym, ◌∙◌}
 use Rattle.std.proofs.lemmas.Bool.{eq-eqb, ne_eqb, or_right}
@@ -31,13 +32,13 @@ use Rattle.window_order.specs.TableKept.{LineageIsKept}
 -- A command goes out
 
 -- a run that is not doomed, with a command left on the device, stands as it stood
-pub command_out_kept : (w : Setting) (n : Reading) (g : Grips) (d r k : ℕ) → g d ≡ None → is_doomed n r ≡ false → pends w n r d ≡ true → (e : ℕ) (s : LineageState) → LineageIsKept w n g e s → LineageIsKept w n (put g d (Some (record { maker = r; purpose = Commands k }))) e s
-command_out_kept w n g d r k at sound pending e = two_places (λ x. (s : LineageState) → LineageIsKept w n g x s → LineageIsKept w n h x s) e d there elsewhere
+pub command_out_kept : (w : Setting) (n : Reading) (g : Grips) (d r k : ℕ) → g d ≡ None → is_doomed n r ≡ false → pends w n r d ≡ true → (e : ℕ) (s : LineageState) → LineageIsKept (point w n g) e s → LineageIsKept (point w n (put g d (Some (record { maker = r; purpose = Commands k })))) e s
+command_out_kept w n g d r k at sound pending e = two_places (λ x. (s : LineageState) → LineageIsKept (point w n g) x s → LineageIsKept (point w n h) x s) e d there elsewhere
   where
     h : Grips
     h = put g d (Some (record { maker = r; purpose = Commands k }))
 
-    elsewhere : e ≢ d → (s : LineageState) → LineageIsKept w n g e s → LineageIsKept w n h e s
+    elsewhere : e ≢ d → (s : LineageState) → LineageIsKept (point w n g) e s → LineageIsKept (point w n h) e s
     elsewhere ne s kept = lineage_same w n n g h e s (uses_same w n g h e (λ q may. may_gripped g h e q (n.run q) (grip_elsewhere g d e q (Some (record { maker = r; purpose = Commands k })) ne).command ∙ may)) kept
         (λ q. access_gripped w g h kept.passed e q (n.run q) (grip_elsewhere g d e q (Some (record { maker = r; purpose = Commands k })) ne))
 
@@ -68,7 +69,7 @@ command_out_kept w n g d r k at sound pending e = two_places (λ x. (s : Lineage
     may q = two_places (λ x. may_be_passed n g x d ≡ true → may_be_passed n h x d ≡ true) q r (λ may. absurd (clash (is_doomed n r) (not (did n r d || grips_command g r d)) sound may))
         (λ ne may. may_gripped g h d q (n.run q) (grip_out g d r q (Commands k) at ne).command ∙ may)
 
-    there : (s : LineageState) → LineageIsKept w n g d s → LineageIsKept w n h d s
+    there : (s : LineageState) → LineageIsKept (point w n g) d s → LineageIsKept (point w n h) d s
     there s kept = lineage_same w n n g h d s (uses_same w n g h d may) kept (λ q. two_places (λ x. access_by w h kept.passed d x (n.run x) ≡ access_by w g kept.passed d x (n.run x)) q r (own kept.passed) (λ ne. access_gripped w g h kept.passed d q (n.run q) (grip_out g d r q (Commands k) at ne)))
 
 -- An undo goes out
@@ -77,13 +78,13 @@ command_out_kept w n g d r k at sound pending e = two_places (λ x. (s : Lineage
 undone_each : (P : ℕ → LineageState → LineageState → Type 0) (r d : ℕ) → ((s : LineageState) → P d s (undone r s)) → ((e : ℕ) (s : LineageState) → e ≢ d → P e s s) → (e : ℕ) (s : LineageState) → P e s (undone_change r d e s)
 undone_each P r d there elsewhere e s = two_places (λ x. P x s (undone_change r d x s)) e d (subst (P d s) (λ i. if sym (eq-eqb d d refl) i then undone r s else s) (there s)) (λ ne. subst (P e s) (λ i. if sym (ne_eqb e d ne) i then undone r s else s) (elsewhere e s ne))
 
-pub undo_out_kept : (w : Setting) (n : Reading) (g : Grips) (d r v : ℕ) → IsRead w n → g d ≡ None → (e : ℕ) (s : LineageState) → LineageIsKept w n g e s → LineageIsKept w n (put g d (Some (record { maker = r; purpose = Undoes v }))) e (undone_change r d e s)
-undo_out_kept w n g d r v read at = undone_each (λ e s t. LineageIsKept w n g e s → LineageIsKept w n h e t) r d there elsewhere
+pub undo_out_kept : (w : Setting) (n : Reading) (g : Grips) (d r v : ℕ) → IsRead w n → g d ≡ None → (e : ℕ) (s : LineageState) → LineageIsKept (point w n g) e s → LineageIsKept (point w n (put g d (Some (record { maker = r; purpose = Undoes v })))) e (undone_change r d e s)
+undo_out_kept w n g d r v read at = undone_each (λ e s t. LineageIsKept (point w n g) e s → LineageIsKept (point w n h) e t) r d there elsewhere
   where
     h : Grips
     h = put g d (Some (record { maker = r; purpose = Undoes v }))
 
-    elsewhere : (e : ℕ) (s : LineageState) → e ≢ d → LineageIsKept w n g e s → LineageIsKept w n h e s
+    elsewhere : (e : ℕ) (s : LineageState) → e ≢ d → LineageIsKept (point w n g) e s → LineageIsKept (point w n h) e s
     elsewhere e s ne kept = lineage_same w n n g h e s (uses_same w n g h e (λ q may. may_gripped g h e q (n.run q) (grip_elsewhere g d e q (Some (record { maker = r; purpose = Undoes v })) ne).command ∙ may)) kept
         (λ q. access_gripped w g h kept.passed e q (n.run q) (grip_elsewhere g d e q (Some (record { maker = r; purpose = Undoes v })) ne))
 
@@ -103,7 +104,7 @@ undo_out_kept w n g d r v read at = undone_each (λ e s t. LineageIsKept w n g e
       to = planned_end (n.run r).planned d;
     }
 
-    there : (s : LineageState) → LineageIsKept w n g d s → LineageIsKept w n h d (undone r s)
+    there : (s : LineageState) → LineageIsKept (point w n g) d s → LineageIsKept (point w n h) d (undone r s)
     there s kept =
         lineage_changed w n n g h d r (λ x. record x { wrote = None }) s (runs_distinct n read.once)
         (uses_same w n g h d (λ q may. may_gripped g h d q (n.run q) (none_out q) ∙ may)) kept (own kept.passed)
@@ -143,7 +144,7 @@ undid_uses w n g h r d e drove same = record {
     writes = put_keeps (λ x. x.wrote) old.on d (record (old.on d) { undid = true }) refl e
 
 -- on another device nothing changes
-undid_elsewhere : (w : Setting) (n : Reading) (g h : Grips) (r d e : ℕ) (drove : Bool) (s : LineageState) → ((q : ℕ) → SameGrip g h e q) → e ≢ d → LineageIsKept w n g e s → LineageIsKept w (entry w n (Undid (run_no r) (device_no d) drove)) h e s
+undid_elsewhere : (w : Setting) (n : Reading) (g h : Grips) (r d e : ℕ) (drove : Bool) (s : LineageState) → ((q : ℕ) → SameGrip g h e q) → e ≢ d → LineageIsKept (point w n g) e s → LineageIsKept (point w (entry w n (Undid (run_no r) (device_no d) drove)) h) e s
 undid_elsewhere w n g h r d e drove s same ne kept = lineage_same w n m g h e s (undid_uses w n g h r d e drove (λ q. (same q).command)) kept
     (λ q. access_gripped w g h kept.passed e q (m.run q) (same q) ∙ put_says (access_by w g kept.passed e) n.run r new (λ i. record {
       run = run_no r;
@@ -181,8 +182,8 @@ undid_own w n g h passed r d same = λ i. record {
     there = put_same (n.run r).on d (record ((n.run r).on d) { undid = true })
 
 -- an undo that was out comes home: it was undone as it went out
-pub undid_kept : (w : Setting) (n : Reading) (g : Grips) (d r v : ℕ) (drove : Bool) → g d ≡ Some (record { maker = r; purpose = Undoes v }) → (e : ℕ) (s : LineageState) → LineageIsKept w n g e s → LineageIsKept w (entry w n (Undid (run_no r) (device_no d) drove)) (put g d None) e s
-undid_kept w n g d r v drove at e = two_places (λ x. (s : LineageState) → LineageIsKept w n g x s → LineageIsKept w m h x s) e d there (λ ne s kept. undid_elsewhere w n g h r d e drove s (λ q. grip_elsewhere g d e q None ne) ne kept)
+pub undid_kept : (w : Setting) (n : Reading) (g : Grips) (d r v : ℕ) (drove : Bool) → g d ≡ Some (record { maker = r; purpose = Undoes v }) → (e : ℕ) (s : LineageState) → LineageIsKept (point w n g) e s → LineageIsKept (point w (entry w n (Undid (run_no r) (device_no d) drove)) (put g d None)) e s
+undid_kept w n g d r v drove at e = two_places (λ x. (s : LineageState) → LineageIsKept (point w n g) x s → LineageIsKept (point w m h) x s) e d there (λ ne s kept. undid_elsewhere w n g h r d e drove s (λ q. grip_elsewhere g d e q None ne) ne kept)
   where
     m : Reading
     m = entry w n (Undid (run_no r) (device_no d) drove)
@@ -202,19 +203,19 @@ undid_kept w n g d r v drove at e = two_places (λ x. (s : LineageState) → Lin
     already : (passed : ℕ → Bool) → record (access_by w g passed d r (n.run r)) { wrote = None } ≡ access_by w g passed d r (n.run r)
     already passed = λ i. record (access_by w g passed d r (n.run r)) { wrote = if either ((n.run r).on d).undid (grips_undo g r d) (own_undo g d r (Undoes v) at) i then None else ((n.run r).on d).wrote }
 
-    there : (s : LineageState) → LineageIsKept w n g d s → LineageIsKept w m h d s
+    there : (s : LineageState) → LineageIsKept (point w n g) d s → LineageIsKept (point w m h) d s
     there s kept = lineage_same w n m g h d s (undid_uses w n g h r d d drove none_out) kept (λ q. two_places (λ x. access_by w h kept.passed d x (m.run x) ≡ access_by w g kept.passed d x (n.run x)) q r
         (ap (access_by w h kept.passed d r) (put_same n.run r (undone_run n r d)) ∙ undid_own w n g h kept.passed r d (none_out r) ∙ already kept.passed)
         (λ ne. access_gripped w g h kept.passed d q (m.run q) (grip_home g d r q (Undoes v) at ne) ∙ ap (access_by w g kept.passed d q) (put_other n.run r (undone_run n r d) q ne)))
 
 -- an undo is left out
-pub undo_dropped_kept : (w : Setting) (n : Reading) (g : Grips) (d r : ℕ) (drove : Bool) → IsRead w n → (e : ℕ) (s : LineageState) → LineageIsKept w n g e s → LineageIsKept w (entry w n (Undid (run_no r) (device_no d) drove)) g e (undone_change r d e s)
-undo_dropped_kept w n g d r drove read = undone_each (λ e s t. LineageIsKept w n g e s → LineageIsKept w m g e t) r d there (λ e s ne kept. undid_elsewhere w n g g r d e drove s (λ q. record { command = refl; undo = refl }) ne kept)
+pub undo_dropped_kept : (w : Setting) (n : Reading) (g : Grips) (d r : ℕ) (drove : Bool) → IsRead w n → (e : ℕ) (s : LineageState) → LineageIsKept (point w n g) e s → LineageIsKept (point w (entry w n (Undid (run_no r) (device_no d) drove)) g) e (undone_change r d e s)
+undo_dropped_kept w n g d r drove read = undone_each (λ e s t. LineageIsKept (point w n g) e s → LineageIsKept (point w m g) e t) r d there (λ e s ne kept. undid_elsewhere w n g g r d e drove s (λ q. record { command = refl; undo = refl }) ne kept)
   where
     m : Reading
     m = entry w n (Undid (run_no r) (device_no d) drove)
 
-    there : (s : LineageState) → LineageIsKept w n g d s → LineageIsKept w m g d (undone r s)
+    there : (s : LineageState) → LineageIsKept (point w n g) d s → LineageIsKept (point w m g) d (undone r s)
     there s kept = lineage_changed w n m g g d r (λ x. record x { wrote = None }) s (runs_distinct n read.once) (undid_uses w n g g r d d drove (λ q. refl)) kept
         (ap (access_by w g kept.passed d r) (put_same n.run r (undone_run n r d)) ∙ undid_own w n g g kept.passed r d refl) (λ q ne. ap (access_by w g kept.passed d q) (put_other n.run r (undone_run n r d) q ne))
 
@@ -257,8 +258,8 @@ abbrev pub doomed_run : Reading → ℕ → Cause → OfRun
 doomed_run n r cause = record (n.run r) { doomed = Some cause }
 
 pub doomed_kept : (w : Setting) (n : Reading) (g : Grips) (r : ℕ) (cause : Cause) → IsRead w n → is_doomed n r ≡ false
-    → ((d : ℕ) → grips_command g r d ≡ true → pends w n r d ≡ true) → (d : ℕ) (s : LineageState) → LineageIsKept w n g d s
-    → LineageIsKept w (entry w n (Doomed (run_no r) cause)) g d (doomed_change g r d s)
+    → ((d : ℕ) → grips_command g r d ≡ true → pends w n r d ≡ true) → (d : ℕ) (s : LineageState) → LineageIsKept (point w n g) d s
+    → LineageIsKept (point w (entry w n (Doomed (run_no r) cause)) g) d (doomed_change g r d s)
 doomed_kept w n g r cause read sound pending d s kept = at_ (grips_command g r d) refl
   where
     m : Reading
@@ -320,6 +321,6 @@ doomed_kept w n g r cause read sound pending d s kept = at_ (grips_command g r d
         released true false = refl
         released false b = refl
 
-    at_ : (b : Bool) → grips_command g r d ≡ b → LineageIsKept w m g d (if b then s else doomed_lineage r s)
+    at_ : (b : Bool) → grips_command g r d ≡ b → LineageIsKept (point w m g) d (if b then s else doomed_lineage r s)
     at_ true e = lineage_same w n m g g d s same kept (λ q. two_places (λ x. access_by w g kept.passed d x (m.run x) ≡ access_by w g kept.passed d x (n.run x)) q r (ap (access_by w g kept.passed d r) own ∙ still e) (other kept.passed q))
-    at_ false e = subst (LineageIsKept w m g d) (sym (doomed_is r s)) (lineage_changed w n m g g d r let_go s (runs_distinct n read.once) same kept (ap (access_by w g kept.passed d r) own ∙ goes e) (other kept.passed))
+    at_ false e = subst (LineageIsKept (point w m g) d) (sym (doomed_is r s)) (lineage_changed w n m g g d r let_go s (runs_distinct n read.once) same kept (ap (access_by w g kept.passed d r) own ∙ goes e) (other kept.passed))

@@ -7,7 +7,9 @@ use Rattle.history_book.proofs.Searches.{some_is}
 use Rattle.history_book.specs.Readings.{OfRun, Reading, is_committing, put}
 use Rattle.history_book.specs.Settings.{Setting, is_device}
 use Rattle.home_types.specs.Commands.{holds}
-use Rattle.lock_leasing.specs.Configurations.{Commands, Grip, Grips, Probes, Purpose, Undoes, is_out}
+use Rattle.lock_leasing.specs.Configurations.{Grip, Grips, is_out, point}
+use Rattle.lock_leasing.specs.declared.purposes.Purpose.TheVariants.{Commands, Probes, Undoes}
+use Rattle.lock_leasing.specs.declared.purposes.Purpose.{Purpose}
 use Rattle.lock_leasing.specs.Places.{GripsFit}
 use Rattle.lock_leasing.specs.Waits.{grip_wait}
 use Rattle.std.proofs.Common.{ap, arith, refl, subst, sym, ◌∙◌}
@@ -38,13 +40,13 @@ AllMay w n g = (d r : ℕ) (p : Purpose) → g d ≡ Some (record { maker = r; p
 abbrev pub HoldsNone : Grips → ℕ → Type 0
 HoldsNone g r = (d : ℕ) (p : Purpose) → g d ≡ Some (record { maker = r; purpose = p }) → ⊥
 
-pub all_may : (w : Setting) (n : Reading) (g : Grips) → GripsFit w n g → AllMay w n g
+pub all_may : (w : Setting) (n : Reading) (g : Grips) → GripsFit (point w n g) → AllMay w n g
 all_may w n g f d r (Commands k) at = f.runs.commands d r k at
 all_may w n g f d r (Undoes v) at = f.runs.undos d r v at
 all_may w n g f d r (Probes v) at = f.probes d r v at
 
 pub fits_from : (w : Setting) (n : Reading) (g : Grips) → ((d : ℕ) → is_out g d ≡ true → is_device w d ≡ true) → AllMay w n g
-    → ((d e r : ℕ) (p q : Purpose) → g d ≡ Some (record { maker = suc r; purpose = p }) → g e ≡ Some (record { maker = suc r; purpose = q }) → d ≡ e) → GripsFit w n g
+    → ((d e r : ℕ) (p q : Purpose) → g d ≡ Some (record { maker = suc r; purpose = p }) → g e ≡ Some (record { maker = suc r; purpose = q }) → d ≡ e) → GripsFit (point w n g)
 fits_from w n g homed may one = record {
   homed = homed;
   runs = record { commands = λ d r k at. may d r (Commands k) at; undos = λ d r v at. may d r (Undoes v) at; one = one };
@@ -52,7 +54,7 @@ fits_from w n g homed may one = record {
 }
 
 -- where a run that holds no grip changes
-pub fits_other : (w : Setting) (n m : Reading) (g : Grips) (r : ℕ) → ((q : ℕ) → q ≢ r → m.run q ≡ n.run q) → HoldsNone g r → GripsFit w n g → GripsFit w m g
+pub fits_other : (w : Setting) (n m : Reading) (g : Grips) (r : ℕ) → ((q : ℕ) → q ≢ r → m.run q ≡ n.run q) → HoldsNone g r → GripsFit (point w n g) → GripsFit (point w m g)
 fits_other w n m g r others none f = fits_from w m g f.homed (λ d q p at. at_ d q p at (all_may w n g f d q p at)) f.runs.one
   where
     other : (d q : ℕ) (p : Purpose) → g d ≡ Some (record { maker = q; purpose = p }) → q ≢ r
@@ -64,7 +66,7 @@ fits_other w n m g r others none f = fits_from w m g f.homed (λ d q p at. at_ d
     at_ d q (Probes v) at may = may
 
 -- where each run may hold what it held
-pub fits_same : (w : Setting) (n m : Reading) (g : Grips) → ((q d k : ℕ) → may_command w q d k (m.run q) ≡ may_command w q d k (n.run q)) → ((q d : ℕ) → may_undo d (m.run q) ≡ may_undo d (n.run q)) → GripsFit w n g → GripsFit w m g
+pub fits_same : (w : Setting) (n m : Reading) (g : Grips) → ((q d k : ℕ) → may_command w q d k (m.run q) ≡ may_command w q d k (n.run q)) → ((q d : ℕ) → may_undo d (m.run q) ≡ may_undo d (n.run q)) → GripsFit (point w n g) → GripsFit (point w m g)
 fits_same w n m g commands undos f = fits_from w m g f.homed (λ d q p at. at_ d q p (all_may w n g f d q p at)) f.runs.one
   where
     at_ : (d q : ℕ) (p : Purpose) → MayGrip w n d q p → MayGrip w m d q p
@@ -84,7 +86,7 @@ was_out g d e x = at_ (e == d)
     at_ false h = h
 
 -- a grip comes home
-pub fits_without : (w : Setting) (n : Reading) (g : Grips) (d : ℕ) → GripsFit w n g → GripsFit w n (put g d None)
+pub fits_without : (w : Setting) (n : Reading) (g : Grips) (d : ℕ) → GripsFit (point w n g) → GripsFit (point w n (put g d None))
 fits_without w n g d f =
     fits_from w n (put g d None) (λ e out. f.homed e (still_out e (e == d) out)) (λ e q p at. all_may w n g f e q p (was_out g d e (record { maker = q; purpose = p }) at))
     (λ e i q p s at at'. f.runs.one e i q p s (was_out g d e (record { maker = suc q; purpose = p }) at) (was_out g d i (record { maker = suc q; purpose = s }) at'))
@@ -94,7 +96,7 @@ fits_without w n g d f =
     still_out e false out = out
 
 -- the run whose grip came home holds none
-pub none_left : (w : Setting) (n : Reading) (g : Grips) (d r : ℕ) (p : Purpose) → g d ≡ Some (record { maker = suc r; purpose = p }) → GripsFit w n g → HoldsNone (put g d None) (suc r)
+pub none_left : (w : Setting) (n : Reading) (g : Grips) (d r : ℕ) (p : Purpose) → g d ≡ Some (record { maker = suc r; purpose = p }) → GripsFit (point w n g) → HoldsNone (put g d None) (suc r)
 none_left w n g d r p at f e s h = at_ (e == d) refl h
   where
     differ : (e d : ℕ) → (e == d) ≡ false → d ≡ e → ⊥
@@ -105,7 +107,7 @@ none_left w n g d r p at f e s h = at_ (e == d) refl h
     at_ false x h = differ e d x (f.runs.one d e r p s at h)
 
 -- a grip goes out
-pub fits_with : (w : Setting) (n : Reading) (g : Grips) (d r : ℕ) (p : Purpose) → is_device w d ≡ true → MayGrip w n d r p → ((q : ℕ) → r ≡ suc q → HoldsNone g r) → GripsFit w n g → GripsFit w n (put g d (Some (record { maker = r; purpose = p })))
+pub fits_with : (w : Setting) (n : Reading) (g : Grips) (d r : ℕ) (p : Purpose) → is_device w d ≡ true → MayGrip w n d r p → ((q : ℕ) → r ≡ suc q → HoldsNone g r) → GripsFit (point w n g) → GripsFit (point w n (put g d (Some (record { maker = r; purpose = p }))))
 fits_with w n g d r p device may none f = fits_from w n (put g d (Some new)) (λ e out. homed e (e == d) refl out) (λ e q s at. mays e q s (e == d) refl at) (λ e i q s t at at'. one e i q s t (e == d) (i == d) refl refl at at')
   where
     new : Grip
@@ -192,7 +194,7 @@ held_own w r p = ap (λ b. if b then held_for w r p else Free) (eq-eqb r r refl)
 
 -- one run of the line changes in its place
 abbrev pub in_place : (w : Setting) (n m : Reading) (g h : Grips) (held after : ℕ → ℕ) (r : ℕ) → CutAt r n.line → m.line ≡ n.line → ((q : ℕ) → q ≢ r → m.run q ≡ n.run q) → ((q e : ℕ) → q ≢ r → held_by w q (h e) ≡ held_by w q (g e))
-    → ChangesInPlace (window_of w n g held) (window_of w m h after) r
+    → ChangesInPlace (window_of (point w n g) held) (window_of (point w m h) after) r
 in_place w n m g h held after r cut line runs grips = record {
   front = cut.front;
   back = cut.back;

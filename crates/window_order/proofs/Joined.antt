@@ -14,7 +14,7 @@ use Rattle.home_types.specs.declared.items.Item.{Item}
 use Rattle.home_types.specs.declared.modes.Scheduler.TheVariants.{Fcfs, JustInTime, Timeline}
 use Rattle.home_types.specs.declared.modes.Scheduler.{Scheduler}
 use Rattle.lineage_table.specs.Lineages.{LineageState}
-use Rattle.lock_leasing.specs.Configurations.{Grips}
+use Rattle.lock_leasing.specs.Configurations.{Grips, point}
 use Rattle.lock_leasing.specs.Places.{GripsFit, IsClear, in_order}
 use Rattle.serial_line.proofs.Ties.{line_rearranged}
 use Rattle.serial_line.specs.Marks.{Mark, with_item}
@@ -35,23 +35,23 @@ pub same_parts : (w : Setting) (n : Reading) (r m : ℕ) → HasSameParts w n.li
 same_parts w n r m = record { some = line_any w n r m; many = line_count w n r m; parts = line_part w n r m }
 
 -- the order of the window stays
-pub joined_order : (w : Setting) (n : Reading) (g : Grips) (held : ℕ → ℕ) (r at m : ℕ) → IsRead w n → may_follow w n (Placed (run_no r) at m) ≡ true → IsClear w (in_order n (line_for w n r m)) g r at → OrderIsKept w n g held
-    → OrderIsKept w (entry w n (Placed (run_no r) at m)) g held
+pub joined_order : (w : Setting) (n : Reading) (g : Grips) (held : ℕ → ℕ) (r at m : ℕ) → IsRead w n → may_follow w n (Placed (run_no r) at m) ≡ true → IsClear (point w (in_order n (line_for w n r m)) g) r at → OrderIsKept (point w n g) held
+    → OrderIsKept (point w (entry w n (Placed (run_no r) at m)) g) held
 unfolding split_of
 joined_order w n g held r at m read may clear kept =
     placed_kept w (in_order n (line_for w n r m)) g held r at m (planned_times w n r (front_for w n r at m) m) (read_kept w n (line_for w n r m) (same_parts w n r m) read) may clear
     (order_kept w n g held (line_for w n r m) read (same_parts w n r m) kept)
 
 -- .. and its table, with the run's accesses in front of those of the runs behind
-pub joined_table : (w : Setting) (n : Reading) (g : Grips) (r at m : ℕ) (old new : List LineageState) → IsRead w n → may_follow w n (Placed (run_no r) at m) ≡ true → IsClear w (in_order n (line_for w n r m)) g r at
-    → ChangesEach (placed_change w (in_order n (line_for w n r m)) r at (planned_times w n r (front_for w n r at m) m)) old new → TableIsKept w n g old → TableIsKept w (entry w n (Placed (run_no r) at m)) g new
+pub joined_table : (w : Setting) (n : Reading) (g : Grips) (r at m : ℕ) (old new : List LineageState) → IsRead w n → may_follow w n (Placed (run_no r) at m) ≡ true → IsClear (point w (in_order n (line_for w n r m)) g) r at
+    → ChangesEach (placed_change w (in_order n (line_for w n r m)) r at (planned_times w n r (front_for w n r at m) m)) old new → TableIsKept (point w n g) old → TableIsKept (point w (entry w n (Placed (run_no r) at m)) g) new
 unfolding split_of
 joined_table w n g r at m old new read may clear changes kept =
     placed_table w (in_order n (line_for w n r m)) g r at m (planned_times w n r (front_for w n r at m) m) old new (read_kept w n (line_for w n r m) (same_parts w n r m) read) may clear changes
     (table_kept w n g (line_for w n r m) old read (same_parts w n r m) kept)
 
 -- .. and its marks, where those of the set were brought to the front
-pub joined_marks : (w : Setting) (n : Reading) (g : Grips) (r at m : ℕ) (marks : List Mark) → scheduler_of w.mode ≡ Timeline → IsRead w n → GripsFit w n g → may_follow w n (Placed (run_no r) at m) ≡ true → MarksAreKept n g marks
+pub joined_marks : (w : Setting) (n : Reading) (g : Grips) (r at m : ℕ) (marks : List Mark) → scheduler_of w.mode ≡ Timeline → IsRead w n → GripsFit (point w n g) → may_follow w n (Placed (run_no r) at m) ≡ true → MarksAreKept n g marks
     → MarksAreKept (entry w n (Placed (run_no r) at m)) g (with_item at (Ran (run_no r)) (rearranged (gap_set w n r m) marks))
 unfolding split_of
 joined_marks w n g r at m marks timed read fit may kept =

@@ -15,7 +15,7 @@ use Rattle.lineage_table.specs.Accesses.{is_acquired, is_scheduled}
 use Rattle.lineage_table.specs.Lineages.{LineageState}
 use Rattle.lineage_table.specs.declared.accesses.Access.{Access}
 use Rattle.lineage_table.specs.declared.accesses.Status.TheVariants.{Acquired, Released, Scheduled}
-use Rattle.lock_leasing.specs.Configurations.{Grips, grips_command}
+use Rattle.lock_leasing.specs.Configurations.{Grips, grips_command, point}
 use Rattle.lock_leasing.specs.Tables.{may_be_passed, status_by_answers, uses, view_when}
 use Rattle.lock_leasing.specs.Waits.{lost_by}
 use Rattle.lock_leasing.specs.Words.{live_runs}
@@ -40,7 +40,7 @@ abbrev spans_there : Setting → Reading → ℕ → ℕ → Bool
 spans_there w n d r = is_open w n r d && sees_up n r d
 
 -- of a run that uses the device its access says so too
-lost_same : (w : Setting) (n : Reading) (g : Grips) (passed : ℕ → Bool) (d r : ℕ) → ((q : ℕ) → passed q ≡ true → may_be_passed n g q d ≡ true) → grips_command g r d ≡ false → uses w n d r ≡ true → is_lost_access (access_read w n g passed d r) ≡ spans_there w n d r
+lost_same : (w : Setting) (n : Reading) (g : Grips) (passed : ℕ → Bool) (d r : ℕ) → ((q : ℕ) → passed q ≡ true → may_be_passed n g q d ≡ true) → grips_command g r d ≡ false → uses w n d r ≡ true → is_lost_access (access_read (point w n g) passed d r) ≡ spans_there w n d r
 lost_same w n g passed d r may free used = by_passed (passed r) refl
   where
     lives : (l t x : Bool) → (l && t && x) ≡ true → l ≡ true
@@ -60,7 +60,7 @@ lost_same w n g passed d r may free used = by_passed (passed r) refl
     by_view (Some false) true = refl
     by_view (Some false) false = refl
 
-    by_passed : (b : Bool) → passed r ≡ b → (is_acquired (if b then Released else status_by_answers w n g r d) && is_up (if b then Some Down else option_map view_when (view_of n r d))) ≡ spans_there w n d r
+    by_passed : (b : Bool) → passed r ≡ b → (is_acquired (if b then Released else status_by_answers (point w n g) r d) && is_up (if b then Some Down else option_map view_when (view_of n r d))) ≡ spans_there w n d r
     by_passed true e = doomed_off (is_live n r) (is_doomed n r) (pends w n r d) (sees_up n r d) _ (may r e)
     by_passed false e =
         by_view (view_of n r d) ((not (is_doomed n r) && pends w n r d) || grips_command g r d)
@@ -102,7 +102,7 @@ first_along w n d p access test (Ran q ∷ is) own same acts clear = by_test (fi
         ∙ ap (λ x. Some x) (own r))
 
 -- behind a run that is open there no committed run has written
-none_wrote : (w : Setting) (n : Reading) (g : Grips) (held : ℕ → ℕ) (d r : ℕ) (front back : List Item) → IsRead w n → OrderIsKept w n g held → is_device w d ≡ true → n.line ≡ front ++ Ran (run_no r) ∷ back → is_open w n r d ≡ true → list_any (of_run (commits_write n d)) back ≡ false
+none_wrote : (w : Setting) (n : Reading) (g : Grips) (held : ℕ → ℕ) (d r : ℕ) (front back : List Item) → IsRead w n → OrderIsKept (point w n g) held → is_device w d ≡ true → n.line ≡ front ++ Ran (run_no r) ∷ back → is_open w n r d ≡ true → list_any (of_run (commits_write n d)) back ≡ false
 unfolding RunsAreDistinct
 none_wrote w n g held d r front back read kept device at opened = none_commits w n d back read (open_behind w n g held d r cut read kept device (pending_touches d (commands_of w.runs r) (next_of n r) parts.2) (stage parts.0 parts.1 parts.2))
   where
@@ -118,7 +118,7 @@ none_wrote w n g held d r front back read kept device at opened = none_commits w
     cut : CutAt r n.line
     cut = record { front = front; back = back; at = at; before = distinct.1 r (or_left (r == r) (list_any (is_ran r) back) (eq-eqb r r refl)); behind = distinct.0.0 }
 
-    stage : is_live n r ≡ true → is_doomed n r ≡ false → pends w n r d ≡ true → stage_is_open (usage w.kinds (run_state w n g r) d).stage ≡ true
+    stage : is_live n r ≡ true → is_doomed n r ≡ false → pends w n r d ≡ true → stage_is_open (usage w.kinds (run_state (point w n g) r) d).stage ≡ true
     stage live sound left = λ i. stage_is_open (stage_of (live_uncommitted n r live i) (sound i) ((ap (uses_device d) (rest_drop (commands_of w.runs r) (n.run r).answers) ∙ left) i))
 
 -- a run that is open there uses the device
@@ -132,10 +132,10 @@ open_uses w n d r read opened = (lives (is_live n r) (is_doomed n r) (pends w n 
     left l x p h = grind (arith, common_steps)
 
 -- the rule's lost run, read off the lineage of a device that is out for no command
-pub lost_read : (w : Setting) (n : Reading) (g : Grips) (held : ℕ → ℕ) (d : ℕ) (s : LineageState) → IsRead w n → is_weak w.mode ≡ false → is_device w d ≡ true → ((q : ℕ) → grips_command g q d ≡ false) → OrderIsKept w n g held → LineageIsKept w n g d s → lost_by w n d ≡ lost_on s
+pub lost_read : (w : Setting) (n : Reading) (g : Grips) (held : ℕ → ℕ) (d : ℕ) (s : LineageState) → IsRead w n → is_weak w.mode ≡ false → is_device w d ≡ true → ((q : ℕ) → grips_command g q d ≡ false) → OrderIsKept (point w n g) held → LineageIsKept (point w n g) d s → lost_by w n d ≡ lost_on s
 lost_read w n g held d s read strong device free kept own =
     ap (λ b. if b then None else find (spans_there w n d) (live_runs n n.line)) strong
-    ∙ first_along w n d (spans_there w n d) (access_read w n g own.passed d) is_lost_access n.line (λ r. refl) (λ r used. lost_same w n g own.passed d r own.may_pass (free r) used) (λ r h. open_uses w n d r read (opens_there r h))
+    ∙ first_along w n d (spans_there w n d) (access_read (point w n g) own.passed d) is_lost_access n.line (λ r. refl) (λ r used. lost_same w n g own.passed d r own.may_pass (free r) used) (λ r h. open_uses w n d r read (opens_there r h))
     (λ front back r at h. none_wrote w n g held d r front back read kept device at (opens_there r h))
     ∙ ap (λ xs. option_map (λ (x : Access). x.run.0) (find is_lost_access xs)) (sym own.accesses)
   where
@@ -143,9 +143,11 @@ lost_read w n g held d s read strong device free kept own =
     opens_there r h = (and_parts (is_open w n r d) (sees_up n r d) h).0
 
 -- .. and the run before which its event stands: the first with a scheduled access that is not doomed
-pub waiting_read : (w : Setting) (n : Reading) (g : Grips) (held : ℕ → ℕ) (d : ℕ) (s : LineageState) → IsRead w n → is_weak w.mode ≡ false → is_device w d ≡ true → OrderIsKept w n g held → LineageIsKept w n g d s → find (awaits_there w n d) (live_runs n n.line) ≡ first_waiting_run (is_doomed n) s
+pub waiting_read : (w : Setting) (n : Reading) (g : Grips) (held : ℕ → ℕ) (d : ℕ) (s : LineageState) → IsRead w n → is_weak w.mode ≡ false
+    → is_device w d ≡ true → OrderIsKept (point w n g) held → LineageIsKept (point w n g) d s
+    → find (awaits_there w n d) (live_runs n n.line) ≡ first_waiting_run (is_doomed n) s
 waiting_read w n g held d s read strong device kept own =
-    first_along w n d (awaits_there w n d) (access_read w n g own.passed d) (is_access_waiting (is_doomed n)) n.line (λ r. refl) (λ r used. same r used (own.passed r) refl) (λ r h. open_uses w n d r read (opens_there r h))
+    first_along w n d (awaits_there w n d) (access_read (point w n g) own.passed d) (is_access_waiting (is_doomed n)) n.line (λ r. refl) (λ r used. same r used (own.passed r) refl) (λ r h. open_uses w n d r read (opens_there r h))
     (λ front back r at h. none_wrote w n g held d r front back read kept device at (opens_there r h))
     ∙ ap (λ xs. option_map (λ (x : Access). x.run.0) (find (is_access_waiting (is_doomed n)) xs)) (sym own.accesses)
   where
@@ -166,7 +168,7 @@ waiting_read w n g held d s read strong device kept own =
     counted : (a l t x p v : Bool) → a ≡ false → (l && t && not (t && not p && not v)) ≡ true → (not v && not x) ≡ (not a && (l && not x && p) && not v)
     counted a l t x p v h k = grind (arith, common_steps)
 
-    same : (r : ℕ) → uses w n d r ≡ true → (b : Bool) → own.passed r ≡ b → (is_scheduled (if b then Released else status_by_answers w n g r d) && not (is_doomed n r)) ≡ awaits_there w n d r
+    same : (r : ℕ) → uses w n d r ≡ true → (b : Bool) → own.passed r ≡ b → (is_scheduled (if b then Released else status_by_answers (point w n g) r d) && not (is_doomed n r)) ≡ awaits_there w n d r
     same r used true e = doomed_off (is_weak w.mode) (is_doomed n r) true _ (is_live n r) (pends w n r d) (did n r d) (own.may_pass r e)
     same r used false e =
         ap (λ b. b && not (is_doomed n r)) (unseen (did n r d) ((not (is_doomed n r) && pends w n r d) || grips_command g r d))

@@ -19,7 +19,8 @@ use Rattle.device_order.specs.declared.walks.WalkState.{WalkState}
 use Rattle.history_book.specs.Readings.{Reading, has_written, is_doomed, is_live, sees_down, view_of}
 use Rattle.history_book.specs.Settings.{Setting, is_device}
 use Rattle.home_types.specs.HomeStates.{stand_at}
-use Rattle.lock_leasing.specs.Configurations.{Commands, Grips, Probes, Undoes}
+use Rattle.lock_leasing.specs.Configurations.{Grips, point}
+use Rattle.lock_leasing.specs.declared.purposes.Purpose.TheVariants.{Commands, Probes, Undoes}
 use Rattle.std.proofs.Common.{ap, arith, refl, subst, sym, ◌∙◌}
 use Rattle.std.proofs.lemmas.Grind.{common_steps}
 use Rattle.std.specs.Prelude.{Bool, List, None, Option, Some, false, is_some, not, option_map, true, unwrap_or, ℕ, ◌&&◌, ◌++◌, ◌∷◌, ◌≡◌}
@@ -47,14 +48,14 @@ held_out : (s : WalkState) (u : Usage) → holds_grip u ≡ true → is_home (af
 held_out s u h = grind (arith, common_steps)
 
 -- what a run of the line does on the device fits what stands before it
-use_there : (w : Setting) (n : Reading) (g : Grips) (held : ℕ → ℕ) (d r : ℕ) (at : CutAt r n.line) → OrderIsKept w n g held → is_device w d ≡ true → touches w.runs r d ≡ true
-    → Cut (walk_start (stand_at w.first d).up (stand_at w.first d).value) (entries w.kinds (window_of w n g held).states d at.front) (usage w.kinds (run_state w n g r) d) (entries w.kinds (window_of w n g held).states d at.back)
+use_there : (w : Setting) (n : Reading) (g : Grips) (held : ℕ → ℕ) (d r : ℕ) (at : CutAt r n.line) → OrderIsKept (point w n g) held → is_device w d ≡ true → touches w.runs r d ≡ true
+    → Cut (walk_start (stand_at w.first d).up (stand_at w.first d).value) (entries w.kinds (window_of (point w n g) held).states d at.front) (usage w.kinds (run_state (point w n g) r) d) (entries w.kinds (window_of (point w n g) held).states d at.back)
 use_there w n g held d r at kept device used =
-    use_cut (walk_start (stand_at w.first d).up (stand_at w.first d).value) (entries w.kinds (window_of w n g held).states d at.front) (usage w.kinds (run_state w n g r) d) (entries w.kinds (window_of w n g held).states d at.back)
+    use_cut (walk_start (stand_at w.first d).up (stand_at w.first d).value) (entries w.kinds (window_of (point w n g) held).states d at.front) (usage w.kinds (run_state (point w n g) r) d) (entries w.kinds (window_of (point w n g) held).states d at.back)
     (subst (λ l. WalkHolds (walk_start (stand_at w.first d).up (stand_at w.first d).value) l) (device_order_at w n g held d r at used) (kept.window.devices d (below_home w d device)).walk)
 
 -- a run that stands in the line holds the grip
-held_up : (w : Setting) (n : Reading) (g : Grips) (held : ℕ → ℕ) (d r : ℕ) → CutAt r n.line → OrderIsKept w n g held → is_device w d ≡ true → touches w.runs r d ≡ true → is_free (held_by w r (g d)) ≡ false → n.up d ≡ true
+held_up : (w : Setting) (n : Reading) (g : Grips) (held : ℕ → ℕ) (d r : ℕ) → CutAt r n.line → OrderIsKept (point w n g) held → is_device w d ≡ true → touches w.runs r d ≡ true → is_free (held_by w r (g d)) ≡ false → n.up d ≡ true
 held_up w n g held d r at kept device used holds =
     out_up (walk_end z (a ++ Used u ∷ b)) (n.up d) (held d) (probe_of (g d)) (ap (λ (s : WalkState). is_home s.out) (use_there w n g held d r at kept device used).ends ∙ held_end (after_usage (walk_end z a) u) b (held_out (walk_end z a) u (ap not holds)))
     (subst (λ l. DeviceFits (walk_end z l) (n.up d) (held d) (probe_of (g d))) (device_order_at w n g held d r at used) (kept.window.devices d (below_home w d device)).ends)
@@ -63,19 +64,19 @@ held_up w n g held d r at kept device used holds =
     z = walk_start (stand_at w.first d).up (stand_at w.first d).value
 
     u : Usage
-    u = usage w.kinds (run_state w n g r) d
+    u = usage w.kinds (run_state (point w n g) r) d
 
     a : List OrderEntry
-    a = entries w.kinds (window_of w n g held).states d at.front
+    a = entries w.kinds (window_of (point w n g) held).states d at.front
 
     b : List OrderEntry
-    b = entries w.kinds (window_of w n g held).states d at.back
+    b = entries w.kinds (window_of (point w n g) held).states d at.back
 
 touches_is : (w : Setting) (n : Reading) (r d : ℕ) → ActsOn w n r d → touches w.runs r d ≡ true
 touches_is w n r d a = a.uses
 
 -- it is counted up while a command of it is out, ..
-pub called_up : (w : Setting) (n : Reading) (g : Grips) (held : ℕ → ℕ) (d r k : ℕ) → IsRead w n → g d ≡ Some (record { maker = r; purpose = Commands k }) → OrderIsKept w n g held → n.up d ≡ true
+pub called_up : (w : Setting) (n : Reading) (g : Grips) (held : ℕ → ℕ) (d r k : ℕ) → IsRead w n → g d ≡ Some (record { maker = r; purpose = Commands k }) → OrderIsKept (point w n g) held → n.up d ≡ true
 called_up w n g held d r k read at kept =
     held_up w n g held d r (cut_live w n r read (out_is w n g d r k kept.grips at).live) kept (kept.grips.homed d (ap is_some at))
     (touches_is w n r d (acts_on w n g held r d kept (own_command g d r (Commands k) at)))
@@ -88,7 +89,7 @@ called_up w n g held d r k read at kept =
     unfree (HeldToUndo v) h = refl
 
 -- .. by a run that does not see it down, ..
-pub called_unseen : (w : Setting) (n : Reading) (g : Grips) (held : ℕ → ℕ) (d r k : ℕ) → IsRead w n → g d ≡ Some (record { maker = r; purpose = Commands k }) → OrderIsKept w n g held → sees_down n r d ≡ false
+pub called_unseen : (w : Setting) (n : Reading) (g : Grips) (held : ℕ → ℕ) (d r k : ℕ) → IsRead w n → g d ≡ Some (record { maker = r; purpose = Commands k }) → OrderIsKept (point w n g) held → sees_down n r d ≡ false
 called_unseen w n g held d r k read at kept =
     unseen (view_of n r d)
     (sym (ap is_seen_down ((read.summarized r).view d))
@@ -97,7 +98,7 @@ called_unseen w n g held d r k read at kept =
     (command_held w g r d ∙ own_command g d r (Commands k) at))
   where
     u : Usage
-    u = usage w.kinds (run_state w n g r) d
+    u = usage w.kinds (run_state (point w n g) r) d
 
     by_grip : (x : HeldGrip) → GripFits x u → holds_command x ≡ true → is_seen_down u.view ≡ false
     by_grip Free fits h = absurd (cc)
@@ -111,7 +112,7 @@ called_unseen w n g held d r k read at kept =
     unseen (Some false) h = absurd (cc)
 
 -- .. and an undo
-pub undo_up : (w : Setting) (n : Reading) (g : Grips) (held : ℕ → ℕ) (d r v : ℕ) → IsRead w n → g d ≡ Some (record { maker = r; purpose = Undoes v }) → OrderIsKept w n g held → n.up d ≡ true
+pub undo_up : (w : Setting) (n : Reading) (g : Grips) (held : ℕ → ℕ) (d r v : ℕ) → IsRead w n → g d ≡ Some (record { maker = r; purpose = Undoes v }) → OrderIsKept (point w n g) held → n.up d ≡ true
 undo_up w n g held d r v read at kept = held_up w n g held d r (cut_live w n r read may.0) kept (kept.grips.homed d (ap is_some at)) (written_touches w n r d read may.1) (ap is_free (ap (held_by w r) at ∙ held_own w r (Undoes v)))
   where
     parts : (a b c e : Bool) → (a && b && c && e) ≡ true → (a ≡ true) × (c ≡ true)
@@ -121,8 +122,8 @@ undo_up w n g held d r v read at kept = held_up w n g held d r (cut_live w n r r
     may = parts (is_live n r) (is_doomed n r) (has_written n r d) (not ((n.run r).on d).undid) (kept.grips.runs.undos d r v at)
 
 -- a device that a probe asks is counted up, and one that it restores down
-pub asked_up : (w : Setting) (n : Reading) (g : Grips) (held : ℕ → ℕ) (d m : ℕ) → g d ≡ Some (record { maker = m; purpose = Probes None }) → OrderIsKept w n g held → n.up d ≡ true
+pub asked_up : (w : Setting) (n : Reading) (g : Grips) (held : ℕ → ℕ) (d m : ℕ) → g d ≡ Some (record { maker = m; purpose = Probes None }) → OrderIsKept (point w n g) held → n.up d ≡ true
 asked_up w n g held d m at kept = asks_up _ (n.up d) (held d) (probe_of (g d)) (ap probe_of at) (kept.window.devices d (below_home w d (kept.grips.homed d (ap is_some at)))).ends
 
-pub restored_down : (w : Setting) (n : Reading) (g : Grips) (held : ℕ → ℕ) (d m v : ℕ) → g d ≡ Some (record { maker = m; purpose = Probes (Some v) }) → OrderIsKept w n g held → n.up d ≡ false
+pub restored_down : (w : Setting) (n : Reading) (g : Grips) (held : ℕ → ℕ) (d m v : ℕ) → g d ≡ Some (record { maker = m; purpose = Probes (Some v) }) → OrderIsKept (point w n g) held → n.up d ≡ false
 restored_down w n g held d m v at kept = restores_down _ (n.up d) (held d) (probe_of (g d)) v (ap probe_of at) (kept.window.devices d (below_home w d (kept.grips.homed d (ap is_some at)))).ends

@@ -12,7 +12,7 @@ use Rattle.lineage_table.specs.Lineages.{LineageState}
 use Rattle.lineage_table.specs.declared.accesses.Access.{Access}
 use Rattle.lineage_table.specs.declared.accesses.Status.TheVariants.{Acquired, Released, Scheduled}
 use Rattle.lineage_table.specs.declared.accesses.Status.{Status}
-use Rattle.lock_leasing.specs.Configurations.{Grips, grips_command}
+use Rattle.lock_leasing.specs.Configurations.{Grips, grips_command, point}
 use Rattle.lock_leasing.specs.Tables.{may_be_passed, status_by_answers, uses, view_when}
 use Rattle.lock_leasing.specs.Words.{is_undone}
 use Rattle.std.proofs.Common.{ap, arith, refl, subst, sym, ◌∙◌}
@@ -81,7 +81,7 @@ may_pass_before w n g d r cut read now x there used none = λ i. doomed i && not
     unheld = now.alone x other
 
 -- no access before it is acquired
-pub unacquired_before : (w : Setting) (n : Reading) (g : Grips) (d r : ℕ) (cut : CutAt r n.line) → TouchesNow w n g d r cut → (x : ℕ) → list_any (is_ran x) cut.front ≡ true → is_live n x ≡ true → is_acquired (status_by_answers w n g x d) ≡ false
+pub unacquired_before : (w : Setting) (n : Reading) (g : Grips) (d r : ℕ) (cut : CutAt r n.line) → TouchesNow w n g d r cut → (x : ℕ) → list_any (is_ran x) cut.front ≡ true → is_live n x ≡ true → is_acquired (status_by_answers (point w n g) x d) ≡ false
 unacquired_before w n g d r cut now x there live = at_ (did n x d) (is_doomed n x) refl
   where
     other : x ≢ r
@@ -105,7 +105,7 @@ passes run false true status view scheduled done = λ i. if is_scheduled (sym (s
 passes run false false status view scheduled done = λ i. if sym (done refl refl) i then record run { status = Released; view = Some Down } else record run { status = status; view = view }
 
 -- the lineage is kept
-pub passed_kept : (w : Setting) (n : Reading) (g : Grips) (d r : ℕ) (cut : CutAt r n.line) (s : LineageState) → IsRead w n → TouchesNow w n g d r cut → LineageIsKept w n g d s → LineageIsKept w n g d (passed r s)
+pub passed_kept : (w : Setting) (n : Reading) (g : Grips) (d r : ℕ) (cut : CutAt r n.line) (s : LineageState) → IsRead w n → TouchesNow w n g d r cut → LineageIsKept (point w n g) d s → LineageIsKept (point w n g) d (passed r s)
 passed_kept w n g d r cut s read now kept = record {
   passed = after;
   may_pass = λ x h. may x (kept.passed x) refl h;
@@ -129,10 +129,10 @@ passed_kept w n g d r cut s read now kept = record {
     after x = kept.passed x || now_passed x
 
     before_ : ℕ → Access
-    before_ = access_read w n g kept.passed d
+    before_ = access_read (point w n g) kept.passed d
 
     then_ : ℕ → Access
-    then_ = access_read w n g after d
+    then_ = access_read (point w n g) after d
 
     second : (a b : Bool) → (a && b) ≡ true → b ≡ true
     second a b h = grind (arith, common_steps)
@@ -145,7 +145,7 @@ passed_kept w n g d r cut s read now kept = record {
     same_after : (x : ℕ) → list_any (is_ran x) cut.front ≡ false → then_ x ≡ before_ x
     same_after x none = λ i. record {
       run = run_no x;
-      status = if stays i then Released else status_by_answers w n g x d;
+      status = if stays i then Released else status_by_answers (point w n g) x d;
       view = if stays i then Some Down else option_map view_when (view_of n x d);
       wrote = if is_undone n g x d then None else ((n.run x).on d).wrote;
       from = planned_start (n.run x).planned d;
@@ -165,12 +165,12 @@ passed_kept w n g d r cut s read now kept = record {
     back x there = same_after x (apart r cut.front cut.back (subst RunsAreDistinct cut.at (runs_distinct n read.once)) x there)
 
     front : (x : ℕ) → list_any (is_ran x) cut.front ≡ true → uses w n d x ≡ true → then_ x ≡ pass_access (before_ x)
-    front x there used = passes (before_ x) (kept.passed x) (now_passed x) (status_by_answers w n g x d) (option_map view_when (view_of n x d)) scheduled done
+    front x there used = passes (before_ x) (kept.passed x) (now_passed x) (status_by_answers (point w n g) x d) (option_map view_when (view_of n x d)) scheduled done
       where
         unseen : (a b c : Bool) → (a && not (b || c)) ≡ true → b ≡ false
         unseen a b c h = grind (arith, common_steps)
 
-        scheduled : now_passed x ≡ true → status_by_answers w n g x d ≡ Scheduled
+        scheduled : now_passed x ≡ true → status_by_answers (point w n g) x d ≡ Scheduled
         scheduled h = λ i. if unseen (is_doomed n x) (did n x d) (grips_command g x d) (second (list_any (is_ran x) cut.front) (may_be_passed n g x d) h) i then (if (not (is_doomed n x) && pends w n x d) || grips_command g x d then Acquired else Released) else Scheduled
 
         clash : (a b : Bool) → a ≡ true → b ≡ true → (a && b) ≡ false → ⊥
@@ -184,5 +184,5 @@ passed_kept w n g d r cut s read now kept = record {
         by_answer true e h = used_up ((not (is_doomed n x) && pends w n x d) || grips_command g x d)
         by_answer false e h = absurd (clash (list_any (is_ran x) cut.front) (may_be_passed n g x d) there (may_pass_before w n g d r cut read now x there used e) h)
 
-        done : kept.passed x ≡ false → now_passed x ≡ false → is_scheduled (status_by_answers w n g x d) ≡ false
+        done : kept.passed x ≡ false → now_passed x ≡ false → is_scheduled (status_by_answers (point w n g) x d) ≡ false
         done p h = by_answer (did n x d) refl h

@@ -22,7 +22,7 @@ use Rattle.lineage_table.specs.Accesses.{has_access, is_acquired, put_access_bef
 use Rattle.lineage_table.specs.Lineages.{LineageState, TableIsOpened, lineage_at, runs_on, scheduled}
 use Rattle.lineage_table.specs.declared.accesses.Access.{Access}
 use Rattle.lineage_table.specs.declared.accesses.Status.TheVariants.{Acquired, Released, Scheduled}
-use Rattle.lock_leasing.specs.Configurations.{Grips, grips_command, grips_undo}
+use Rattle.lock_leasing.specs.Configurations.{Grips, grips_command, grips_undo, point}
 use Rattle.lock_leasing.specs.Order.{committed_value}
 use Rattle.lock_leasing.specs.Places.{IsClear}
 use Rattle.lock_leasing.specs.Tables.{is_at_work, may_be_passed, status_by_answers, uses, view_when}
@@ -53,7 +53,7 @@ none_placed w d r (run ∷ runs) = (λ i. one (list_any (is_on d) run.commands) 
     one false = refl
 
 -- a table that was opened for the window is kept
-pub opened_table : (w : Setting) (g : Grips) (table : List LineageState) → TableIsOpened w.runs w.first table → TableIsKept w (nothing_read w) g table
+pub opened_table : (w : Setting) (g : Grips) (table : List LineageState) → TableIsOpened w.runs w.first table → TableIsKept (point w (nothing_read w) g) table
 opened_table w g table opened = record {
   devices = opened.devices;
   each = λ d below. let new = opened.each d below in record {
@@ -69,7 +69,7 @@ opened_table w g table opened = record {
 -- A run arrives
 
 -- the table stays
-pub arrived_table : (w : Setting) (n : Reading) (g : Grips) (r m : ℕ) (table : List LineageState) → TableIsKept w n g table → TableIsKept w (entry w n (Arrived (run_no r) m)) g table
+pub arrived_table : (w : Setting) (n : Reading) (g : Grips) (r m : ℕ) (table : List LineageState) → TableIsKept (point w n g) table → TableIsKept (point w (entry w n (Arrived (run_no r) m)) g) table
 arrived_table w n g r m table kept = record {
   devices = kept.devices;
   each = λ d below. lineage_same w n next g g d (lineage_at table d) (record {
@@ -153,8 +153,8 @@ stands w (suc i) h = at_ (slice_get w.runs i) refl h
     at_ (Some run) e k = record { index = i; run = run; number = omega arith; at = e; commands = ap (λ o. unwrap_or (option_map (λ (x : Run). x.commands) o) []) e }
 
 -- each lineage is kept, with an access more on the run's devices, where the place is clear: the accesses behind it that were passed wait again
-pub placed_kept : (w : Setting) (n : Reading) (g : Grips) (r at m : ℕ) (planned : List Planned) → IsRead w n → may_follow w n (Placed (run_no r) at m) ≡ true → IsClear w n g r at → (d : ℕ) → d < length w.first → (s : LineageState) → LineageIsKept w n g d s
-    → LineageIsKept w (with_placed n (run_no r) at m planned (split_at n.line at)) g d (placed_change w n r at planned d s)
+pub placed_kept : (w : Setting) (n : Reading) (g : Grips) (r at m : ℕ) (planned : List Planned) → IsRead w n → may_follow w n (Placed (run_no r) at m) ≡ true → IsClear (point w n g) r at → (d : ℕ) → d < length w.first → (s : LineageState) → LineageIsKept (point w n g) d s
+    → LineageIsKept (point w (with_placed n (run_no r) at m planned (split_at n.line at)) g) d (placed_change w n r at planned d s)
 placed_kept w n g r at m planned read may clear d below s kept = at_ (touches w.runs r d) refl
   where
     next : Reading
@@ -188,10 +188,10 @@ placed_kept w n g r at m planned read may clear d below s kept = at_ (touches w.
     e = commits_write next d
 
     before_ : ℕ → Access
-    before_ = access_read w n g kept.passed d
+    before_ = access_read (point w n g) kept.passed d
 
     then_ : ℕ → Access
-    then_ = access_read w next g kept.passed d
+    then_ = access_read (point w next g) kept.passed d
 
     shape : IsShaped w r (n.run r)
     shape = read.shaped r
@@ -262,7 +262,7 @@ placed_kept w n g r at m planned read may clear d below s kept = at_ (touches w.
 
     -- the accesses of the two parts
 
-    whole : accesses_read w n g kept.passed d n.line ≡ front_accesses p c before_ (list_any (of_run c) back) front ++ accesses_along p c before_ back
+    whole : accesses_read (point w n g) kept.passed d n.line ≡ front_accesses p c before_ (list_any (of_run c) back) front ++ accesses_along p c before_ back
     whole = ap (accesses_along p c before_) (sym parts) ∙ along_parts p c before_ front back
 
     front_same : (b : Bool) → front_accesses q e then_ b front ≡ front_accesses p c before_ b front
@@ -282,10 +282,10 @@ placed_kept w n g r at m planned read may clear d below s kept = at_ (touches w.
     first a b h = grind (arith, common_steps)
 
     again_ : ℕ → Access
-    again_ = access_read w n g left d
+    again_ = access_read (point w n g) left d
 
     later : ℕ → Access
-    later = access_read w next g left d
+    later = access_read (point w next g) left d
 
     again_others : SameBut r p q c e again_ later
     again_others = record { has_one = others.has_one; covering = others.covering; access = λ x ne. ap (access_by w g left d x) (put_other n.run r new x ne) }
@@ -297,7 +297,7 @@ placed_kept w n g r at m planned read may clear d below s kept = at_ (touches w.
     front_left : (x : ℕ) → list_any (is_ran x) front ≡ true → again_ x ≡ before_ x
     front_left x there = λ i. record {
       run = run_no x;
-      status = if same_left i then Released else status_by_answers w n g x d;
+      status = if same_left i then Released else status_by_answers (point w n g) x d;
       view = if same_left i then Some Down else option_map view_when (view_of n x d);
       wrote = if is_undone n g x d then None else ((n.run x).on d).wrote;
       from = planned_start (n.run x).planned d;
@@ -320,7 +320,7 @@ placed_kept w n g r at m planned read may clear d below s kept = at_ (touches w.
     back_again on x there =
         (λ i. record {
           run = run_no x;
-          status = if not_left i then Released else (if unseen i then (if is_at_work w n g x d then Acquired else Released) else Scheduled);
+          status = if not_left i then Released else (if unseen i then (if is_at_work (point w n g) x d then Acquired else Released) else Scheduled);
           view = if not_left i then Some Down else option_map view_when (no_view i);
           wrote = wrote_;
           from = planned_start (n.run x).planned d;
@@ -329,7 +329,7 @@ placed_kept w n g r at m planned read may clear d below s kept = at_ (touches w.
         ∙ by_passed (kept.passed x)
         ∙ (λ i. waits_again (record {
           run = run_no x;
-          status = if kept.passed x then Released else (if sym unseen i then (if is_at_work w n g x d then Acquired else Released) else Scheduled);
+          status = if kept.passed x then Released else (if sym unseen i then (if is_at_work (point w n g) x d then Acquired else Released) else Scheduled);
           view = if kept.passed x then Some Down else option_map view_when (sym no_view i);
           wrote = wrote_;
           from = planned_start (n.run x).planned d;
@@ -388,8 +388,8 @@ placed_kept w n g r at m planned read may clear d below s kept = at_ (touches w.
     })
 
     -- the run has an access between them
-    with_one : touches w.runs r d ≡ true → put_access_before (first_with_access s.accesses back) (waiting_access r planned d) (with_again (first_with_access s.accesses back) s.accesses) ≡ accesses_read w next g left d next.line
-    with_one on = subst (λ xs. put_access_before (first_with_access xs back) (waiting_access r planned d) (with_again (first_with_access xs back) xs) ≡ accesses_read w next g left d next.line) (sym was) (
+    with_one : touches w.runs r d ≡ true → put_access_before (first_with_access s.accesses back) (waiting_access r planned d) (with_again (first_with_access s.accesses back) s.accesses) ≡ accesses_read (point w next g) left d next.line
+    with_one on = subst (λ xs. put_access_before (first_with_access xs back) (waiting_access r planned d) (with_again (first_with_access xs back) xs) ≡ accesses_read (point w next g) left d next.line) (sym was) (
         put_between p c before_ again_ (waiting_access r planned d) (front_accesses p c before_ false front) back apart.0 (λ x. refl) (λ x there used. back_again on x there) (λ x there. front_lacks p c before_ false x front (λ y. refl) (apart.1 x there))
         ∙ sym (
         along_there q e later r front back (used ∙ on) uncommitted (behind_same ∙ written)
@@ -404,7 +404,7 @@ placed_kept w n g r at m planned read may clear d below s kept = at_ (touches w.
         was = kept.accesses ∙ whole ∙ (λ i. front_accesses p c before_ (written i) front ++ accesses_along p c before_ back)
 
     -- it has none
-    with_none : touches w.runs r d ≡ false → s.accesses ≡ accesses_read w next g kept.passed d next.line
+    with_none : touches w.runs r d ≡ false → s.accesses ≡ accesses_read (point w next g) kept.passed d next.line
     with_none off = kept.accesses ∙ whole ∙ sym (
         along_absent q e then_ r front back (used ∙ off)
         ∙ (λ i. front_accesses q e then_ (uncommitted i || behind_same i) front ++ back_same i)
@@ -435,8 +435,8 @@ placed_kept w n g r at m planned read may clear d below s kept = at_ (touches w.
     fewer : unplaced_on w n d ≡ cond (touches w.runs r d) 1 0 + unplaced_on w next d
     fewer = one_fewer n next d r 1 of_window.index w.runs of_window.run of_window.at of_window.number one ∙ ap (λ cs. cond (list_any (is_on d) cs) 1 0 + unplaced_on w next d) (sym of_window.commands)
 
-    at_ : (b : Bool) → touches w.runs r d ≡ b → LineageIsKept w next g d (placed_change w n r at planned d s)
-    at_ true on = subst (LineageIsKept w next g d) (λ i. if sym on i then scheduled (first_with_access s.accesses back) (waiting_access r planned d) (rescheduled (first_with_access s.accesses back) s) else s) (record {
+    at_ : (b : Bool) → touches w.runs r d ≡ b → LineageIsKept (point w next g) d (placed_change w n r at planned d s)
+    at_ true on = subst (LineageIsKept (point w next g) d) (λ i. if sym on i then scheduled (first_with_access s.accesses back) (waiting_access r planned d) (rescheduled (first_with_access s.accesses back) s) else s) (record {
       passed = left;
       may_pass = λ x passed. may_after x (kept.may_pass x (first (kept.passed x) (not (list_any (is_ran x) back)) passed));
       committed = kept.committed ∙ sym committed;
@@ -444,7 +444,7 @@ placed_kept w n g r at m planned read may clear d below s kept = at_ (touches w.
       room = let less : unplaced_on w n d ≡ 1 + unplaced_on w next d = fewer ∙ ap (λ b. cond b 1 0 + unplaced_on w next d) on in let room = kept.room in omega (arith, less, room);
       up = kept.up;
     })
-    at_ false off = subst (LineageIsKept w next g d) (λ i. if sym off i then scheduled (first_with_access s.accesses back) (waiting_access r planned d) (rescheduled (first_with_access s.accesses back) s) else s) (record {
+    at_ false off = subst (LineageIsKept (point w next g) d) (λ i. if sym off i then scheduled (first_with_access s.accesses back) (waiting_access r planned d) (rescheduled (first_with_access s.accesses back) s) else s) (record {
       passed = kept.passed;
       may_pass = λ x passed. may_after x (kept.may_pass x passed);
       committed = kept.committed ∙ sym committed;
@@ -454,7 +454,8 @@ placed_kept w n g r at m planned read may clear d below s kept = at_ (touches w.
     })
 
 -- a run that is placed is new on each of its devices: behind a place that is clear no access is acquired
-pub new_on : (w : Setting) (n : Reading) (g : Grips) (r at m : ℕ) → IsRead w n → may_follow w n (Placed (run_no r) at m) ≡ true → IsClear w n g r at → (d : ℕ) → d < length w.first → (s : LineageState) → touches w.runs r d ≡ true → LineageIsKept w n g d s → IsNewOn r (drop at n.line) s
+pub new_on : (w : Setting) (n : Reading) (g : Grips) (r at m : ℕ) → IsRead w n → may_follow w n (Placed (run_no r) at m) ≡ true → IsClear (point w n g) r at
+    → (d : ℕ) → d < length w.first → (s : LineageState) → touches w.runs r d ≡ true → LineageIsKept (point w n g) d s → IsNewOn r (drop at n.line) s
 new_on w n g r at m read may clear d below s used kept = record {
   none = ap (has_access r) kept.accesses ∙ along_lacks p c access r n.line (λ x. refl) lacks;
   room = let room = kept.room in omega (arith, some, room);
@@ -474,7 +475,7 @@ new_on w n g r at m read may clear d below s used kept = record {
     c = commits_write n d
 
     access : ℕ → Access
-    access = access_read w n g kept.passed d
+    access = access_read (point w n g) kept.passed d
 
     before_ : List Access
     before_ = front_accesses p c access (list_any (of_run c) back) front
@@ -497,9 +498,9 @@ new_on w n g r at m read may clear d below s used kept = record {
         untouched : (u v : Bool) → (u || v) ≡ false → u ≡ false
         untouched u v h = grind (arith, common_steps)
 
-        by_passed : (b : Bool) → is_acquired (if b then Released else status_by_answers w n g x d) ≡ false
+        by_passed : (b : Bool) → is_acquired (if b then Released else status_by_answers (point w n g) x d) ≡ false
         by_passed true = refl
-        by_passed false = λ i. is_acquired (if untouched (did n x d) (grips_command g x d) (clear_run w n g r at d x clear device used there) i then (if is_at_work w n g x d then Acquired else Released) else Scheduled)
+        by_passed false = λ i. is_acquired (if untouched (did n x d) (grips_command g x d) (clear_run w n g r at d x clear device used there) i then (if is_at_work (point w n g) x d then Acquired else Released) else Scheduled)
 
     none : is_none (n.run r).placed ≡ true
     none = grind (arith, common_steps)

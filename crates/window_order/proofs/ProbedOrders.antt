@@ -18,7 +18,8 @@ use Rattle.history_book.specs.declared.entries.Entry.TheVariants.{Doomed, Fell, 
 use Rattle.home_types.specs.HomeStates.{stand_at}
 use Rattle.home_types.specs.declared.items.Item.TheVariants.{Back, Failed, Ran}
 use Rattle.home_types.specs.declared.items.Item.{Item}
-use Rattle.lock_leasing.specs.Configurations.{Grip, Grips, Probes, Undoes, is_out}
+use Rattle.lock_leasing.specs.Configurations.{Grip, Grips, is_out, point}
+use Rattle.lock_leasing.specs.declared.purposes.Purpose.TheVariants.{Probes, Undoes}
 use Rattle.lock_leasing.specs.Order.{is_in_line}
 use Rattle.lock_leasing.specs.Places.{GripsFit}
 use Rattle.lock_leasing.specs.Waits.{lost_by}
@@ -53,7 +54,7 @@ probed_free : (w : Setting) (q m : ℕ) (v : Option ℕ) → held_by w q (Some (
 probed_free w q m v = free (m == q)
 
 -- so the runs are the same when it goes out, and when it comes home
-same_states : (w : Setting) (n m : Reading) (g h : Grips) (q : ℕ) → m.run q ≡ n.run q → ((e : ℕ) → held_by w q (h e) ≡ held_by w q (g e)) → run_state w m h q ≡ run_state w n g q
+same_states : (w : Setting) (n m : Reading) (g h : Grips) (q : ℕ) → m.run q ≡ n.run q → ((e : ℕ) → held_by w q (h e) ≡ held_by w q (g e)) → run_state (point w m h) q ≡ run_state (point w n g) q
 same_states w n m g h q run grip = λ i. record (state_by w g q (run i)) { grip = λ e. grip e i }
 
 probe_taken : (w : Setting) (g : Grips) (d m : ℕ) (v : Option ℕ) → g d ≡ None → (q e : ℕ) → held_by w q (put g d (Some (record { maker = m; purpose = Probes v })) e) ≡ held_by w q (g e)
@@ -64,7 +65,7 @@ probe_given w g d m v at q e = put_keeps (held_by w q) g d None (sym (ap (held_b
 
 -- no run changes, and no other device
 probed_runs : (w : Setting) (n m : Reading) (g : Grips) (held after : ℕ → ℕ) (d maker : ℕ) (v : Option ℕ) → g d ≡ Some (record { maker = maker; purpose = Probes v }) → ((q : ℕ) → m.run q ≡ n.run q) → ((e : ℕ) → e ≢ d → m.up e ≡ n.up e) → ((e : ℕ) → e ≢ d → after e ≡ held e)
-    → KeepsRuns (window_of w n g held) (window_of w m (put g d None) after) d
+    → KeepsRuns (window_of (point w n g) held) (window_of (point w m (put g d None)) after) d
 probed_runs w n m g held after d maker v at runs up still = record {
   states = λ q. same_states w n m g (put g d None) q (runs q) (probe_given w g d maker v at q);
   runs = refl;
@@ -75,11 +76,11 @@ probed_runs w n m g held after d maker v at runs up still = record {
 -- A probe that brings no news
 
 -- a probe of a device that is home goes out: it asks a device that is counted up, and restores the standing value of one that is counted down
-pub probe_goes_kept : (w : Setting) (n : Reading) (g : Grips) (held : ℕ → ℕ) (d : ℕ) → IsRead w n → is_weak w.mode ≡ false → is_device w d ≡ true → is_out g d ≡ false → OrderIsKept w n g held
-    → OrderIsKept w n (put g d (Some (record { maker = 0; purpose = Probes (if n.up d then None else Some (standing_value w n g d)) }))) held
+pub probe_goes_kept : (w : Setting) (n : Reading) (g : Grips) (held : ℕ → ℕ) (d : ℕ) → IsRead w n → is_weak w.mode ≡ false → is_device w d ≡ true → is_out g d ≡ false → OrderIsKept (point w n g) held
+    → OrderIsKept (point w n (put g d (Some (record { maker = 0; purpose = Probes (if n.up d then None else Some (standing_value (point w n g) d)) })))) held
 probe_goes_kept w n g held d read strong device in' kept = record {
   grips = fits_with w n g d 0 (Probes v) device refl (λ q e. absurd (no_run q e)) kept.grips;
-  window = probe_out w.kinds (window_of w n g held) (window_of w n (put g d (Some new)) held) d (record {
+  window = probe_out w.kinds (window_of (point w n g) held) (window_of (point w n (put g d (Some new))) held) d (record {
     keeps = record {
       states = λ q. same_states w n n g (put g d (Some new)) q refl (probe_taken w g d 0 v home q);
       runs = refl;
@@ -96,7 +97,7 @@ probe_goes_kept w n g held d read strong device in' kept = record {
 }
   where
     v : Option ℕ
-    v = if n.up d then None else Some (standing_value w n g d)
+    v = if n.up d then None else Some (standing_value (point w n g) d)
 
     new : Grip
     new = record { maker = 0; purpose = Probes v }
@@ -107,21 +108,21 @@ probe_goes_kept w n g held d read strong device in' kept = record {
     no_run : (q : ℕ) → 0 ≡ suc q → ⊥
     no_run q h = omega (arith, h)
 
-    value : standing_value w n g d ≡ standing_value_on w.kinds (window_of w n g held).states d (stand_at w.first d).value n.line
+    value : standing_value (point w n g) d ≡ standing_value_on w.kinds (window_of (point w n g) held).states d (stand_at w.first d).value n.line
     value = ap (λ b. if b then n.last d else standing_of) strong ∙ sym (standing_on_line w n g d (stand_at w.first d).value n.line read)
       where
         standing_of : ℕ
         standing_of = unwrap_or (option_map (λ e. e.value) (effective_write n g d)) (stand_at w.first d).value
 
-    by_up : (b : Bool) → probe_for_purpose (Probes (if b then None else Some (standing_value w n g d))) ≡ (if b then Asks else Restores (standing_value_on w.kinds (window_of w n g held).states d (stand_at w.first d).value n.line))
+    by_up : (b : Bool) → probe_for_purpose (Probes (if b then None else Some (standing_value (point w n g) d))) ≡ (if b then Asks else Restores (standing_value_on w.kinds (window_of (point w n g) held).states d (stand_at w.first d).value n.line))
     by_up true = refl
     by_up false = ap (λ x. Restores x) value
 
 -- it finds the device up, as it is counted, ..
-pub probe_worked_kept : (w : Setting) (n : Reading) (g : Grips) (held : ℕ → ℕ) (d m : ℕ) → g d ≡ Some (record { maker = m; purpose = Probes None }) → OrderIsKept w n g held → OrderIsKept w n (put g d None) held
+pub probe_worked_kept : (w : Setting) (n : Reading) (g : Grips) (held : ℕ → ℕ) (d m : ℕ) → g d ≡ Some (record { maker = m; purpose = Probes None }) → OrderIsKept (point w n g) held → OrderIsKept (point w n (put g d None)) held
 probe_worked_kept w n g held d m at kept = record {
   grips = fits_without w n g d kept.grips;
-  window = probe_found_up w.kinds (window_of w n g held) (window_of w n (put g d None) held) d (record {
+  window = probe_found_up w.kinds (window_of (point w n g) held) (window_of (point w n (put g d None)) held) d (record {
     keeps = probed_runs w n n g held held d m None at (λ q. refl) (λ e ne. refl) (λ e ne. refl);
     line = refl;
     out = ap probe_of at;
@@ -133,10 +134,10 @@ probe_worked_kept w n g held d m at kept = record {
 }
 
 -- .. or down, as it is counted
-pub probe_missed_kept : (w : Setting) (n : Reading) (g : Grips) (held after : ℕ → ℕ) (d m v : ℕ) → g d ≡ Some (record { maker = m; purpose = Probes (Some v) }) → ((e : ℕ) → e ≢ d → after e ≡ held e) → OrderIsKept w n g held → OrderIsKept w n (put g d None) after
+pub probe_missed_kept : (w : Setting) (n : Reading) (g : Grips) (held after : ℕ → ℕ) (d m v : ℕ) → g d ≡ Some (record { maker = m; purpose = Probes (Some v) }) → ((e : ℕ) → e ≢ d → after e ≡ held e) → OrderIsKept (point w n g) held → OrderIsKept (point w n (put g d None)) after
 probe_missed_kept w n g held after d m v at still kept = record {
   grips = fits_without w n g d kept.grips;
-  window = probe_found_down w.kinds (window_of w n g held) (window_of w n (put g d None) after) d v (record {
+  window = probe_found_down w.kinds (window_of (point w n g) held) (window_of (point w n (put g d None)) after) d v (record {
     keeps = probed_runs w n n g held after d m (Some v) at (λ q. refl) (λ e ne. refl) still;
     line = refl;
     out = ap probe_of at;
@@ -175,7 +176,7 @@ rose_turns w n d none = record {
   none_spans = λ q stands sound. none q stands;
 }
 
-fits_probed : (w : Setting) (n m : Reading) (g : Grips) (d : ℕ) → m.run ≡ n.run → GripsFit w n g → GripsFit w m (put g d None)
+fits_probed : (w : Setting) (n m : Reading) (g : Grips) (d : ℕ) → m.run ≡ n.run → GripsFit (point w n g) → GripsFit (point w m (put g d None))
 fits_probed w n m g d run f = fits_without w m g d (fits_same w n m g (λ q e k i. may_command w q e k (run i q)) (λ q e i. may_undo e (run i q)) f)
 
 -- where a run of the line says so of none, the window does
@@ -187,16 +188,16 @@ none_any p (Failed e k ∷ is) none = none_any p is none
 none_any p (Back e k ∷ is) none = none_any p is none
 
 -- a device that is asked has failed, and no run is lost by it
-pub probe_died_kept : (w : Setting) (n : Reading) (g : Grips) (held after : ℕ → ℕ) (d m : ℕ) → IsRead w n → is_weak w.mode ≡ false → g d ≡ Some (record { maker = m; purpose = Probes None }) → lost_by w n d ≡ None → ((e : ℕ) → e ≢ d → after e ≡ held e) → OrderIsKept w n g held
-    → OrderIsKept w (entry w n (Fell (device_no d))) (put g d None) after
+pub probe_died_kept : (w : Setting) (n : Reading) (g : Grips) (held after : ℕ → ℕ) (d m : ℕ) → IsRead w n → is_weak w.mode ≡ false → g d ≡ Some (record { maker = m; purpose = Probes None }) → lost_by w n d ≡ None → ((e : ℕ) → e ≢ d → after e ≡ held e) → OrderIsKept (point w n g) held
+    → OrderIsKept (point w (entry w n (Fell (device_no d))) (put g d None)) after
 probe_died_kept w n g held after d m read strong at none still kept = record {
   grips = fits_probed w n next g d refl kept.grips;
-  window = probe_died w.kinds (window_of w n g held) (window_of w next (put g d None) after) d (n.fell d + 1) (record {
+  window = probe_died w.kinds (window_of (point w n g) held) (window_of (point w next (put g d None)) after) d (n.fell d + 1) (record {
     keeps = probed_runs w n next g held after d m None at (λ q. refl) (λ e ne. put_other n.up d false e ne) still;
     homed = below_home w d device;
     line = event_place w n g held d (Failed (device_no d) (n.fell d + 1)) read strong;
     out = ap probe_of at;
-    none = none_any (at_device w.kinds (window_of w n g held).states d spans_up) n.line (λ q stands. spans_same w n g held d q read (line_stands w n read q stands) ∙ none_lost w n d strong none q stands);
+    none = none_any (at_device w.kinds (window_of (point w n g) held).states d spans_up) n.line (λ q stands. spans_same w n g held d q read (line_stands w n read q stands) ∙ none_lost w n d strong none q stands);
     up = put_same n.up d false;
     probe = ap probe_of (put_same g d None);
   }) kept.window;
@@ -211,11 +212,11 @@ probe_died_kept w n g held after d m read strong at none still kept = record {
 
 -- .. and the run that the rule names is, and is doomed for it
 pub probe_died_doomed_kept : (w : Setting) (n : Reading) (g : Grips) (held after : ℕ → ℕ) (d m r : ℕ) (cause : Cause) → IsRead w n → is_weak w.mode ≡ false
-    → g d ≡ Some (record { maker = m; purpose = Probes None }) → lost_by w n d ≡ Some r → ((e : ℕ) → e ≢ d → after e ≡ held e) → OrderIsKept w n g held
-    → OrderIsKept w (entry w (entry w n (Fell (device_no d))) (Doomed (run_no r) cause)) (put g d None) after
+    → g d ≡ Some (record { maker = m; purpose = Probes None }) → lost_by w n d ≡ Some r → ((e : ℕ) → e ≢ d → after e ≡ held e) → OrderIsKept (point w n g) held
+    → OrderIsKept (point w (entry w (entry w n (Fell (device_no d))) (Doomed (run_no r) cause)) (put g d None)) after
 probe_died_doomed_kept w n g held after d m r cause read strong at lost still kept = record {
   grips = fits_without w next g d (fits_doomed w fell g r cause (fits_same w n fell g (λ q e k. refl) (λ q e. refl) kept.grips));
-  window = probe_died_under_run w.kinds (window_of w n g held) (window_of w next (put g d None) after) r d (n.fell d + 1) (record {
+  window = probe_died_under_run w.kinds (window_of (point w n g) held) (window_of (point w next (put g d None)) after) r d (n.fell d + 1) (record {
     place = event_window w n next g (put g d None) held after d r (Failed (device_no d) (n.fell d + 1)) cut read strong (λ p. refl) refl others (λ q e ne. probe_given w g d m None at q e);
     keeps = record { commands = refl; answers = ap (λ o. o.answers) own; undid = λ e. ap (λ o. (o.on e).undid) own; grip = probe_given w g d m None at r };
     homed = below_home w d device;
@@ -236,7 +237,7 @@ probe_died_doomed_kept w n g held after d m r cause read strong at lost still ke
     view = λ q e. put_keeps (λ o. (o.on e).view) n.run r _ refl q;
     late = λ q e. put_keeps (λ o. (o.on e).late) n.run r _ refl q;
     doomed = λ q h. sound_before w fell r cause q h;
-    none_spans = λ q stands sound. out_spans_none w n g held d r cut read kept device used (or_left _ _ (and_parts (touches w.runs r d) (spans_up (usage w.kinds (run_state w n g r) d)) spans).1) q stands (λ own'. doomed_now q own' sound);
+    none_spans = λ q stands sound. out_spans_none w n g held d r cut read kept device used (or_left _ _ (and_parts (touches w.runs r d) (spans_up (usage w.kinds (run_state (point w n g) r) d)) spans).1) q stands (λ own'. doomed_now q own' sound);
   });
 }
   where
@@ -267,11 +268,11 @@ probe_died_doomed_kept w n g held after d m r cause read strong at lost still ke
     cut : CutAt r n.line
     cut = cut_live w n r read live
 
-    spans : at_device w.kinds (window_of w n g held).states d spans_up r ≡ true
+    spans : at_device w.kinds (window_of (point w n g) held).states d spans_up r ≡ true
     spans = spans_same w n g held d r read (line_stands w n read r (live_stands w n r read live)) ∙ sees
 
     used : touches w.runs r d ≡ true
-    used = (and_parts (touches w.runs r d) (spans_up (usage w.kinds (run_state w n g r) d)) spans).0
+    used = (and_parts (touches w.runs r d) (spans_up (usage w.kinds (run_state (point w n g) r) d)) spans).0
 
     doomed_now : (q : ℕ) → q ≡ r → is_doomed next q ≡ false → ⊥
     doomed_now q same sound = clash (sym (ap (λ (o : OfRun). is_some o.doomed) own) ∙ ap (is_doomed next) (sym same) ∙ sound)
@@ -280,10 +281,12 @@ probe_died_doomed_kept w n g held after d m r cause read strong at lost still ke
         clash h = grind (arith, common_steps)
 
 -- a device that was counted down is back, and stands at the value that the probe restored
-pub restarted_kept : (w : Setting) (n : Reading) (g : Grips) (held : ℕ → ℕ) (d m v : ℕ) → IsRead w n → is_weak w.mode ≡ false → g d ≡ Some (record { maker = m; purpose = Probes (Some v) }) → OrderIsKept w n g held → OrderIsKept w (entry w n (Rose (device_no d))) (put g d None) (put held d v)
+pub restarted_kept : (w : Setting) (n : Reading) (g : Grips) (held : ℕ → ℕ) (d m v : ℕ) → IsRead w n → is_weak w.mode ≡ false
+    → g d ≡ Some (record { maker = m; purpose = Probes (Some v) }) → OrderIsKept (point w n g) held
+    → OrderIsKept (point w (entry w n (Rose (device_no d))) (put g d None)) (put held d v)
 restarted_kept w n g held d m v read strong at kept = record {
   grips = fits_probed w n next g d refl kept.grips;
-  window = device_restarted w.kinds (window_of w n g held) (window_of w next (put g d None) (put held d v)) d (n.rose d + 1) v (record {
+  window = device_restarted w.kinds (window_of (point w n g) held) (window_of (point w next (put g d None)) (put held d v)) d (n.rose d + 1) v (record {
     keeps = probed_runs w n next g held (put held d v) d m (Some v) at (λ q. refl) (λ e ne. put_other n.up d true e ne) (λ e ne. put_other held d v e ne);
     homed = below_home w d device;
     line = event_place w n g held d (Back (device_no d) (n.rose d + 1)) read strong;
@@ -304,11 +307,11 @@ restarted_kept w n g held d m v read strong at kept = record {
 -- An undo that dies
 
 -- the device fails at an undo: the write is dropped, and no run is lost
-pub undo_died_kept : (w : Setting) (n : Reading) (g : Grips) (held after : ℕ → ℕ) (d r v : ℕ) → IsRead w n → is_weak w.mode ≡ false → g d ≡ Some (record { maker = r; purpose = Undoes v }) → ((e : ℕ) → e ≢ d → after e ≡ held e) → OrderIsKept w n g held
-    → OrderIsKept w (entry w (entry w n (Fell (device_no d))) (Undid (run_no r) (device_no d) false)) (put g d None) after
+pub undo_died_kept : (w : Setting) (n : Reading) (g : Grips) (held after : ℕ → ℕ) (d r v : ℕ) → IsRead w n → is_weak w.mode ≡ false → g d ≡ Some (record { maker = r; purpose = Undoes v }) → ((e : ℕ) → e ≢ d → after e ≡ held e) → OrderIsKept (point w n g) held
+    → OrderIsKept (point w (entry w (entry w n (Fell (device_no d))) (Undid (run_no r) (device_no d) false)) (put g d None)) after
 undo_died_kept w n g held after d r v read strong at still kept = record {
   grips = home_fits w n next g d r (Undoes v) others (live_run w n r read may.0) at kept.grips;
-  window = undo_died w.kinds (window_of w n g held) (window_of w next (put g d None) after) r d (n.fell d + 1) v (record {
+  window = undo_died w.kinds (window_of (point w n g) held) (window_of (point w next (put g d None)) after) r d (n.fell d + 1) v (record {
     place = event_window w n next g (put g d None) held after d r (Failed (device_no d) (n.fell d + 1)) cut read strong (λ p. refl) refl others (λ q e ne. put_keeps (held_by w q) g d None (sym (ap (held_by w q) at ∙ held_other w r q (Undoes v) ne)) e);
     keeps = undone_elsewhere w n g (put g d None) r d false (λ e ne. ap (held_by w r) (put_other g d None e ne));
     homed = below_home w d device;

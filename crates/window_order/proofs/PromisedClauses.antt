@@ -13,7 +13,7 @@ use Rattle.home_types.specs.declared.commands.Answer.{Answer}
 use Rattle.home_types.specs.declared.commands.Command.{Command}
 use Rattle.home_types.specs.declared.items.Item.TheVariants.{Back, Failed, Ran}
 use Rattle.home_types.specs.declared.items.Item.{Item}
-use Rattle.lock_leasing.specs.Configurations.{Grips, grips_command, grips_undo}
+use Rattle.lock_leasing.specs.Configurations.{Grips, grips_command, grips_undo, point}
 use Rattle.lock_leasing.specs.Order.{covers, has_live_write, has_read_first, is_covered, is_touched, live_writes_are_covered, open_runs_are_last, opens}
 use Rattle.lock_leasing.specs.Words.{has_touched, is_undone}
 use Rattle.std.proofs.Common.{ap, ap₂, append_assoc, arith, refl, sym, ◌∙◌}
@@ -51,7 +51,7 @@ homed_use k d (c ∷ cs) a h = at_ (λ e. homed_use k d cs a.1 e) (is_on d c) re
     at_ ih true e h = same e a.0
     at_ ih false e h = ih h
 
-pub touched_device : (w : Setting) (n : Reading) (g : Grips) (held : ℕ → ℕ) (r d : ℕ) → OrderIsKept w n g held → touches w.runs r d ≡ true → d < length w.first
+pub touched_device : (w : Setting) (n : Reading) (g : Grips) (held : ℕ → ℕ) (r d : ℕ) → OrderIsKept (point w n g) held → touches w.runs r d ≡ true → d < length w.first
 touched_device w n g held r d o h = homed_use (length w.first) d (commands_of w.runs r) (o.window.runs r).homed h
 
 -- the commands without an answer are those from the next one on
@@ -74,7 +74,7 @@ any_dropped d (suc k) (c ∷ cs) h = ap (λ b. is_on d c || b) (any_dropped d k 
 -- Touches
 
 -- a run touched a device where its use there says so
-pub touched_held : (w : Setting) (n : Reading) (g : Grips) (r d : ℕ) → IsRead w n → has_used_device (usage w.kinds (run_state w n g r) d) ≡ has_touched n g r d
+pub touched_held : (w : Setting) (n : Reading) (g : Grips) (r d : ℕ) → IsRead w n → has_used_device (usage w.kinds (run_state (point w n g) r) d) ≡ has_touched n g r d
 touched_held w n g r d s = ap₂ (λ x y. x || y) (ap is_some ((s.summarized r).view d) ∙ seen ((n.run r).on d).view) (command_held w g r d)
   where
     seen : (v : Option Bool) → is_some (option_map view_from v) ≡ is_some v
@@ -82,7 +82,7 @@ touched_held w n g r d s = ap₂ (λ x y. x || y) (ap is_some ((s.summarized r).
     seen (Some b) = refl
 
 -- .. and it uses what it touched
-pub touched_touches : (w : Setting) (n : Reading) (g : Grips) (held : ℕ → ℕ) (r d : ℕ) → IsRead w n → OrderIsKept w n g held → has_touched n g r d ≡ true → touches w.runs r d ≡ true
+pub touched_touches : (w : Setting) (n : Reading) (g : Grips) (held : ℕ → ℕ) (r d : ℕ) → IsRead w n → OrderIsKept (point w n g) held → has_touched n g r d ≡ true → touches w.runs r d ≡ true
 touched_touches w n g held r d s o h = by (did n r d) refl h
   where
     by : (b : Bool) → did n r d ≡ b → (b || grips_command g r d) ≡ true → touches w.runs r d ≡ true
@@ -108,7 +108,7 @@ covered_part n d (i ∷ is) h = at_ (λ e. covered_part n d is e) (has_read_firs
     at_ ih false false e f = ih (later f)
 
 -- a part that holds a committed write is covered by it
-cover_found : (w : Setting) (n : Reading) (g : Grips) (d : ℕ) (part : List Item) → IsRead w n → IsCovered w.kinds (λ r. run_state w n g r) d part → list_any (covers n d) part ≡ true
+cover_found : (w : Setting) (n : Reading) (g : Grips) (d : ℕ) (part : List Item) → IsRead w n → IsCovered w.kinds (λ r. run_state (point w n g) r) d part → list_any (covers n d) part ≡ true
 cover_found w n g d part s c =
     ap (list_any (covers n d)) c.at ∙ list_any-append (covers n d) c.front (Ran (run_no c.run) ∷ c.back)
     ∙ ap (λ b. list_any (covers n d) c.front || (b || list_any (covers n d) c.back)) (ap₂ (λ x y. x && y) c.committed (ap is_some (sym ((s.summarized c.run).wrote d)) ∙ c.wrote))
@@ -118,7 +118,7 @@ live_not_committed : (n : Reading) (r : ℕ) → is_live n r ≡ true → is_com
 live_not_committed n r h = grind (arith, common_steps)
 
 -- a live write is covered behind it
-write_covered : (w : Setting) (n : Reading) (g : Grips) (held : ℕ → ℕ) (d : ℕ) (front is : List Item) (i : Item) → IsRead w n → OrderIsKept w n g held → n.line ≡ front ++ i ∷ is → has_live_write n g d i ≡ true → is_covered n d is ≡ true
+write_covered : (w : Setting) (n : Reading) (g : Grips) (held : ℕ → ℕ) (d : ℕ) (front is : List Item) (i : Item) → IsRead w n → OrderIsKept (point w n g) held → n.line ≡ front ++ i ∷ is → has_live_write n g d i ≡ true → is_covered n d is ≡ true
 write_covered w n g held d front is (Ran r) s o at h = covered_part n d is each
   where
     whole : Parts (is_live n r.0) (has_written n r.0 d) (not (is_undone n g r.0 d))
@@ -130,13 +130,13 @@ write_covered w n g held d front is (Ran r) s o at h = covered_part n d is each
         by : (x y : Bool) → not (x || y) ≡ true → x ≡ false
         by x y e = grind (arith, common_steps)
 
-    writes : HasLiveWriteAt w.kinds (window_of w n g held) d r.0
+    writes : HasLiveWriteAt w.kinds (window_of (point w n g) held) d r.0
     writes = record { live = live_not_committed n r.0 whole.first; wrote = ap is_some ((s.summarized r.0).wrote d) ∙ whole.second; kept = kept }
 
     each : (m rest : List Item) (j : Item) → is ≡ m ++ j ∷ rest → has_read_first n d j ≡ true → list_any (covers n d) m ≡ true
     each m rest (Ran q) e x =
         cover_found w n g d m s
-        (read_covered w.kinds (window_of w n g held) d r.0 q.0 (record { front = front; between = m; back = rest; at = at ∙ ap (λ l. front ++ Ran r ∷ l) e })
+        (read_covered w.kinds (window_of (point w n g) held) d r.0 q.0 (record { front = front; between = m; back = rest; at = at ∙ ap (λ l. front ++ Ran r ∷ l) e })
         o.window (touched_device w n g held r.0 d o (written_touches w n r.0 d s whole.second)) writes (ap is_some ((s.summarized q.0).read d) ∙ x))
     each m rest (Failed e k) a x = absurd (cc)
     each m rest (Back e k) a x = absurd (cc)
@@ -144,7 +144,7 @@ write_covered w n g held d front is (Failed e k) s o at h = absurd (cc)
 write_covered w n g held d front is (Back e k) s o at h = absurd (cc)
 
 -- .. and so is each live write of the line
-covered_along : (w : Setting) (n : Reading) (g : Grips) (held : ℕ → ℕ) (d : ℕ) (front part : List Item) → IsRead w n → OrderIsKept w n g held → n.line ≡ front ++ part → live_writes_are_covered n g d part ≡ true
+covered_along : (w : Setting) (n : Reading) (g : Grips) (held : ℕ → ℕ) (d : ℕ) (front part : List Item) → IsRead w n → OrderIsKept (point w n g) held → n.line ≡ front ++ part → live_writes_are_covered n g d part ≡ true
 covered_along w n g held d front [] s o at = refl
 covered_along w n g held d front (i ∷ is) s o at = ap₂ (λ x y. x && y) (at_ (has_live_write n g d i) refl) (covered_along w n g held d (front ++ i ∷ []) is s o (at ∙ sym (append_assoc front (i ∷ []) is)))
   where
@@ -152,7 +152,7 @@ covered_along w n g held d front (i ∷ is) s o at = ap₂ (λ x y. x && y) (at_
     at_ true e = write_covered w n g held d front is i s o at e
     at_ false e = refl
 
-pub live_writes_covered : (w : Setting) (n : Reading) (g : Grips) (held : ℕ → ℕ) (d : ℕ) → IsRead w n → OrderIsKept w n g held → live_writes_are_covered n g d n.line ≡ true
+pub live_writes_covered : (w : Setting) (n : Reading) (g : Grips) (held : ℕ → ℕ) (d : ℕ) → IsRead w n → OrderIsKept (point w n g) held → live_writes_are_covered n g d n.line ≡ true
 live_writes_covered w n g held d s o = covered_along w n g held d [] n.line s o refl
 
 -- Open runs
@@ -163,13 +163,13 @@ none_of p [] h = refl
 none_of p (i ∷ is) h = ap₂ (λ x y. x || y) (h [] is i refl) (none_of p is (λ m rest j e. h (i ∷ m) rest j (ap (λ l. i ∷ l) e)))
 
 -- behind an open run no run has touched its device
-open_last : (w : Setting) (n : Reading) (g : Grips) (held : ℕ → ℕ) (d : ℕ) (front is : List Item) (i : Item) → IsRead w n → OrderIsKept w n g held → n.line ≡ front ++ i ∷ is → opens w n d i ≡ true → list_any (is_touched n g d) is ≡ false
+open_last : (w : Setting) (n : Reading) (g : Grips) (held : ℕ → ℕ) (d : ℕ) (front is : List Item) (i : Item) → IsRead w n → OrderIsKept (point w n g) held → n.line ≡ front ++ i ∷ is → opens w n d i ≡ true → list_any (is_touched n g d) is ≡ false
 open_last w n g held d front is (Ran r) s o at h = none_of (is_touched n g d) is each
   where
     whole : Parts (is_live n r.0) (not (is_doomed n r.0)) (pends w n r.0 d)
     whole = parts (is_live n r.0) (not (is_doomed n r.0)) (pends w n r.0 d) h
 
-    pending : IsPendingAt (window_of w n g held) d r.0
+    pending : IsPendingAt (window_of (point w n g) held) d r.0
     pending = record { live = live_not_committed n r.0 whole.first; counts = not-true (is_doomed n r.0) whole.second; left = pending_rest w n g r.0 d ∙ whole.third }
 
     each : (m rest : List Item) (j : Item) → is ≡ m ++ j ∷ rest → is_touched n g d j ≡ false
@@ -177,7 +177,7 @@ open_last w n g held d front is (Ran r) s o at h = none_of (is_touched n g d) is
       where
         by : (b : Bool) → has_touched n g q.0 d ≡ b → b ≡ false
         by true x =
-            sym x ∙ sym (touched_held w n g q.0 d s) ∙ untouched_after w.kinds (window_of w n g held) d r.0 q.0
+            sym x ∙ sym (touched_held w n g q.0 d s) ∙ untouched_after w.kinds (window_of (point w n g) held) d r.0 q.0
             (record { front = front; between = m; back = rest; at = at ∙ ap (λ l. front ++ Ran r ∷ l) e }) o.window
             (touched_device w n g held r.0 d o (any_dropped d (next_of n r.0) (commands_of w.runs r.0) whole.third)) pending
             (touched_touches w n g held q.0 d s o x)
@@ -187,7 +187,7 @@ open_last w n g held d front is (Ran r) s o at h = none_of (is_touched n g d) is
 open_last w n g held d front is (Failed e k) s o at h = absurd (cc)
 open_last w n g held d front is (Back e k) s o at h = absurd (cc)
 
-last_along : (w : Setting) (n : Reading) (g : Grips) (held : ℕ → ℕ) (d : ℕ) (front part : List Item) → IsRead w n → OrderIsKept w n g held → n.line ≡ front ++ part → open_runs_are_last w n g d part ≡ true
+last_along : (w : Setting) (n : Reading) (g : Grips) (held : ℕ → ℕ) (d : ℕ) (front part : List Item) → IsRead w n → OrderIsKept (point w n g) held → n.line ≡ front ++ part → open_runs_are_last (point w n g) d part ≡ true
 last_along w n g held d front [] s o at = refl
 last_along w n g held d front (i ∷ is) s o at = ap₂ (λ x y. x && y) (at_ (opens w n d i) refl) (last_along w n g held d (front ++ i ∷ []) is s o (at ∙ sym (append_assoc front (i ∷ []) is)))
   where
@@ -195,5 +195,5 @@ last_along w n g held d front (i ∷ is) s o at = ap₂ (λ x y. x && y) (at_ (o
     at_ true e = ap not (open_last w n g held d front is i s o at e)
     at_ false e = refl
 
-pub open_runs_last : (w : Setting) (n : Reading) (g : Grips) (held : ℕ → ℕ) (d : ℕ) → IsRead w n → OrderIsKept w n g held → open_runs_are_last w n g d n.line ≡ true
+pub open_runs_last : (w : Setting) (n : Reading) (g : Grips) (held : ℕ → ℕ) (d : ℕ) → IsRead w n → OrderIsKept (point w n g) held → open_runs_are_last (point w n g) d n.line ≡ true
 open_runs_last w n g held d s o = last_along w n g held d [] n.line s o refl

@@ -14,7 +14,9 @@ use Rattle.history_book.specs.Settings.{Setting, is_device}
 use Rattle.home_types.specs.declared.items.Item.TheVariants.{Back, Failed, Ran}
 use Rattle.home_types.specs.declared.items.Item.{Item}
 use Rattle.home_types.specs.declared.kinds.Kind.{Kind}
-use Rattle.lock_leasing.specs.Configurations.{Commands, Grip, Grips, Probes, Purpose, Undoes, grips_command, grips_undo, is_command, is_undo}
+use Rattle.lock_leasing.specs.Configurations.{Grip, Grips, grips_command, grips_undo, is_command, is_undo, point}
+use Rattle.lock_leasing.specs.declared.purposes.Purpose.TheVariants.{Commands, Probes, Undoes}
+use Rattle.lock_leasing.specs.declared.purposes.Purpose.{Purpose}
 use Rattle.lock_leasing.specs.Words.{is_undone}
 use Rattle.std.proofs.Common.{ap, ap₂, arith, refl, ◌∙◌}
 use Rattle.std.proofs.lemmas.Grind.{common_steps}
@@ -70,7 +72,7 @@ pub written_touches : (w : Setting) (n : Reading) (r d : ℕ) → IsRead w n →
 written_touches w n r d s h = did_touches w n r d s.shaped ((s.shaped r).wrote d h)
 
 -- the use of a run has its write in effect where it wrote and is not undone
-pub effect_held : (w : Setting) (n : Reading) (g : Grips) (r d : ℕ) → IsRead w n → is_in_effect (usage w.kinds (run_state w n g r) d) ≡ (is_some ((n.run r).on d).wrote && not (is_undone n g r d))
+pub effect_held : (w : Setting) (n : Reading) (g : Grips) (r d : ℕ) → IsRead w n → is_in_effect (usage w.kinds (run_state (point w n g) r) d) ≡ (is_some ((n.run r).on d).wrote && not (is_undone n g r d))
 effect_held w n g r d s = ap₂ (λ o x. is_some o && not (((n.run r).on d).undid || x)) ((s.summarized r).wrote d) (undo_held w g r d)
 
 -- Lines

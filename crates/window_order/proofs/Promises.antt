@@ -1,7 +1,7 @@
 -- The serial order invariant: the four promised clauses of a window whose order is kept.
 use Rattle.history_book.specs.Readings.{Reading}
 use Rattle.history_book.specs.Settings.{Setting}
-use Rattle.lock_leasing.specs.Configurations.{Grips}
+use Rattle.lock_leasing.specs.Configurations.{Grips, point}
 use Rattle.lock_leasing.specs.Order.{OrderStands, live_writes_are_covered, open_runs_are_last}
 use Rattle.std.proofs.Common.{arith}
 use Rattle.std.proofs.lemmas.Grind.{common_steps}
@@ -14,10 +14,10 @@ use Rattle.window_order.specs.OrderKept.{OrderIsKept}
 test_holds : (b : Bool) → b ≡ true → IsTrue b
 test_holds b e = grind (arith, common_steps)
 
-pub order_stands : (w : Setting) (n : Reading) (g : Grips) (held : ℕ → ℕ) → IsRead w n → OrderIsKept w n g held → OrderStands w n g
+pub order_stands : (w : Setting) (n : Reading) (g : Grips) (held : ℕ → ℕ) → IsRead w n → OrderIsKept (point w n g) held → OrderStands (point w n g)
 order_stands w n g held s o = record {
   settled = settled_agree w n g held s o;
   history = o.history;
   covered = λ d. test_holds (live_writes_are_covered n g d n.line) (live_writes_covered w n g held d s o);
-  last = λ d. test_holds (open_runs_are_last w n g d n.line) (open_runs_last w n g held d s o);
+  last = λ d. test_holds (open_runs_are_last (point w n g) d n.line) (open_runs_last w n g held d s o);
 }

@@ -17,7 +17,7 @@ use Rattle.home_types.specs.declared.items.Item.TheVariants.{Back, Failed, Ran}
 use Rattle.home_types.specs.declared.items.Item.{Item}
 use Rattle.lineage_table.specs.declared.accesses.Access.{Access}
 use Rattle.lineage_table.specs.Lineages.{LineageState, lineage_at}
-use Rattle.lock_leasing.specs.Configurations.{Grips}
+use Rattle.lock_leasing.specs.Configurations.{Grips, point}
 use Rattle.lock_leasing.specs.Order.{firsts_of_line, is_late, marks_of_line}
 use Rattle.lock_leasing.specs.Words.{committed_write, last_some}
 use Rattle.lock_leasing.specs.Places.{in_order}
@@ -106,20 +106,20 @@ first_told n d (Ran r) = if did n r.0 d then Some r.0 else None
 first_told n d (Failed e k) = None
 first_told n d (Back e k) = None
 
-entries_part : (w : Setting) (n : Reading) (g : Grips) (held : ℕ → ℕ) (d : ℕ) (line : List Item) → entries w.kinds (window_of w n g held).states d (part w d line) ≡ entries w.kinds (window_of w n g held).states d line
+entries_part : (w : Setting) (n : Reading) (g : Grips) (held : ℕ → ℕ) (d : ℕ) (line : List Item) → entries w.kinds (window_of (point w n g) held).states d (part w d line) ≡ entries w.kinds (window_of (point w n g) held).states d line
 unfolding entries
 entries_part w n g held d [] = refl
 entries_part w n g held d (i ∷ is) = by_item i (entries_part w n g held d is)
   where
     E : List Item → List OrderEntry
-    E line = entries w.kinds (window_of w n g held).states d line
+    E line = entries w.kinds (window_of (point w n g) held).states d line
 
-    at_ : (i : Item) (x : OrderEntry) (b c : Bool) → b ≡ c → entry_of w.kinds (window_of w n g held).states d i ≡ entry_if b x → E (part w d is) ≡ E is → E (cond b (i ∷ part w d is) (part w d is)) ≡ with_order_entry (entry_of w.kinds (window_of w n g held).states d i) (E is)
-    at_ i x b true e same rest = (λ k. E (cond (e k) (i ∷ part w d is) (part w d is))) ∙ ap (with_order_entry (entry_of w.kinds (window_of w n g held).states d i)) rest
+    at_ : (i : Item) (x : OrderEntry) (b c : Bool) → b ≡ c → entry_of w.kinds (window_of (point w n g) held).states d i ≡ entry_if b x → E (part w d is) ≡ E is → E (cond b (i ∷ part w d is) (part w d is)) ≡ with_order_entry (entry_of w.kinds (window_of (point w n g) held).states d i) (E is)
+    at_ i x b true e same rest = (λ k. E (cond (e k) (i ∷ part w d is) (part w d is))) ∙ ap (with_order_entry (entry_of w.kinds (window_of (point w n g) held).states d i)) rest
     at_ i x b false e same rest = (λ k. E (cond (e k) (i ∷ part w d is) (part w d is))) ∙ rest ∙ sym (ap (λ o. with_order_entry o (E is)) (same ∙ ap (λ c. entry_if c x) e))
 
-    by_item : (i : Item) → E (part w d is) ≡ E is → E (cond (is_item_on w.runs d i) (i ∷ part w d is) (part w d is)) ≡ with_order_entry (entry_of w.kinds (window_of w n g held).states d i) (E is)
-    by_item (Ran r) rest = at_ (Ran r) (Used (usage w.kinds (run_state w n g r.0) d)) (touches w.runs r.0 d) (touches w.runs r.0 d) refl refl rest
+    by_item : (i : Item) → E (part w d is) ≡ E is → E (cond (is_item_on w.runs d i) (i ∷ part w d is) (part w d is)) ≡ with_order_entry (entry_of w.kinds (window_of (point w n g) held).states d i) (E is)
+    by_item (Ran r) rest = at_ (Ran r) (Used (usage w.kinds (run_state (point w n g) r.0) d)) (touches w.runs r.0 d) (touches w.runs r.0 d) refl refl rest
     by_item (Failed e k) rest = at_ (Failed e k) (Occurred Failure) (e.0 == d) (e.0 == d) refl refl rest
     by_item (Back e k) rest = at_ (Back e k) (Occurred Restart) (e.0 == d) (e.0 == d) refl refl rest
 
@@ -161,7 +161,7 @@ all_homed size (Back e k ∷ is) none = (here e.0 (list_any (astray size) is) no
     last : (a b : Bool) → (a || b) ≡ false → b ≡ false
     last a b h = grind (arith, common_steps)
 
-pub order_kept : (w : Setting) (n : Reading) (g : Grips) (held : ℕ → ℕ) (next : List Item) → IsRead w n → HasSameParts w n.line next → OrderIsKept w n g held → OrderIsKept w (in_order n next) g held
+pub order_kept : (w : Setting) (n : Reading) (g : Grips) (held : ℕ → ℕ) (next : List Item) → IsRead w n → HasSameParts w n.line next → OrderIsKept (point w n g) held → OrderIsKept (point w (in_order n next) g) held
 order_kept w n g held next read same kept = record {
   grips = fits_same w n (in_order n next) g (λ q d k. refl) (λ q d. refl) kept.grips;
   window = record {
@@ -177,8 +177,8 @@ order_kept w n g held next read same kept = record {
   };
 }
   where
-    order : (d : ℕ) → entries w.kinds (window_of w n g held).states d next ≡ entries w.kinds (window_of w n g held).states d n.line
-    order d = sym (entries_part w n g held d next) ∙ ap (entries w.kinds (window_of w n g held).states d) (same.parts d) ∙ entries_part w n g held d n.line
+    order : (d : ℕ) → entries w.kinds (window_of (point w n g) held).states d next ≡ entries w.kinds (window_of (point w n g) held).states d n.line
+    order d = sym (entries_part w n g held d next) ∙ ap (entries w.kinds (window_of (point w n g) held).states d) (same.parts d) ∙ entries_part w n g held d n.line
 
     firsts : (d : ℕ) → firsts_of_line (in_order n next) d ≡ firsts_of_line n d
     firsts d = sym (as_told next) ∙ sym (mapped_part w d (first_told n d) next (off d)) ∙ ap (filter_map (first_told n d)) (same.parts d) ∙ mapped_part w d (first_told n d) n.line (off d) ∙ as_told n.line
@@ -240,7 +240,7 @@ accesses_part w d p c f (Back e k ∷ is) off none = at_ (e.0 == d) (accesses_pa
     at_ true rest = rest
     at_ false rest = rest
 
-lineage_kept : (w : Setting) (n : Reading) (g : Grips) (d : ℕ) (next : List Item) (s : LineageState) → IsRead w n → HasSameParts w n.line next → LineageIsKept w n g d s → LineageIsKept w (in_order n next) g d s
+lineage_kept : (w : Setting) (n : Reading) (g : Grips) (d : ℕ) (next : List Item) (s : LineageState) → IsRead w n → HasSameParts w n.line next → LineageIsKept (point w n g) d s → LineageIsKept (point w (in_order n next) g) d s
 lineage_kept w n g d next s read same kept = record {
   passed = kept.passed;
   may_pass = kept.may_pass;
@@ -263,10 +263,10 @@ lineage_kept w n g d next s read same kept = record {
         neither true = refl
         neither false = refl
 
-    accesses : accesses_read w (in_order n next) g kept.passed d next ≡ accesses_read w n g kept.passed d n.line
+    accesses : accesses_read (point w (in_order n next) g) kept.passed d next ≡ accesses_read (point w n g) kept.passed d n.line
     accesses =
-        sym (accesses_part w d (uses w n d) (commits_write n d) (access_read w n g kept.passed d) next off none) ∙ ap (accesses_along (uses w n d) (commits_write n d) (access_read w n g kept.passed d)) (same.parts d)
-        ∙ accesses_part w d (uses w n d) (commits_write n d) (access_read w n g kept.passed d) n.line off none
+        sym (accesses_part w d (uses w n d) (commits_write n d) (access_read (point w n g) kept.passed d) next off none) ∙ ap (accesses_along (uses w n d) (commits_write n d) (access_read (point w n g) kept.passed d)) (same.parts d)
+        ∙ accesses_part w d (uses w n d) (commits_write n d) (access_read (point w n g) kept.passed d) n.line off none
 
     silent : (i : Item) → is_item_on w.runs d i ≡ false → committed_write n d i ≡ None
     silent (Ran r) e = ap (λ o. if is_committed n r.0 then o else None) (none_of ((n.run r.0).on d).wrote (unwritten w n r.0 d read e)) ∙ either (is_committed n r.0)
@@ -283,5 +283,5 @@ lineage_kept w n g d next s read same kept = record {
     values : last_some (committed_write n d) next ≡ last_some (committed_write n d) n.line
     values = sym (last_filter (committed_write n d) (is_item_on w.runs d) next None silent) ∙ ap (last_some (committed_write n d)) (same.parts d) ∙ last_filter (committed_write n d) (is_item_on w.runs d) n.line None silent
 
-pub table_kept : (w : Setting) (n : Reading) (g : Grips) (next : List Item) (table : List LineageState) → IsRead w n → HasSameParts w n.line next → TableIsKept w n g table → TableIsKept w (in_order n next) g table
+pub table_kept : (w : Setting) (n : Reading) (g : Grips) (next : List Item) (table : List LineageState) → IsRead w n → HasSameParts w n.line next → TableIsKept (point w n g) table → TableIsKept (point w (in_order n next) g) table
 table_kept w n g next table read same kept = record { devices = kept.devices; each = λ d below. lineage_kept w n g d next (lineage_at table d) read same (kept.each d below) }

@@ -13,7 +13,9 @@ use Rattle.lineage_table.specs.Lineages.{LineageState, accesses_at}
 use Rattle.lineage_table.specs.declared.accesses.Access.{Access}
 use Rattle.lineage_table.specs.declared.accesses.Status.TheVariants.{Acquired, Released, Scheduled}
 use Rattle.lineage_table.specs.declared.accesses.Status.{Status}
-use Rattle.lock_leasing.specs.Configurations.{Commands, Grip, Grips, Probes, Purpose, Undoes, grips_command, is_command}
+use Rattle.lock_leasing.specs.Configurations.{Grip, Grips, grips_command, is_command, point}
+use Rattle.lock_leasing.specs.declared.purposes.Purpose.TheVariants.{Commands, Probes, Undoes}
+use Rattle.lock_leasing.specs.declared.purposes.Purpose.{Purpose}
 use Rattle.lock_leasing.specs.Order.{covers}
 use Rattle.lock_leasing.specs.Places.{GripsFit}
 use Rattle.lock_leasing.specs.Tables.{EachTellsOfRun, Represents, TellsOfRun, may_be_passed, runs_with_access, some_in_use, status_by_answers, uses, view_when}
@@ -37,7 +39,7 @@ pub held_as : (g : Grips) (r d : ℕ) (grip : Grip) (p : Purpose) → g d ≡ So
 held_as g r d grip p at own purpose = at ∙ (λ i. Some (record { maker = eqb-true grip.maker r own i; purpose = purpose i }))
 
 -- a run that holds the grip of a command has a command pending there
-pub gripped_pends : (w : Setting) (n : Reading) (g : Grips) (r d : ℕ) → GripsFit w n g → grips_command g r d ≡ true → pends w n r d ≡ true
+pub gripped_pends : (w : Setting) (n : Reading) (g : Grips) (r d : ℕ) → GripsFit (point w n g) → grips_command g r d ≡ true → pends w n r d ≡ true
 gripped_pends w n g r d fit held = at_ (g d) refl held
   where
     by_purpose : (grip : Grip) → g d ≡ Some grip → (grip.maker == r) ≡ true → (p : Purpose) → grip.purpose ≡ p → is_command p ≡ true → pends w n r d ≡ true
@@ -69,11 +71,12 @@ in_use_behind x (y ∷ ys) turns used = at_ (is_scheduled y.status) refl (in_use
     at_ false e ih = is_one x.status (first (is_released x.status) (is_scheduled y.status) e turns.0)
 
 -- what the access of a run tells
-tells : (w : Setting) (n : Reading) (g : Grips) (passed : ℕ → Bool) (d r : ℕ) (rest : List Access) → ((q : ℕ) → passed q ≡ true → may_be_passed n g q d ≡ true) → AllByRecursion (AreInTurn (access_read w n g passed d r)) rest → TellsOfRun w n g d (access_read w n g passed d r) rest
+tells : (w : Setting) (n : Reading) (g : Grips) (passed : ℕ → Bool) (d r : ℕ) (rest : List Access) → ((q : ℕ) → passed q ≡ true → may_be_passed n g q d ≡ true)
+    → AllByRecursion (AreInTurn (access_read (point w n g) passed d r)) rest → TellsOfRun (point w n g) d (access_read (point w n g) passed d r) rest
 tells w n g passed d r rest may turns = record {
-  status = λ never. (λ i. if unpassed never i then Released else status_by_answers w n g r d);
+  status = λ never. (λ i. if unpassed never i then Released else status_by_answers (point w n g) r d);
   free = λ may. unacquired (passed r) (is_doomed n r) (did n r d) (grips_command g r d) may;
-  passed = λ may used. in_use_behind (access_read w n g passed d r) rest turns used;
+  passed = λ may used. in_use_behind (access_read (point w n g) passed d r) rest turns used;
   view = λ sound. (λ i. if unpassed (ap (λ b. b && not (has_touched n g r d)) sound) i then Some Down else option_map view_when (view_of n r d));
   wrote = refl;
   from = refl;
@@ -93,38 +96,40 @@ tells w n g passed d r rest may turns = record {
     unacquired false true true c h = absurd (cc)
     unacquired false false true c h = absurd (cc)
 
-each_tells : (w : Setting) (n : Reading) (g : Grips) (passed : ℕ → Bool) (d : ℕ) (is : List Item) → ((q : ℕ) → passed q ≡ true → may_be_passed n g q d ≡ true) → Pairs AreInTurn (accesses_read w n g passed d is) → EachTellsOfRun w n g d (accesses_read w n g passed d is)
+each_tells : (w : Setting) (n : Reading) (g : Grips) (passed : ℕ → Bool) (d : ℕ) (is : List Item) → ((q : ℕ) → passed q ≡ true → may_be_passed n g q d ≡ true) → Pairs AreInTurn (accesses_read (point w n g) passed d is) → EachTellsOfRun (point w n g) d (accesses_read (point w n g) passed d is)
 unfolding Pairs
 each_tells w n g passed d [] may turns = tt
 each_tells w n g passed d (Ran r ∷ is) may turns = at_ (λ h. each_tells w n g passed d is may h) (uses w n d r.0 && not (list_any (covers n d) is)) turns
   where
-    at_ : (Pairs AreInTurn (accesses_read w n g passed d is) → EachTellsOfRun w n g d (accesses_read w n g passed d is)) → (b : Bool) → Pairs AreInTurn (if b then (access_read w n g passed d r.0 ∷ accesses_read w n g passed d is) else accesses_read w n g passed d is)
-        → EachTellsOfRun w n g d (if b then (access_read w n g passed d r.0 ∷ accesses_read w n g passed d is) else accesses_read w n g passed d is)
-    at_ ih true h = (tells w n g passed d r.0 (accesses_read w n g passed d is) may h.0, ih h.1)
+    at_ : (Pairs AreInTurn (accesses_read (point w n g) passed d is) → EachTellsOfRun (point w n g) d (accesses_read (point w n g) passed d is))
+        → (b : Bool) → Pairs AreInTurn
+        (if b then (access_read (point w n g) passed d r.0 ∷ accesses_read (point w n g) passed d is) else accesses_read (point w n g) passed d is)
+        → EachTellsOfRun (point w n g) d (if b then (access_read (point w n g) passed d r.0 ∷ accesses_read (point w n g) passed d is) else accesses_read (point w n g) passed d is)
+    at_ ih true h = (tells w n g passed d r.0 (accesses_read (point w n g) passed d is) may h.0, ih h.1)
     at_ ih false h = ih h
 each_tells w n g passed d (Failed e k ∷ is) may turns = each_tells w n g passed d is may turns
 each_tells w n g passed d (Back e k ∷ is) may turns = each_tells w n g passed d is may turns
 
 -- the runs of the accesses
-runs_read : (w : Setting) (n : Reading) (g : Grips) (passed : ℕ → Bool) (d : ℕ) (is : List Item) → map (λ (x : Access). x.run.0) (accesses_read w n g passed d is) ≡ runs_with_access w n d is
+runs_read : (w : Setting) (n : Reading) (g : Grips) (passed : ℕ → Bool) (d : ℕ) (is : List Item) → map (λ (x : Access). x.run.0) (accesses_read (point w n g) passed d is) ≡ runs_with_access w n d is
 runs_read w n g passed d [] = refl
 runs_read w n g passed d (Ran r ∷ is) = at_ (runs_read w n g passed d is) (uses w n d r.0 && not (list_any (covers n d) is))
   where
-    at_ : map (λ (x : Access). x.run.0) (accesses_read w n g passed d is) ≡ runs_with_access w n d is → (b : Bool)
-        → map (λ (x : Access). x.run.0) (if b then (access_read w n g passed d r.0 ∷ accesses_read w n g passed d is) else accesses_read w n g passed d is) ≡ (if b then (r.0 ∷ runs_with_access w n d is) else runs_with_access w n d is)
+    at_ : map (λ (x : Access). x.run.0) (accesses_read (point w n g) passed d is) ≡ runs_with_access w n d is → (b : Bool)
+        → map (λ (x : Access). x.run.0) (if b then (access_read (point w n g) passed d r.0 ∷ accesses_read (point w n g) passed d is) else accesses_read (point w n g) passed d is) ≡ (if b then (r.0 ∷ runs_with_access w n d is) else runs_with_access w n d is)
     at_ rest true = ap (λ xs. r.0 ∷ xs) rest
     at_ rest false = rest
 runs_read w n g passed d (Failed e k ∷ is) = runs_read w n g passed d is
 runs_read w n g passed d (Back e k ∷ is) = runs_read w n g passed d is
 
 -- the table represents the configuration
-pub represents : (w : Setting) (n : Reading) (g : Grips) (table : List LineageState) → ((d : ℕ) → IsDisciplined (accesses_at table d)) → TableIsKept w n g table → Represents w n g table
+pub represents : (w : Setting) (n : Reading) (g : Grips) (table : List LineageState) → ((d : ℕ) → IsDisciplined (accesses_at table d)) → TableIsKept (point w n g) table → Represents (point w n g) table
 represents w n g table disciplined kept = record {
   devices = kept.devices;
   each = λ d below. record {
     committed = (kept.each d below).committed;
     runs = ap (map (λ (x : Access). x.run.0)) (kept.each d below).accesses ∙ runs_read w n g (kept.each d below).passed d n.line;
-    each = subst (EachTellsOfRun w n g d) (sym (kept.each d below).accesses) (each_tells w n g (kept.each d below).passed d n.line (kept.each d below).may_pass (subst (Pairs AreInTurn) (kept.each d below).accesses (pairs_from_all AreInTurn (accesses_at table d) (disciplined d).in_turn)));
+    each = subst (EachTellsOfRun (point w n g) d) (sym (kept.each d below).accesses) (each_tells w n g (kept.each d below).passed d n.line (kept.each d below).may_pass (subst (Pairs AreInTurn) (kept.each d below).accesses (pairs_from_all AreInTurn (accesses_at table d) (disciplined d).in_turn)));
     up = (kept.each d below).up;
   };
 }

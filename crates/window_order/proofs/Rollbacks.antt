@@ -26,7 +26,9 @@ use Rattle.home_types.specs.declared.commands.Command.{Command}
 use Rattle.home_types.specs.declared.items.Item.TheVariants.{Back, Failed, Ran}
 use Rattle.home_types.specs.declared.items.Item.{Item}
 use Rattle.lock_leasing.proofs.Effects.{effect_is}
-use Rattle.lock_leasing.specs.Configurations.{Commands, Grip, Grips, Probes, Purpose, Undoes, is_out}
+use Rattle.lock_leasing.specs.Configurations.{Grip, Grips, is_out, point}
+use Rattle.lock_leasing.specs.declared.purposes.Purpose.TheVariants.{Commands, Probes, Undoes}
+use Rattle.lock_leasing.specs.declared.purposes.Purpose.{Purpose}
 use Rattle.lock_leasing.specs.Order.{InHistoryOrder}
 use Rattle.lock_leasing.specs.Places.{GripsFit}
 use Rattle.lock_leasing.specs.Waits.{grip_wait}
@@ -54,7 +56,7 @@ abbrev pub doomed_of : OfRun → Cause → OfRun
 doomed_of o cause = record o { doomed = Some cause }
 
 -- the grips that may be out may be out after a doom: a command's is out as before, and an undo's is that of a doomed run
-pub fits_doomed : (w : Setting) (n : Reading) (g : Grips) (r : ℕ) (cause : Cause) → GripsFit w n g → GripsFit w (entry w n (Doomed (run_no r) cause)) g
+pub fits_doomed : (w : Setting) (n : Reading) (g : Grips) (r : ℕ) (cause : Cause) → GripsFit (point w n g) → GripsFit (point w (entry w n (Doomed (run_no r) cause)) g)
 fits_doomed w n g r cause f = fits_from w next g f.homed (λ d q p at. still d q p at) f.runs.one
   where
     next : Reading
@@ -93,10 +95,10 @@ doomed_history w n r cause e = same_history n (entry w n (Doomed (run_no r) caus
 }) refl
 
 -- a live run is doomed, whatever it holds
-pub doomed_kept : (w : Setting) (n : Reading) (g : Grips) (held : ℕ → ℕ) (r : ℕ) (cause : Cause) → IsRead w n → is_live n r ≡ true → OrderIsKept w n g held → OrderIsKept w (entry w n (Doomed (run_no r) cause)) g held
+pub doomed_kept : (w : Setting) (n : Reading) (g : Grips) (held : ℕ → ℕ) (r : ℕ) (cause : Cause) → IsRead w n → is_live n r ≡ true → OrderIsKept (point w n g) held → OrderIsKept (point w (entry w n (Doomed (run_no r) cause)) g) held
 doomed_kept w n g held r cause read live kept = record {
   grips = fits_doomed w n g r cause kept.grips;
-  window = run_doomed w.kinds (window_of w n g held) (window_of w next g held) r (record {
+  window = run_doomed w.kinds (window_of (point w n g) held) (window_of (point w next g) held) r (record {
     place = in_place w n next g g held held r (cut_live w n r read live) refl (λ q ne. put_other n.run r new q ne) (λ q e ne. refl);
     keeps = record { commands = refl; answers = ap (λ o. o.answers) own; undid = λ d. ap (λ o. (o.on d).undid) own; grip = λ d. refl };
     live = live_uncommitted n r live;
@@ -120,7 +122,7 @@ doomed_kept w n g held r cause read live kept = record {
 
 -- the run gets its answer, is doomed, and its grip comes home
 pub gets_and_doomed : (w : Setting) (n : Reading) (g : Grips) (r k : ℕ) (answer : Answer) (cause : Cause) → k ≡ next_of n r → length (n.run r).answers < length (commands_of w.runs r)
-    → GetsAnswer (run_state w n g r) (run_state w (entry w (entry w n (Did (run_no r) k answer)) (Doomed (run_no r) cause)) (put g (command_at w.runs r k).device.0 None) r) (command_at w.runs r k) (drop (next_of n r + 1) (commands_of w.runs r)) answer true
+    → GetsAnswer (run_state (point w n g) r) (run_state (point w (entry w (entry w n (Did (run_no r) k answer)) (Doomed (run_no r) cause)) (put g (command_at w.runs r k).device.0 None)) r) (command_at w.runs r k) (drop (next_of n r + 1) (commands_of w.runs r)) answer true
 gets_and_doomed w n g r k answer cause number more = record {
   next = a.next;
   commands = refl;
@@ -138,7 +140,7 @@ gets_and_doomed w n g r k answer cause number more = record {
     did : Reading
     did = entry w n (Did (run_no r) k answer)
 
-    a : GetsAnswer (run_state w n g r) (run_state w did h r) (command_at w.runs r k) (drop (next_of n r + 1) (commands_of w.runs r)) answer (is_doomed n r)
+    a : GetsAnswer (run_state (point w n g) r) (run_state (point w did h) r) (command_at w.runs r k) (drop (next_of n r + 1) (commands_of w.runs r)) answer (is_doomed n r)
     a = gets_answer w n g r k answer number more
 
     own : (entry w did (Doomed (run_no r) cause)).run r ≡ doomed_of (did.run r) cause
@@ -150,11 +152,11 @@ gets_and_doomed w n g r k answer cause number more = record {
 
 refuted_at : (w : Setting) (n : Reading) (g : Grips) (held : ℕ → ℕ) (r k : ℕ) (cause : Cause) → IsRead w n
     → g (command_at w.runs r k).device.0 ≡ Some (record { maker = r; purpose = Commands k }) → reads (command_at w.runs r k).job ≡ true
-    → IsOut w n (command_at w.runs r k).device.0 r k → OrderIsKept w n g held
-    → OrderIsKept w (entry w (entry w n (Did (run_no r) k (Found (held (command_at w.runs r k).device.0)))) (Doomed (run_no r) cause)) (put g (command_at w.runs r k).device.0 None) held
+    → IsOut w n (command_at w.runs r k).device.0 r k → OrderIsKept (point w n g) held
+    → OrderIsKept (point w (entry w (entry w n (Did (run_no r) k (Found (held (command_at w.runs r k).device.0)))) (Doomed (run_no r) cause)) (put g (command_at w.runs r k).device.0 None)) held
 refuted_at w n g held r k cause read at reading out kept = record {
   grips = home_fits w n next g d r (Commands k) others (live_run w n r read out.live) at kept.grips;
-  window = read_answered w.kinds (window_of w n g held) (window_of w next (put g d None) held) r c (drop (next_of n r + 1) (commands_of w.runs r)) x true (record {
+  window = read_answered w.kinds (window_of (point w n g) held) (window_of (point w next (put g d None)) held) r c (drop (next_of n r + 1) (commands_of w.runs r)) x true (record {
     place = in_place w n next g (put g d None) held held r cut refl others (λ q e ne. put_keeps (held_by w q) g d None (sym (ap (held_by w q) at ∙ held_other w r q (Commands k) ne)) e);
     answer = gets_and_doomed w n g r k (Found x) cause out.number out.more;
     guard = ap (holds c.when) (read.summarized r).register ∙ out.guard;
@@ -190,11 +192,11 @@ refuted_at w n g held r k cause read at reading out kept = record {
     cut = cut_live w n r read out.live
 
 -- a read is answered with the value at which its device stands, and its run is doomed
-pub refuted_kept : (w : Setting) (n : Reading) (g : Grips) (held : ℕ → ℕ) (d r k : ℕ) → IsRead w n → g d ≡ Some (record { maker = r; purpose = Commands k }) → reads (command_at w.runs r k).job ≡ true → OrderIsKept w n g held
-    → OrderIsKept w (entry w (entry w n (Did (run_no r) k (Found (held d)))) (Doomed (run_no r) (Refuted k (held d)))) (put g d None) held
+pub refuted_kept : (w : Setting) (n : Reading) (g : Grips) (held : ℕ → ℕ) (d r k : ℕ) → IsRead w n → g d ≡ Some (record { maker = r; purpose = Commands k }) → reads (command_at w.runs r k).job ≡ true → OrderIsKept (point w n g) held
+    → OrderIsKept (point w (entry w (entry w n (Did (run_no r) k (Found (held d)))) (Doomed (run_no r) (Refuted k (held d)))) (put g d None)) held
 refuted_kept w n g held d r k read at reading kept =
     let out = out_is w n g d r k kept.grips at in
-    subst (λ y. OrderIsKept w (entry w (entry w n (Did (run_no r) k (Found (held y)))) (Doomed (run_no r) (Refuted k (held y)))) (put g y None) held) (sym out.device)
+    subst (λ y. OrderIsKept (point w (entry w (entry w n (Did (run_no r) k (Found (held y)))) (Doomed (run_no r) (Refuted k (held y)))) (put g y None)) held) (sym out.device)
     (refuted_at w n g held r k (Refuted k (held (command_at w.runs r k).device.0)) read (subst (λ y. g y ≡ Some (record { maker = r; purpose = Commands k })) out.device at) reading (subst (λ y. IsOut w n y r k) out.device out) kept)
 
 -- The undo of a doomed run
@@ -223,7 +225,7 @@ record IsNextUndo (w : Setting) (n : Reading) (g : Grips) (r d : ℕ) : Type 0 w
   kept : ((n.run r).on d).undid ≡ false
   effective : effective_writer_of n g d ≡ Some r
 
-next_undo : (w : Setting) (n : Reading) (g : Grips) (r d : ℕ) → next_undo_of w n g r ≡ Some d → IsNextUndo w n g r d
+next_undo : (w : Setting) (n : Reading) (g : Grips) (r d : ℕ) → next_undo_of (point w n g) r ≡ Some d → IsNextUndo w n g r d
 next_undo w n g r d at = record { device = found.0.0; wrote = (effect_is n g r d found.1).0; kept = (or_parts ((n.run r).on d).undid _ (effect_is n g r d found.1).1).0; effective = of (effective_writer_of n g d) found.1 }
   where
     found : ((is_device w d ≡ true) × (touches w.runs r d ≡ true)) × (has_effect n g r d ≡ true)
@@ -234,7 +236,7 @@ next_undo w n g r d at = record { device = found.0.0; wrote = (effect_is n g r d
     of (Some x) h = ap (λ y. Some y) (eqb-true x r h)
 
 -- the run may be undone on the device, which is home
-may_be_undone : (w : Setting) (n : Reading) (g : Grips) (held : ℕ → ℕ) (r d : ℕ) → IsRead w n → is_live n r ≡ true → is_doomed n r ≡ true → effective_writer_of n g d ≡ Some r → g d ≡ None → MayUndo w.kinds (window_of w n g held) r d
+may_be_undone : (w : Setting) (n : Reading) (g : Grips) (held : ℕ → ℕ) (r d : ℕ) → IsRead w n → is_live n r ≡ true → is_doomed n r ≡ true → effective_writer_of n g d ≡ Some r → g d ≡ None → MayUndo w.kinds (window_of (point w n g) held) r d
 may_be_undone w n g held r d read live doomed effective home = record {
   live = live_uncommitted n r live;
   doomed = doomed;
@@ -250,11 +252,11 @@ none_out g d in' = at_ (g d) in'
     at_ (Some x) h = absurd (cc)
 
 -- the undo goes out: it drives the value at which the device would stand without the run
-pub undo_goes_kept : (w : Setting) (n : Reading) (g : Grips) (held : ℕ → ℕ) (r d : ℕ) → IsRead w n → is_live n r ≡ true → is_doomed n r ≡ true → grip_wait w g r ≡ None → next_undo_of w n g r ≡ Some d → is_out g d ≡ false → n.up d ≡ true → OrderIsKept w n g held
-    → OrderIsKept w n (put g d (Some (record { maker = r; purpose = Undoes (value_without w n g r d) }))) held
+pub undo_goes_kept : (w : Setting) (n : Reading) (g : Grips) (held : ℕ → ℕ) (r d : ℕ) → IsRead w n → is_live n r ≡ true → is_doomed n r ≡ true → grip_wait w g r ≡ None → next_undo_of (point w n g) r ≡ Some d → is_out g d ≡ false → n.up d ≡ true → OrderIsKept (point w n g) held
+    → OrderIsKept (point w n (put g d (Some (record { maker = r; purpose = Undoes (value_without (point w n g) r d) })))) held
 undo_goes_kept w n g held r d read live doomed free next in' up kept = record {
   grips = fits_with w n g d r (Undoes v) undo.device may (λ q e. holds_none w g r kept.grips.homed free) kept.grips;
-  window = undo_out w.kinds (window_of w n g held) (window_of w n (put g d (Some new)) held) r d (record {
+  window = undo_out w.kinds (window_of (point w n g) held) (window_of (point w n (put g d (Some new))) held) r d (record {
     place = in_place w n n g (put g d (Some new)) held held r cut refl (λ q ne. refl) (λ q e ne. put_keeps (held_by w q) g d (Some new) (held_other w r q (Undoes v) ne ∙ sym (ap (held_by w q) home)) e);
     keeps = record { commands = refl; answers = refl; committed = refl; doomed = refl; undid = λ e ne. refl; grip = λ e ne. ap (held_by w r) (put_other g d (Some new) e ne) };
     may = may_be_undone w n g held r d read live doomed undo.effective home;
@@ -267,7 +269,7 @@ undo_goes_kept w n g held r d read live doomed free next in' up kept = record {
 }
   where
     v : ℕ
-    v = value_without w n g r d
+    v = value_without (point w n g) r d
 
     new : Grip
     new = record { maker = r; purpose = Undoes v }
@@ -287,13 +289,13 @@ undo_goes_kept w n g held r d read live doomed free next in' up kept = record {
     may : may_undo d (n.run r) ≡ true
     may = all (is_live n r) (is_doomed n r) (has_written n r d) ((n.run r).on d).undid live doomed undo.wrote undo.kept
 
-    value : standing_value_on w.kinds (window_of w n g held).states d (stand_at w.first d).value (cut.front ++ cut.back) ≡ v
+    value : standing_value_on w.kinds (window_of (point w n g) held).states d (stand_at w.first d).value (cut.front ++ cut.back) ≡ v
     value =
         standing_on_line w n g d (stand_at w.first d).value (cut.front ++ cut.back) read
         ∙ (λ i. unwrap_or (option_map (λ e. e.value) (last_some (write_of n g d) (sym (ap (without r) cut.at ∙ without_cut r cut.front cut.back cut.before cut.behind) i))) (stand_at w.first d).value)
 
 -- a run that is undone on a device keeps all else
-pub undone_elsewhere : (w : Setting) (n : Reading) (g h : Grips) (r d : ℕ) (drove : Bool) → ((e : ℕ) → e ≢ d → held_by w r (h e) ≡ held_by w r (g e)) → KeepsElsewhere (run_state w n g r) (run_state w (entry w n (Undid (run_no r) (device_no d) drove)) h r) d
+pub undone_elsewhere : (w : Setting) (n : Reading) (g h : Grips) (r d : ℕ) (drove : Bool) → ((e : ℕ) → e ≢ d → held_by w r (h e) ≡ held_by w r (g e)) → KeepsElsewhere (run_state (point w n g) r) (run_state (point w (entry w n (Undid (run_no r) (device_no d) drove)) h) r) d
 undone_elsewhere w n g h r d drove grips = record {
   commands = refl;
   answers = ap (λ o. o.answers) own;
@@ -322,10 +324,10 @@ undone_history w n r d drove e = same_history n (entry w n (Undid (run_no r) (de
 }) refl
 
 -- an undo that was out is answered: the device stands at its value
-pub undone_kept : (w : Setting) (n : Reading) (g : Grips) (held : ℕ → ℕ) (r d v : ℕ) → IsRead w n → g d ≡ Some (record { maker = r; purpose = Undoes v }) → OrderIsKept w n g held → OrderIsKept w (entry w n (Undid (run_no r) (device_no d) true)) (put g d None) (put held d v)
+pub undone_kept : (w : Setting) (n : Reading) (g : Grips) (held : ℕ → ℕ) (r d v : ℕ) → IsRead w n → g d ≡ Some (record { maker = r; purpose = Undoes v }) → OrderIsKept (point w n g) held → OrderIsKept (point w (entry w n (Undid (run_no r) (device_no d) true)) (put g d None)) (put held d v)
 undone_kept w n g held r d v read at kept = record {
   grips = home_fits w n next g d r (Undoes v) (λ q ne. put_other n.run r _ q ne) (live_run w n r read may.0) at kept.grips;
-  window = undo_answered w.kinds (window_of w n g held) (window_of w next (put g d None) (put held d v)) r d v (record {
+  window = undo_answered w.kinds (window_of (point w n g) held) (window_of (point w next (put g d None)) (put held d v)) r d v (record {
     place = in_place w n next g (put g d None) held (put held d v) r (cut_live w n r read may.0) refl (λ q ne. put_other n.run r _ q ne) (λ q e ne. put_keeps (held_by w q) g d None (sym (ap (held_by w q) at ∙ held_other w r q (Undoes v) ne)) e);
     keeps = undone_elsewhere w n g (put g d None) r d true (λ e ne. ap (held_by w r) (put_other g d None e ne));
     used = written_touches w n r d read may.1;
@@ -350,11 +352,11 @@ undone_kept w n g held r d v read at kept = record {
     may = parts (is_live n r) (is_doomed n r) (has_written n r d) (not ((n.run r).on d).undid) (kept.grips.runs.undos d r v at)
 
 -- the undo on a device that is counted down is dropped
-pub dropped_kept : (w : Setting) (n : Reading) (g : Grips) (held : ℕ → ℕ) (r d : ℕ) → IsRead w n → is_live n r ≡ true → is_doomed n r ≡ true → grip_wait w g r ≡ None → next_undo_of w n g r ≡ Some d → is_out g d ≡ false → n.up d ≡ false → OrderIsKept w n g held
-    → OrderIsKept w (entry w n (Undid (run_no r) (device_no d) false)) g held
+pub dropped_kept : (w : Setting) (n : Reading) (g : Grips) (held : ℕ → ℕ) (r d : ℕ) → IsRead w n → is_live n r ≡ true → is_doomed n r ≡ true → grip_wait w g r ≡ None → next_undo_of (point w n g) r ≡ Some d → is_out g d ≡ false → n.up d ≡ false → OrderIsKept (point w n g) held
+    → OrderIsKept (point w (entry w n (Undid (run_no r) (device_no d) false)) g) held
 dropped_kept w n g held r d read live doomed free next_is in' down kept = record {
   grips = fits_other w n next g r (λ q ne. put_other n.run r _ q ne) (holds_none w g r kept.grips.homed free) kept.grips;
-  window = undo_dropped w.kinds (window_of w n g held) (window_of w next g held) r d (record {
+  window = undo_dropped w.kinds (window_of (point w n g) held) (window_of (point w next g) held) r d (record {
     place = in_place w n next g g held held r (cut_live w n r read live) refl (λ q ne. put_other n.run r _ q ne) (λ q e ne. refl);
     keeps = undone_elsewhere w n g g r d false (λ e ne. refl);
     may = may_be_undone w n g held r d read live doomed (next_undo w n g r d next_is).effective (none_out g d in');
@@ -385,7 +387,7 @@ none_of_both p q (x ∷ xs) none = at_ (none_of_both p q xs) (q x) (p x) refl no
     at_ ih false b e h = ih h
 
 -- a run that has no undo left has the effective write on none of its devices
-no_effect : (w : Setting) (n : Reading) (g : Grips) (held : ℕ → ℕ) (r d : ℕ) → IsRead w n → OrderIsKept w n g held → next_undo_of w n g r ≡ None → touches w.runs r d ≡ true → last_in_effect w.kinds (window_of w n g held).states d None n.line ≢ Some r
+no_effect : (w : Setting) (n : Reading) (g : Grips) (held : ℕ → ℕ) (r d : ℕ) → IsRead w n → OrderIsKept (point w n g) held → next_undo_of (point w n g) r ≡ None → touches w.runs r d ≡ true → last_in_effect w.kinds (window_of (point w n g) held).states d None n.line ≢ Some r
 no_effect w n g held r d read kept none used writer =
     clash (touches w.runs r d) (has_effect n g r d) used effect
     (none_in (λ e. touches w.runs r e && has_effect n g r e) 0 (length w.first) d (none_of_both (has_effect n g r) (touches w.runs r) (device_numbers w) none)
@@ -401,11 +403,11 @@ no_effect w n g held r d read kept none used writer =
     clash a b h k e = grind (arith, common_steps)
 
 -- a doomed run that has nothing left to undo is aborted
-pub aborts_kept : (w : Setting) (n : Reading) (g : Grips) (held : ℕ → ℕ) (r : ℕ) (cause : Cause) → IsRead w n → may_follow w n (Ended (run_no r) (Aborted cause)) ≡ true → grip_wait w g r ≡ None → next_undo_of w n g r ≡ None → OrderIsKept w n g held
-    → OrderIsKept w (entry w n (Ended (run_no r) (Aborted cause))) g held
+pub aborts_kept : (w : Setting) (n : Reading) (g : Grips) (held : ℕ → ℕ) (r : ℕ) (cause : Cause) → IsRead w n → may_follow w n (Ended (run_no r) (Aborted cause)) ≡ true → grip_wait w g r ≡ None → next_undo_of (point w n g) r ≡ None → OrderIsKept (point w n g) held
+    → OrderIsKept (point w (entry w n (Ended (run_no r) (Aborted cause))) g) held
 aborts_kept w n g held r cause read may free none kept = record {
   grips = fits_other w n next g r (λ q ne. put_other n.run r new q ne) holds kept.grips;
-  window = run_leaves_line w.kinds (window_of w n g held) (window_of w next g held) r (record {
+  window = run_leaves_line w.kinds (window_of (point w n g) held) (window_of (point w next g) held) r (record {
     front = cut.front;
     back = cut.back;
     at = cut.at;

@@ -19,7 +19,7 @@ use Rattle.home_types.specs.HomeStates.{nowhere, stand_at}
 use Rattle.home_types.specs.declared.items.Item.TheVariants.{Back, Failed, Ran}
 use Rattle.home_types.specs.declared.items.Item.{Item}
 use Rattle.home_types.specs.declared.worlds.Stand.{Stand}
-use Rattle.lock_leasing.specs.Configurations.{Grips}
+use Rattle.lock_leasing.specs.Configurations.{Grips, point}
 use Rattle.lock_leasing.specs.Order.{SettledAgree, committed_home, committed_value, is_settled, settled_items}
 use Rattle.lock_leasing.specs.Words.{committed_write}
 use Rattle.std.proofs.Common.{ap, arith, refl, sym, ◌∙◌}
@@ -34,7 +34,7 @@ use Rattle.window_order.specs.OrderKept.{OrderIsKept}
 use Rattle.window_order.specs.ReadWindows.{run_state, window_of}
 
 -- the settled items are the serial order of the line, ..
-settled_order : (w : Setting) (n : Reading) (g : Grips) (line : List Item) → filter (is_settled n) line ≡ serial_order (λ r. run_state w n g r) line
+settled_order : (w : Setting) (n : Reading) (g : Grips) (line : List Item) → filter (is_settled n) line ≡ serial_order (λ r. run_state (point w n g) r) line
 unfolding serial_order
 settled_order w n g [] = refl
 settled_order w n g (Ran r ∷ is) = ap (λ l. if is_committed n r.0 then Ran r ∷ l else l) (settled_order w n g is)
@@ -42,13 +42,13 @@ settled_order w n g (Failed d k ∷ is) = ap (λ l. Failed d k ∷ l) (settled_o
 settled_order w n g (Back d k ∷ is) = ap (λ l. Back d k ∷ l) (settled_order w n g is)
 
 -- .. and they answered what is served there
-settled_answers : (w : Setting) (n : Reading) (g : Grips) (line : List Item) → answers_in n (filter (is_settled n) line) ≡ served (λ r. run_state w n g r) line
+settled_answers : (w : Setting) (n : Reading) (g : Grips) (line : List Item) → answers_in n (filter (is_settled n) line) ≡ served (λ r. run_state (point w n g) r) line
 unfolding served
 settled_answers w n g [] = refl
 settled_answers w n g (Ran r ∷ is) = at_ (settled_answers w n g is) (is_committed n r.0)
   where
-    at_ : answers_in n (filter (is_settled n) is) ≡ served (λ q. run_state w n g q) is → (b : Bool)
-        → answers_in n (if b then Ran r ∷ filter (is_settled n) is else filter (is_settled n) is) ≡ (if b then record { run = r; answers = (n.run r.0).answers } ∷ served (λ q. run_state w n g q) is else served (λ q. run_state w n g q) is)
+    at_ : answers_in n (filter (is_settled n) is) ≡ served (λ q. run_state (point w n g) q) is → (b : Bool)
+        → answers_in n (if b then Ran r ∷ filter (is_settled n) is else filter (is_settled n) is) ≡ (if b then record { run = r; answers = (n.run r.0).answers } ∷ served (λ q. run_state (point w n g) q) is else served (λ q. run_state (point w n g) q) is)
     at_ e true = ap (λ l. record { run = r; answers = (n.run r.0).answers } ∷ l) e
     at_ e false = e
 settled_answers w n g (Failed d k ∷ is) = settled_answers w n g is
@@ -70,13 +70,13 @@ use_value u s b first v c x y e f h = ap (λ o. if_written (is_some o && stage_i
 
 -- the walk along the entries that a line makes ends with the value of its last committed write
 pub value_along : (w : Setting) (n : Reading) (g : Grips) (d first : ℕ) (z : WalkState) (b : Option ℕ) (line : List Item) → IsRead w n → z.value ≡ unwrap_or b first
-    → (walk_end z (entries w.kinds (λ r. run_state w n g r) d line)).value ≡ unwrap_or (fold (λ best x. option_or (committed_write n d x) best) b line) first
+    → (walk_end z (entries w.kinds (λ r. run_state (point w n g) r) d line)).value ≡ unwrap_or (fold (λ best x. option_or (committed_write n d x) best) b line) first
 unfolding entries walk_end
 value_along w n g d first z b [] s h = h
 value_along w n g d first z b (Ran r ∷ is) s h = at_ (λ t c k. value_along w n g d first t c is s k) (touches w.runs r.0 d) refl
   where
     u : Usage
-    u = usage w.kinds (run_state w n g r.0) d
+    u = usage w.kinds (run_state (point w n g) r.0) d
 
     unused : (y : Bool) → has_written n r.0 d ≡ y → touches w.runs r.0 d ≡ false → y ≡ false
     unused true e f = absurd (both_ways (touches w.runs r.0 d) f (written_touches w n r.0 d s e))
@@ -87,20 +87,20 @@ value_along w n g d first z b (Ran r ∷ is) s h = at_ (λ t c k. value_along w 
     no_write None false e = refl
     no_write (Some k) x e = absurd (cc)
 
-    at_ : ((t : WalkState) (c : Option ℕ) → t.value ≡ unwrap_or c first → (walk_end t (entries w.kinds (λ q. run_state w n g q) d is)).value ≡ unwrap_or (fold (λ best x. option_or (committed_write n d x) best) c is) first) → (x : Bool) → touches w.runs r.0 d ≡ x
-        → (walk_end z (with_order_entry (entry_if x (Used u)) (entries w.kinds (λ q. run_state w n g q) d is))).value ≡ unwrap_or (fold (λ best i. option_or (committed_write n d i) best) (option_or (committed_write n d (Ran r)) b) is) first
-    at_ ih true e = ih (after_usage z u) (option_or (committed_write n d (Ran r)) b) (use_value u z b first ((n.run r.0).on d).wrote (is_committed n r.0) (is_doomed n r.0) (uses_device d (rest (run_state w n g r.0))) ((s.summarized r.0).wrote d) refl h)
+    at_ : ((t : WalkState) (c : Option ℕ) → t.value ≡ unwrap_or c first → (walk_end t (entries w.kinds (λ q. run_state (point w n g) q) d is)).value ≡ unwrap_or (fold (λ best x. option_or (committed_write n d x) best) c is) first) → (x : Bool) → touches w.runs r.0 d ≡ x
+        → (walk_end z (with_order_entry (entry_if x (Used u)) (entries w.kinds (λ q. run_state (point w n g) q) d is))).value ≡ unwrap_or (fold (λ best i. option_or (committed_write n d i) best) (option_or (committed_write n d (Ran r)) b) is) first
+    at_ ih true e = ih (after_usage z u) (option_or (committed_write n d (Ran r)) b) (use_value u z b first ((n.run r.0).on d).wrote (is_committed n r.0) (is_doomed n r.0) (uses_device d (rest (run_state (point w n g) r.0))) ((s.summarized r.0).wrote d) refl h)
     at_ ih false e = ih z (option_or (committed_write n d (Ran r)) b) (h ∙ ap (λ x. unwrap_or x first) (sym (no_write ((n.run r.0).on d).wrote (is_committed n r.0) (unused (has_written n r.0 d) refl e))))
 value_along w n g d first z b (Failed e k ∷ is) s h = at_ (λ t c x. value_along w n g d first t c is s x) (e.0 == d)
   where
-    at_ : ((t : WalkState) (c : Option ℕ) → t.value ≡ unwrap_or c first → (walk_end t (entries w.kinds (λ q. run_state w n g q) d is)).value ≡ unwrap_or (fold (λ best x. option_or (committed_write n d x) best) c is) first) → (x : Bool)
-        → (walk_end z (with_order_entry (entry_if x (Occurred Failure)) (entries w.kinds (λ q. run_state w n g q) d is))).value ≡ unwrap_or (fold (λ best i. option_or (committed_write n d i) best) b is) first
+    at_ : ((t : WalkState) (c : Option ℕ) → t.value ≡ unwrap_or c first → (walk_end t (entries w.kinds (λ q. run_state (point w n g) q) d is)).value ≡ unwrap_or (fold (λ best x. option_or (committed_write n d x) best) c is) first) → (x : Bool)
+        → (walk_end z (with_order_entry (entry_if x (Occurred Failure)) (entries w.kinds (λ q. run_state (point w n g) q) d is))).value ≡ unwrap_or (fold (λ best i. option_or (committed_write n d i) best) b is) first
     at_ ih true = ih (record z { up = false }) b h
     at_ ih false = ih z b h
 value_along w n g d first z b (Back e k ∷ is) s h = at_ (λ t c x. value_along w n g d first t c is s x) (e.0 == d)
   where
-    at_ : ((t : WalkState) (c : Option ℕ) → t.value ≡ unwrap_or c first → (walk_end t (entries w.kinds (λ q. run_state w n g q) d is)).value ≡ unwrap_or (fold (λ best x. option_or (committed_write n d x) best) c is) first) → (x : Bool)
-        → (walk_end z (with_order_entry (entry_if x (Occurred Restart)) (entries w.kinds (λ q. run_state w n g q) d is))).value ≡ unwrap_or (fold (λ best i. option_or (committed_write n d i) best) b is) first
+    at_ : ((t : WalkState) (c : Option ℕ) → t.value ≡ unwrap_or c first → (walk_end t (entries w.kinds (λ q. run_state (point w n g) q) d is)).value ≡ unwrap_or (fold (λ best x. option_or (committed_write n d x) best) c is) first) → (x : Bool)
+        → (walk_end z (with_order_entry (entry_if x (Occurred Restart)) (entries w.kinds (λ q. run_state (point w n g) q) d is))).value ≡ unwrap_or (fold (λ best i. option_or (committed_write n d i) best) b is) first
     at_ ih true = ih (record z { up = true }) b h
     at_ ih false = ih z b h
 
@@ -109,10 +109,10 @@ pub same_home : (one other : List Stand) → length one ≡ length other → ((d
 same_home one other sizes each = ext_get_or nowhere one other sizes each
 
 -- executed from the first state, the settled items agree with the history
-pub settled_agree : (w : Setting) (n : Reading) (g : Grips) (held : ℕ → ℕ) → IsRead w n → OrderIsKept w n g held → SettledAgree w n
+pub settled_agree : (w : Setting) (n : Reading) (g : Grips) (held : ℕ → ℕ) → IsRead w n → OrderIsKept (point w n g) held → SettledAgree w n
 settled_agree w n g held s o =
-    let order : settled_items n ≡ serial_order (λ r. run_state w n g r) n.line = settled_order w n g n.line in
-    let serial : OrderIsSerial w.kinds (window_of w n g held) = order_serial w.kinds (window_of w n g held) o.window in
+    let order : settled_items n ≡ serial_order (λ r. run_state (point w n g) r) n.line = settled_order w n g n.line in
+    let serial : OrderIsSerial w.kinds (window_of (point w n g) held) = order_serial w.kinds (window_of (point w n g) held) o.window in
     record {
       applies = ap (λ l. (executed w l).refused) order ∙ serial.refused;
       answers = ap (λ l. (executed w l).answers) order ∙ serial.answers ∙ sym (settled_answers w n g n.line);
@@ -125,10 +125,10 @@ settled_agree w n g held s o =
     below : (a b d : ℕ) → d < a → a ≡ b → d < b
     below a b d lt e = omega (arith, lt, e)
 
-    size : settled_items n ≡ serial_order (λ r. run_state w n g r) n.line → OrderIsSerial w.kinds (window_of w n g held) → length (executed w (settled_items n)).home ≡ length w.first
+    size : settled_items n ≡ serial_order (λ r. run_state (point w n g) r) n.line → OrderIsSerial w.kinds (window_of (point w n g) held) → length (executed w (settled_items n)).home ≡ length w.first
     size order serial = ap (λ l. length (executed w l).home) order ∙ serial.size
 
-    at_device : settled_items n ≡ serial_order (λ r. run_state w n g r) n.line → OrderIsSerial w.kinds (window_of w n g held) → (d : ℕ) → d < length w.first → stand_at (executed w (settled_items n)).home d ≡ stand_at (committed_home w n) d
+    at_device : settled_items n ≡ serial_order (λ r. run_state (point w n g) r) n.line → OrderIsSerial w.kinds (window_of (point w n g) held) → (d : ℕ) → d < length w.first → stand_at (executed w (settled_items n)).home d ≡ stand_at (committed_home w n) d
     at_device order serial d lt =
         ap (λ l. stand_at (executed w l).home d) order ∙ serial.stands d lt
         ∙ ap (λ v. record { value = v; up = n.up d }) (value_along w n g d (stand_at w.first d).value (walk_start (stand_at w.first d).up (stand_at w.first d).value) None n.line s refl)

@@ -13,7 +13,7 @@ use Rattle.home_types.specs.Kinds.{kind_at}
 use Rattle.home_types.specs.declared.commands.Answer.TheVariants.{Skipped}
 use Rattle.home_types.specs.declared.commands.Command.{Command}
 use Rattle.home_types.specs.declared.kinds.Kind.{Kind}
-use Rattle.lock_leasing.specs.Configurations.{Grips, grips_command}
+use Rattle.lock_leasing.specs.Configurations.{Grips, grips_command, point}
 use Rattle.lock_leasing.specs.Order.{InHistoryOrder}
 use Rattle.lock_leasing.specs.Waits.{grip_wait}
 use Rattle.serial_line.specs.Marks.{Mark}
@@ -91,7 +91,7 @@ pub record IsSkipped (w : Setting) (n : Reading) (g : Grips) (held : ℕ → ℕ
   pub next : next_command w n r ≡ Some c
   pub guard : holds c.when (n.run r).register ≡ false
   pub device : is_device w c.device.0 ≡ true
-  pub kept : OrderIsKept w n g held
+  pub kept : OrderIsKept (point w n g) held
 
 -- it is the command of the run's next number
 pub skipped_next : (w : Setting) (n : Reading) (g : Grips) (held : ℕ → ℕ) (r : ℕ) (c : Command) → IsSkipped w n g held r c → IsSkipped w n g held r (command_at w.runs r (next_of n r))
@@ -101,10 +101,10 @@ skipped_next w n g held r c s = subst (IsSkipped w n g held r) (sym (next_is (co
 pub skipped_holds : (w : Setting) (n : Reading) (g : Grips) (held : ℕ → ℕ) (r : ℕ) (c : Command) → IsSkipped w n g held r c → HoldsNone g r
 skipped_holds w n g held r c s = holds_none w g r s.kept.grips.homed s.free
 
-skipped_at : (w : Setting) (n : Reading) (g : Grips) (held : ℕ → ℕ) (r : ℕ) → (s : IsSkipped w n g held r (command_at w.runs r (next_of n r))) → OrderIsKept w (entry w n (Did (run_no r) (next_of n r) Skipped)) g held
+skipped_at : (w : Setting) (n : Reading) (g : Grips) (held : ℕ → ℕ) (r : ℕ) → (s : IsSkipped w n g held r (command_at w.runs r (next_of n r))) → OrderIsKept (point w (entry w n (Did (run_no r) (next_of n r) Skipped)) g) held
 skipped_at w n g held r s = record {
   grips = fits_other w n next g r others (skipped_holds w n g held r c s) s.kept.grips;
-  window = skip_answered w.kinds (window_of w n g held) (window_of w next g held) r c later (record {
+  window = skip_answered w.kinds (window_of (point w n g) held) (window_of (point w next g) held) r c later (record {
     place = in_place w n next g g held held r cut refl others (λ q e ne. refl);
     answer = gets;
     guard = ap (holds c.when) (s.read.summarized r).register ∙ s.guard;
@@ -131,10 +131,10 @@ skipped_at w n g held r s = record {
     cut : CutAt r n.line
     cut = cut_live w n r s.read s.live
 
-    answer : GetsAnswer (run_state w n g r) (run_state w next (put g c.device.0 None) r) c later Skipped (is_doomed n r)
+    answer : GetsAnswer (run_state (point w n g) r) (run_state (point w next (put g c.device.0 None)) r) c later Skipped (is_doomed n r)
     answer = gets_answer w n g r (next_of n r) Skipped refl (next_is (commands_of w.runs r) (next_of n r) c s.next).0
 
-    gets : GetsAnswer (run_state w n g r) (run_state w next g r) c later Skipped false
+    gets : GetsAnswer (run_state (point w n g) r) (run_state (point w next g) r) c later Skipped false
     gets = record {
       next = answer.next;
       commands = refl;
@@ -147,5 +147,5 @@ skipped_at w n g held r s = record {
     }
 
 -- a command whose guard does not hold is answered Skipped
-pub skipped_kept : (w : Setting) (n : Reading) (g : Grips) (held : ℕ → ℕ) (r : ℕ) (c : Command) → IsSkipped w n g held r c → OrderIsKept w (entry w n (Did (run_no r) (next_of n r) Skipped)) g held
+pub skipped_kept : (w : Setting) (n : Reading) (g : Grips) (held : ℕ → ℕ) (r : ℕ) (c : Command) → IsSkipped w n g held r c → OrderIsKept (point w (entry w n (Did (run_no r) (next_of n r) Skipped)) g) held
 skipped_kept w n g held r c s = skipped_at w n g held r (skipped_next w n g held r c s)

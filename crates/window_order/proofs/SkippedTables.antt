@@ -22,7 +22,7 @@ use Rattle.lineage_table.specs.Accesses.{accesses_without, is_of, status_of}
 use Rattle.lineage_table.specs.Lineages.{LineageState, released, removed}
 use Rattle.lineage_table.specs.declared.accesses.Access.{Access}
 use Rattle.lineage_table.specs.declared.accesses.Status.TheVariants.{Acquired, Released, Scheduled}
-use Rattle.lock_leasing.specs.Configurations.{Grip, Grips, grips_command, grips_undo, is_command}
+use Rattle.lock_leasing.specs.Configurations.{Grip, Grips, grips_command, grips_undo, is_command, point}
 use Rattle.lock_leasing.specs.Tables.{uses, view_when}
 use Rattle.std.proofs.Common.{ap, arith, refl, subst, sym, ◌∙◌}
 use Rattle.std.proofs.lemmas.Grind.{common_steps}
@@ -72,7 +72,7 @@ module _ (w : Setting) (n : Reading) (g : Grips) (held : ℕ → ℕ) (r : ℕ) 
   more : k < length (commands_of w.runs r)
   more = (next_is (commands_of w.runs r) k c s.next).0
 
-  left : rest (run_state w n g r) ≡ c ∷ drop (k + 1) (commands_of w.runs r)
+  left : rest (run_state (point w n g) r) ≡ c ∷ drop (k + 1) (commands_of w.runs r)
   left = rest_next (commands_of w.runs r) old.answers more
 
   self : (x : ℕ) (b : Bool) → ((x == x) || b) ≡ true
@@ -83,9 +83,9 @@ module _ (w : Setting) (n : Reading) (g : Grips) (held : ℕ → ℕ) (r : ℕ) 
   pending = sym (ap (uses_device d) (rest_drop (commands_of w.runs r) old.answers)) ∙ ap (uses_device d) left ∙ self d (uses_device d (drop (k + 1) (commands_of w.runs r)))
 
   used : touches w.runs r d ≡ true
-  used = next_used (run_state w n g r) c (drop (k + 1) (commands_of w.runs r)) left
+  used = next_used (run_state (point w n g) r) c (drop (k + 1) (commands_of w.runs r)) left
 
-  opened : stage_is_open (usage w.kinds (run_state w n g r) d).stage ≡ true
+  opened : stage_is_open (usage w.kinds (run_state (point w n g) r) d).stage ≡ true
   opened = λ i. stage_is_open (stage_of (live_uncommitted n r s.live i) (is_some (s.sound i)) ((ap (uses_device d) left ∙ self d (uses_device d (drop (k + 1) (commands_of w.runs r)))) i))
 
   -- no run behind it has touched the device
@@ -128,7 +128,7 @@ module _ (w : Setting) (n : Reading) (g : Grips) (held : ℕ → ℕ) (r : ℕ) 
   }
 
   -- a command on the device is left: nothing changes
-  stays_there : touches_from w.runs r d (k + 1) ≡ true → (l : LineageState) → LineageIsKept w n g d l → LineageIsKept w m g d l
+  stays_there : touches_from w.runs r d (k + 1) ≡ true → (l : LineageState) → LineageIsKept (point w n g) d l → LineageIsKept (point w m g) d l
   stays_there has l kept = lineage_same w n m g g d l
       (same_uses (λ i. (is_some old.placed && is_none old.ended) && touches w.runs r d && not (touches w.runs r d && not (still i) && not (is_some (on_d i).view)))) kept
       (put_says (access_by w g kept.passed d) n.run r new (λ i. record {
@@ -144,7 +144,7 @@ module _ (w : Setting) (n : Reading) (g : Grips) (held : ℕ → ℕ) (r : ℕ) 
       still = left_there ∙ has ∙ sym pending
 
   -- it was the last one, and the run has an access there: that is released
-  released_there : touches_from w.runs r d (k + 1) ≡ false → did n r d ≡ true → (l : LineageState) → LineageIsKept w n g d l → LineageIsKept w m g d (released r l)
+  released_there : touches_from w.runs r d (k + 1) ≡ false → did n r d ≡ true → (l : LineageState) → LineageIsKept (point w n g) d l → LineageIsKept (point w m g) d (released r l)
   released_there gone seen l kept = lineage_changed w n m g g d r (λ x. record x { status = Released }) l (runs_distinct n s.read.once) (same_uses still) kept own (λ q ne. ap (access_by w g kept.passed d q) (put_other n.run r new q ne))
     where
       none_left : touches_from w.runs r d (length new.answers) ≡ false
@@ -177,7 +177,7 @@ module _ (w : Setting) (n : Reading) (g : Grips) (held : ℕ → ℕ) (r : ℕ) 
       })
 
   -- it was the last one, and the run has skipped all: its access is gone
-  removed_there : touches_from w.runs r d (k + 1) ≡ false → did n r d ≡ false → (l : LineageState) → LineageIsKept w n g d l → LineageIsKept w m g d (removed r l)
+  removed_there : touches_from w.runs r d (k + 1) ≡ false → did n r d ≡ false → (l : LineageState) → LineageIsKept (point w n g) d l → LineageIsKept (point w m g) d (removed r l)
   removed_there gone unseen l kept = record {
     passed = kept.passed;
     may_pass = λ q passed. put_says (may_by g d) n.run r new (λ i. is_some old.doomed && not (is_some (on_d i).view || grips_command g r d)) q ∙ kept.may_pass q passed;
@@ -194,10 +194,10 @@ module _ (w : Setting) (n : Reading) (g : Grips) (held : ℕ → ℕ) (r : ℕ) 
       v = commits_write n d
 
       f : ℕ → Access
-      f = access_read w n g kept.passed d
+      f = access_read (point w n g) kept.passed d
 
       h : ℕ → Access
-      h = access_read w m g kept.passed d
+      h = access_read (point w m g) kept.passed d
 
       front : List Access
       front = front_accesses p v f false cut.front
@@ -229,7 +229,7 @@ module _ (w : Setting) (n : Reading) (g : Grips) (held : ℕ → ℕ) (r : ℕ) 
 
       before : accesses_without r l.accesses ≡ front ++ behind
       before =
-          ap (accesses_without r) (kept.accesses ∙ ap (accesses_read w n g kept.passed d) cut.at ∙ along_there p v f r cut.front cut.back (uses_now w n d r s.read s.live pending) uncovering none_covers)
+          ap (accesses_without r) (kept.accesses ∙ ap (accesses_read (point w n g) kept.passed d) cut.at ∙ along_there p v f r cut.front cut.back (uses_now w n d r s.read s.live pending) uncovering none_covers)
           ∙ without_at r front (f r) behind (front_lacks p v f false r cut.front (λ x. refl) cut.before) (along_lacks p v f r cut.back (λ x. refl) cut.behind) own_access
 
       all_gone : (x t q u : Bool) → q ≡ false → u ≡ false → (x && t && not (t && not q && not u)) ≡ false
@@ -241,43 +241,43 @@ module _ (w : Setting) (n : Reading) (g : Grips) (held : ℕ → ℕ) (r : ℕ) 
       uncovering_then : commits_write m d r ≡ false
       uncovering_then = ap (commits_by d) (put_same n.run r new) ∙ (λ i. uncommitted i && is_some (new.on d).wrote)
 
-      after : accesses_read w m g kept.passed d n.line ≡ front ++ behind
+      after : accesses_read (point w m g) kept.passed d n.line ≡ front ++ behind
       after =
-          ap (accesses_read w m g kept.passed d) cut.at
+          ap (accesses_read (point w m g) kept.passed d) cut.at
           ∙ along_absent (uses w m d) (commits_write m d) h r cut.front cut.back unused
           ∙ (λ i. front_accesses (uses w m d) (commits_write m d) h (uncovering_then i || (any_but r v (commits_write m d) cut.back others.covering cut.behind ∙ none_covers) i) cut.front ++ along_but r p (uses w m d) v (commits_write m d) f h cut.back others cut.behind i)
           ∙ ap (λ xs. xs ++ behind) (front_but r p (uses w m d) v (commits_write m d) f h false cut.front others cut.before)
 
   -- before it the run's access is acquired where it has one, and else waits
-  status_now : (l : LineageState) → LineageIsKept w n g d l → status_of r l.accesses ≡ Some (if did n r d then Acquired else Scheduled)
+  status_now : (l : LineageState) → LineageIsKept (point w n g) d l → status_of r l.accesses ≡ Some (if did n r d then Acquired else Scheduled)
   status_now l kept =
-      ap (status_of r) (kept.accesses ∙ ap (accesses_read w n g kept.passed d) cut.at
-      ∙ along_there (uses w n d) (commits_write n d) (access_read w n g kept.passed d) r cut.front cut.back (uses_now w n d r s.read s.live pending) (λ i. uncommitted i && is_some (old.on d).wrote) (none_commits w n d cut.back s.read back))
-      ∙ status_at r (front_accesses (uses w n d) (commits_write n d) (access_read w n g kept.passed d) false cut.front) (access_read w n g kept.passed d r)
-      (accesses_along (uses w n d) (commits_write n d) (access_read w n g kept.passed d) cut.back)
-      (front_lacks (uses w n d) (commits_write n d) (access_read w n g kept.passed d) false r cut.front (λ x. refl) cut.before) (equal r)
+      ap (status_of r) (kept.accesses ∙ ap (accesses_read (point w n g) kept.passed d) cut.at
+      ∙ along_there (uses w n d) (commits_write n d) (access_read (point w n g) kept.passed d) r cut.front cut.back (uses_now w n d r s.read s.live pending) (λ i. uncommitted i && is_some (old.on d).wrote) (none_commits w n d cut.back s.read back))
+      ∙ status_at r (front_accesses (uses w n d) (commits_write n d) (access_read (point w n g) kept.passed d) false cut.front) (access_read (point w n g) kept.passed d r)
+      (accesses_along (uses w n d) (commits_write n d) (access_read (point w n g) kept.passed d) cut.back)
+      (front_lacks (uses w n d) (commits_write n d) (access_read (point w n g) kept.passed d) false r cut.front (λ x. refl) cut.before) (equal r)
       ∙ (λ i. Some (if never_passed n g d r kept.passed kept.may_pass acts i then Released else (if did n r d then (if (not (is_some (s.sound i)) && pending i) || grips_command g r d then Acquired else Released) else Scheduled)))
     where
       equal : (x : ℕ) → (x == x) ≡ true
       equal x = grind (arith, common_steps)
 
   -- on its device
-  skipped_there : (l : LineageState) → LineageIsKept w n g d l → LineageIsKept w m g d (skipped_lineage w n r k l)
+  skipped_there : (l : LineageState) → LineageIsKept (point w n g) d l → LineageIsKept (point w m g) d (skipped_lineage w n r k l)
   skipped_there l kept = by_rest (touches_from w.runs r d (k + 1)) refl
     where
-      by_view : touches_from w.runs r d (k + 1) ≡ false → (b : Bool) → did n r d ≡ b → LineageIsKept w m g d (if b then released r l else removed r l)
+      by_view : touches_from w.runs r d (k + 1) ≡ false → (b : Bool) → did n r d ≡ b → LineageIsKept (point w m g) d (if b then released r l else removed r l)
       by_view gone true seen = released_there gone seen l kept
       by_view gone false unseen = removed_there gone unseen l kept
 
-      by_rest : (b : Bool) → touches_from w.runs r d (k + 1) ≡ b → LineageIsKept w m g d (if b then l else (if did n r d then released r l else removed r l))
+      by_rest : (b : Bool) → touches_from w.runs r d (k + 1) ≡ b → LineageIsKept (point w m g) d (if b then l else (if did n r d then released r l else removed r l))
       by_rest true has = stays_there has l kept
       by_rest false gone = by_view gone (did n r d) refl
 
   -- on each device
-  skipped_each : (e : ℕ) (l : LineageState) → LineageIsKept w n g e l → LineageIsKept w m g e (skipped_change w n r k e l)
-  skipped_each e l = two_places (λ x. LineageIsKept w n g x l → LineageIsKept w m g x (skipped_change w n r k x l)) e d
-      (λ kept. subst (LineageIsKept w m g d) (λ i. if sym (equal d) i then skipped_lineage w n r k l else l) (skipped_there l kept))
-      (λ ne kept. subst (LineageIsKept w m g e) (λ i. if sym (differ e d ne) i then skipped_lineage w n r k l else l) (answered_elsewhere w n g g r k Skipped e l refl more ne (λ q. record { command = refl; undo = refl }) kept))
+  skipped_each : (e : ℕ) (l : LineageState) → LineageIsKept (point w n g) e l → LineageIsKept (point w m g) e (skipped_change w n r k e l)
+  skipped_each e l = two_places (λ x. LineageIsKept (point w n g) x l → LineageIsKept (point w m g) x (skipped_change w n r k x l)) e d
+      (λ kept. subst (LineageIsKept (point w m g) d) (λ i. if sym (equal d) i then skipped_lineage w n r k l else l) (skipped_there l kept))
+      (λ ne kept. subst (LineageIsKept (point w m g) e) (λ i. if sym (differ e d ne) i then skipped_lineage w n r k l else l) (answered_elsewhere w n g g r k Skipped e l refl more ne (λ q. record { command = refl; undo = refl }) kept))
     where
       equal : (x : ℕ) → (x == x) ≡ true
       equal x = grind (arith, common_steps)
@@ -286,12 +286,12 @@ module _ (w : Setting) (n : Reading) (g : Grips) (held : ℕ → ℕ) (r : ℕ) 
       differ x y h = grind (arith, common_steps)
 
 -- a skipped command leaves the lineages as its device's change says
-pub skipped_table : (w : Setting) (n : Reading) (g : Grips) (held : ℕ → ℕ) (r : ℕ) (c : Command) (old new : List LineageState) → IsSkipped w n g held r c → ChangesEach (skipped_change w n r (next_of n r)) old new → TableIsKept w n g old
-    → TableIsKept w (entry w n (Did (run_no r) (next_of n r) Skipped)) g new
+pub skipped_table : (w : Setting) (n : Reading) (g : Grips) (held : ℕ → ℕ) (r : ℕ) (c : Command) (old new : List LineageState) → IsSkipped w n g held r c → ChangesEach (skipped_change w n r (next_of n r)) old new → TableIsKept (point w n g) old
+    → TableIsKept (point w (entry w n (Did (run_no r) (next_of n r) Skipped)) g) new
 skipped_table w n g held r c old new s changes kept =
     changed_table w n (entry w n (Did (run_no r) (next_of n r) Skipped)) g g (skipped_change w n r (next_of n r)) old new (skipped_each w n g held r (skipped_next w n g held r c s)) changes kept
 
 -- what the calls for it ask: the run's access is acquired where it has one on the device, and else waits
-pub skipped_status : (w : Setting) (n : Reading) (g : Grips) (held : ℕ → ℕ) (r : ℕ) (l : LineageState) → IsSkipped w n g held r (command_at w.runs r (next_of n r)) → LineageIsKept w n g (command_at w.runs r (next_of n r)).device.0 l
+pub skipped_status : (w : Setting) (n : Reading) (g : Grips) (held : ℕ → ℕ) (r : ℕ) (l : LineageState) → IsSkipped w n g held r (command_at w.runs r (next_of n r)) → LineageIsKept (point w n g) (command_at w.runs r (next_of n r)).device.0 l
     → status_of r l.accesses ≡ Some (if did n r (command_at w.runs r (next_of n r)).device.0 then Acquired else Scheduled)
 skipped_status w n g held r l s kept = status_now w n g held r s l kept

@@ -22,7 +22,9 @@ use Rattle.home_types.specs.HomeStates.{stand_at}
 use Rattle.home_types.specs.declared.commands.Command.{Command}
 use Rattle.home_types.specs.declared.items.Item.TheVariants.{Back, Failed, Ran}
 use Rattle.home_types.specs.declared.items.Item.{Item}
-use Rattle.lock_leasing.specs.Configurations.{Commands, Grip, Grips, Probes, Purpose, Undoes, grips_command, is_command}
+use Rattle.lock_leasing.specs.Configurations.{Grip, Grips, grips_command, is_command, point}
+use Rattle.lock_leasing.specs.declared.purposes.Purpose.TheVariants.{Commands, Probes, Undoes}
+use Rattle.lock_leasing.specs.declared.purposes.Purpose.{Purpose}
 use Rattle.lock_leasing.specs.Words.{Write, effective_write, is_undone, last_some, standing_value, write_of}
 use Rattle.std.proofs.Common.{ap, arith, refl, subst, sym, ◌∙◌}
 use Rattle.std.proofs.lemmas.Bool.{both_ways, or_right}
@@ -49,13 +51,13 @@ use_value u o b r first (Some k) false e f h = ap (λ y. written_or_first (if y 
 
 -- the effective write along a line has the value that is in effect along the entries that the line makes
 value_along : (w : Setting) (n : Reading) (g : Grips) (d first : ℕ) (o : Option Usage) (b : Option Write) (line : List Item) → IsRead w n → written_or_first o first ≡ value_of b first
-    → written_or_first (effective o (entries w.kinds (λ r. run_state w n g r) d line)) first ≡ value_of (fold (λ best x. option_or (write_of n g d x) best) b line) first
+    → written_or_first (effective o (entries w.kinds (λ r. run_state (point w n g) r) d line)) first ≡ value_of (fold (λ best x. option_or (write_of n g d x) best) b line) first
 unfolding entries effective
 value_along w n g d first o b [] s h = h
 value_along w n g d first o b (Ran r ∷ is) s h = at_ (λ o c k. value_along w n g d first o c is s k) (touches w.runs r.0 d) refl
   where
     u : Usage
-    u = usage w.kinds (run_state w n g r.0) d
+    u = usage w.kinds (run_state (point w n g) r.0) d
 
     later : Option Write
     later = option_or (write_of n g d (Ran r)) b
@@ -70,40 +72,40 @@ value_along w n g d first o b (Ran r ∷ is) s h = at_ (λ o c k. value_along w 
     unused false e f = refl
 
     at_ : ((p : Option Usage) (c : Option Write) → written_or_first p first ≡ value_of c first → written_or_first
-        (effective p (entries w.kinds (λ q. run_state w n g q) d is)) first ≡ value_of (fold (λ best i. option_or (write_of n g d i) best) c is) first)
+        (effective p (entries w.kinds (λ q. run_state (point w n g) q) d is)) first ≡ value_of (fold (λ best i. option_or (write_of n g d i) best) c is) first)
         → (x : Bool) → touches w.runs r.0 d ≡ x
-        → written_or_first (effective o (with_order_entry (entry_if x (Used u)) (entries w.kinds (λ q. run_state w n g q) d is))) first
+        → written_or_first (effective o (with_order_entry (entry_if x (Used u)) (entries w.kinds (λ q. run_state (point w n g) q) d is))) first
         ≡ value_of (fold (λ best i. option_or (write_of n g d i) best) later is) first
     at_ ih true e = ih (if is_in_effect u then Some u else o) later (use_value u o b r.0 first ((n.run r.0).on d).wrote (is_undone n g r.0 d) ((s.summarized r.0).wrote d) (effect_held w n g r.0 d s) h)
     at_ ih false e = ih o later (h ∙ ap (λ z. value_of z first) (sym (no_write ((n.run r.0).on d).wrote (is_undone n g r.0 d) (unused (has_written n r.0 d) refl e))))
 value_along w n g d first o b (Failed e k ∷ is) s h = at_ (λ o c k. value_along w n g d first o c is s k) (e.0 == d)
   where
     at_ : ((p : Option Usage) (c : Option Write) → written_or_first p first ≡ value_of c first → written_or_first
-        (effective p (entries w.kinds (λ q. run_state w n g q) d is)) first ≡ value_of (fold (λ best i. option_or (write_of n g d i) best) c is) first)
-        → (x : Bool) → written_or_first (effective o (with_order_entry (entry_if x (Occurred Failure)) (entries w.kinds (λ q. run_state w n g q) d is))) first
+        (effective p (entries w.kinds (λ q. run_state (point w n g) q) d is)) first ≡ value_of (fold (λ best i. option_or (write_of n g d i) best) c is) first)
+        → (x : Bool) → written_or_first (effective o (with_order_entry (entry_if x (Occurred Failure)) (entries w.kinds (λ q. run_state (point w n g) q) d is))) first
         ≡ value_of (fold (λ best i. option_or (write_of n g d i) best) b is) first
     at_ ih true = ih o b h
     at_ ih false = ih o b h
 value_along w n g d first o b (Back e k ∷ is) s h = at_ (λ o c k. value_along w n g d first o c is s k) (e.0 == d)
   where
     at_ : ((p : Option Usage) (c : Option Write) → written_or_first p first ≡ value_of c first → written_or_first
-        (effective p (entries w.kinds (λ q. run_state w n g q) d is)) first ≡ value_of (fold (λ best i. option_or (write_of n g d i) best) c is) first)
-        → (x : Bool) → written_or_first (effective o (with_order_entry (entry_if x (Occurred Restart)) (entries w.kinds (λ q. run_state w n g q) d is))) first
+        (effective p (entries w.kinds (λ q. run_state (point w n g) q) d is)) first ≡ value_of (fold (λ best i. option_or (write_of n g d i) best) c is) first)
+        → (x : Bool) → written_or_first (effective o (with_order_entry (entry_if x (Occurred Restart)) (entries w.kinds (λ q. run_state (point w n g) q) d is))) first
         ≡ value_of (fold (λ best i. option_or (write_of n g d i) best) b is) first
     at_ ih true = ih o b h
     at_ ih false = ih o b h
 
 -- the standing value of a device is that of its order
-pub standing_same : (w : Setting) (n : Reading) (g : Grips) (held : ℕ → ℕ) (d : ℕ) → IsRead w n → is_weak w.mode ≡ false → value_in_effect (device_record w.kinds (window_of w n g held) d) ≡ standing_value w n g d
+pub standing_same : (w : Setting) (n : Reading) (g : Grips) (held : ℕ → ℕ) (d : ℕ) → IsRead w n → is_weak w.mode ≡ false → value_in_effect (device_record w.kinds (window_of (point w n g) held) d) ≡ standing_value (point w n g) d
 standing_same w n g held d s weak =
     value_along w n g d (stand_at w.first d).value None None n.line s refl
     ∙ sym (ap (λ b. if b then n.last d else value_of (effective_write n g d) (stand_at w.first d).value) weak)
 
 -- a device that is home and up stands at its standing value
-pub stands_home : (w : Setting) (n : Reading) (g : Grips) (held : ℕ → ℕ) (d : ℕ) → IsRead w n → OrderIsKept w n g held → is_weak w.mode ≡ false → is_device w d ≡ true → g d ≡ None → n.up d ≡ true → held d ≡ standing_value w n g d
+pub stands_home : (w : Setting) (n : Reading) (g : Grips) (held : ℕ → ℕ) (d : ℕ) → IsRead w n → OrderIsKept (point w n g) held → is_weak w.mode ≡ false → is_device w d ≡ true → g d ≡ None → n.up d ≡ true → held d ≡ standing_value (point w n g) d
 stands_home w n g held d s o weak device home up =
-    let at_value : StandsAt (device_record w.kinds (window_of w n g held) d) (value_in_effect (device_record w.kinds (window_of w n g held) d)) = stands (device_record w.kinds (window_of w n g held) d) (o.window.devices d (device_below w d device)) in
-    at_value.home (record { free = none_has w.kinds (λ r. run_state w n g r) d holds_grip n.line (λ r. ap (λ x. not (is_free (held_by w r x))) home); unprobed = ap (λ x. probe_of x) home }) up ∙ standing_same w n g held d s weak
+    let at_value : StandsAt (device_record w.kinds (window_of (point w n g) held) d) (value_in_effect (device_record w.kinds (window_of (point w n g) held) d)) = stands (device_record w.kinds (window_of (point w n g) held) d) (o.window.devices d (device_below w d device)) in
+    at_value.home (record { free = none_has w.kinds (λ r. run_state (point w n g) r) d holds_grip n.line (λ r. ap (λ x. not (is_free (held_by w r x))) home); unprobed = ap (λ x. probe_of x) home }) up ∙ standing_same w n g held d s weak
 
 -- a run that is live stands in the line
 pub live_stands : (w : Setting) (n : Reading) (r : ℕ) → IsRead w n → is_live n r ≡ true → list_any (is_ran r) n.line ≡ true
@@ -117,7 +119,7 @@ pub record ActsOn (w : Setting) (n : Reading) (r d : ℕ) : Type 0 where
   pub uses : touches w.runs r d ≡ true
 
 -- a run that has out the grip of a command is live and uses the device
-pub acts_on : (w : Setting) (n : Reading) (g : Grips) (held : ℕ → ℕ) (r d : ℕ) → OrderIsKept w n g held → grips_command g r d ≡ true → ActsOn w n r d
+pub acts_on : (w : Setting) (n : Reading) (g : Grips) (held : ℕ → ℕ) (r d : ℕ) → OrderIsKept (point w n g) held → grips_command g r d ≡ true → ActsOn w n r d
 acts_on w n g held r d o h = by (g d) refl h
   where
     used : (cs : List Command) (k : ℕ) → unwrap_or (option_map (is_on d) (slice_get cs k)) false ≡ true → list_any (is_on d) cs ≡ true
@@ -147,17 +149,17 @@ acts_on w n g held r d o h = by (g d) refl h
     by (Some p) e x = of p.maker p.purpose e x
 
 -- the value at which a line has a device is that of the line's last write in effect, ..
-pub standing_on_line : (w : Setting) (n : Reading) (g : Grips) (d first : ℕ) (line : List Item) → IsRead w n → standing_value_on w.kinds (λ r. run_state w n g r) d first line ≡ value_of (last_some (write_of n g d) line) first
+pub standing_on_line : (w : Setting) (n : Reading) (g : Grips) (d first : ℕ) (line : List Item) → IsRead w n → standing_value_on w.kinds (λ r. run_state (point w n g) r) d first line ≡ value_of (last_some (write_of n g d) line) first
 standing_on_line w n g d first line s =
-    sym (stand_line w.kinds (λ r. run_state w n g r) d first true line)
-    ∙ (effect (walk_start true first) first None (entries w.kinds (λ r. run_state w n g r) d line) (record { stand = refl; settled = refl })).stand
+    sym (stand_line w.kinds (λ r. run_state (point w n g) r) d first true line)
+    ∙ (effect (walk_start true first) first None (entries w.kinds (λ r. run_state (point w n g) r) d line) (record { stand = refl; settled = refl })).stand
     ∙ value_along w n g d first None None line s refl
 
 writer_along : (w : Setting) (n : Reading) (g : Grips) (d : ℕ) (o : Option ℕ) (b : Option Write) (line : List Item) → IsRead w n → o ≡ option_map (λ e. e.run) b
-    → last_in_effect w.kinds (λ r. run_state w n g r) d o line ≡ option_map (λ e. e.run) (fold (λ best x. option_or (write_of n g d x) best) b line)
+    → last_in_effect w.kinds (λ r. run_state (point w n g) r) d o line ≡ option_map (λ e. e.run) (fold (λ best x. option_or (write_of n g d x) best) b line)
 unfolding last_in_effect
 writer_along w n g d o b [] s h = h
-writer_along w n g d o b (Ran r ∷ is) s h = writer_along w n g d (if at_device w.kinds (λ q. run_state w n g q) d is_in_effect r.0 then Some r.0 else o) (option_or (write_of n g d (Ran r)) b) is s
+writer_along w n g d o b (Ran r ∷ is) s h = writer_along w n g d (if at_device w.kinds (λ q. run_state (point w n g) q) d is_in_effect r.0 then Some r.0 else o) (option_or (write_of n g d (Ran r)) b) is s
     (ap (λ x. if (touches w.runs r.0 d && x) then Some r.0 else o) (effect_held w n g r.0 d s) ∙ by ((n.run r.0).on d).wrote (is_undone n g r.0 d) (touches w.runs r.0 d) (λ e. written_touches w n r.0 d s e))
   where
     by : (v : Option ℕ) (x y : Bool) → (is_some v ≡ true → y ≡ true) → (if (y && (is_some v && not x)) then Some r.0 else o) ≡ option_map (λ e. e.run) (option_or (if x then None else option_map (λ k. record { run = r.0; value = k }) v) b)
@@ -176,5 +178,5 @@ writer_along w n g d o b (Failed e k ∷ is) s h = writer_along w n g d o b is s
 writer_along w n g d o b (Back e k ∷ is) s h = writer_along w n g d o b is s h
 
 -- .. and its effective writer has made that write
-pub writer_on_line : (w : Setting) (n : Reading) (g : Grips) (d : ℕ) (line : List Item) → IsRead w n → last_in_effect w.kinds (λ r. run_state w n g r) d None line ≡ option_map (λ e. e.run) (last_some (write_of n g d) line)
+pub writer_on_line : (w : Setting) (n : Reading) (g : Grips) (d : ℕ) (line : List Item) → IsRead w n → last_in_effect w.kinds (λ r. run_state (point w n g) r) d None line ≡ option_map (λ e. e.run) (last_some (write_of n g d) line)
 writer_on_line w n g d line s = writer_along w n g d None None line s refl

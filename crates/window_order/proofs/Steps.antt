@@ -33,7 +33,9 @@ use Rattle.home_types.specs.Kinds.{kind_at}
 use Rattle.home_types.specs.declared.commands.Answer.{Answer}
 use Rattle.home_types.specs.declared.commands.Answer.TheVariants.{Fine, Found}
 use Rattle.home_types.specs.declared.commands.Command.{Command}
-use Rattle.lock_leasing.specs.Configurations.{Commands, Grip, Grips, Probes, Purpose, Undoes, is_out, no_grips}
+use Rattle.lock_leasing.specs.Configurations.{Grip, Grips, is_out, no_grips, point}
+use Rattle.lock_leasing.specs.declared.purposes.Purpose.TheVariants.{Commands, Probes, Undoes}
+use Rattle.lock_leasing.specs.declared.purposes.Purpose.{Purpose}
 use Rattle.lock_leasing.specs.Places.{GripsFit, IsClear}
 use Rattle.lock_leasing.specs.Waits.{behind_wait, dirty_wait, grip_wait}
 use Rattle.lock_leasing.specs.Words.{has_effect, live_before}
@@ -61,14 +63,14 @@ homed_commands n (c ∷ cs) homed = (below c.device.0 n (homed 0 c refl), homed_
     below : (d n : ℕ) → nat_lt d n ≡ true → d < n
     below d n h = grind (arith, common_steps)
 
-pub starts_kept : (w : Setting) → ((r k : ℕ) (c : Command) → slice_get (commands_of w.runs r) k ≡ Some c → is_device w c.device.0 ≡ true) → OrderIsKept w (nothing_read w) no_grips (λ d. (stand_at w.first d).value)
+pub starts_kept : (w : Setting) → ((r k : ℕ) (c : Command) → slice_get (commands_of w.runs r) k ≡ Some c → is_device w c.device.0 ≡ true) → OrderIsKept (point w (nothing_read w) no_grips) (λ d. (stand_at w.first d).value)
 starts_kept w homed = record {
   grips = record {
     homed = λ d out. absurd (cc);
     runs = record { commands = λ d r k at. absurd (cc); undos = λ d r v at. absurd (cc); one = λ d e r p q at at'. absurd (cc) };
     probes = λ d r v at. absurd (cc);
   };
-  window = window_begins w.kinds (window_of w (nothing_read w) no_grips (λ d. (stand_at w.first d).value)) (record {
+  window = window_begins w.kinds (window_of (point w (nothing_read w) no_grips) (λ d. (stand_at w.first d).value)) (record {
     line = refl;
     new = λ r. record { answers = refl; committed = refl; doomed = refl; undid = λ d. refl; grip = λ d. refl };
     commands = λ r. refl;
@@ -82,7 +84,7 @@ starts_kept w homed = record {
 
 -- A run arrives
 
-pub arrives_kept : (w : Setting) (n : Reading) (g : Grips) (held : ℕ → ℕ) (r m : ℕ) → IsRead w n → may_follow w n (Arrived (run_no r) m) ≡ true → OrderIsKept w n g held → OrderIsKept w (entry w n (Arrived (run_no r) m)) g held
+pub arrives_kept : (w : Setting) (n : Reading) (g : Grips) (held : ℕ → ℕ) (r m : ℕ) → IsRead w n → may_follow w n (Arrived (run_no r) m) ≡ true → OrderIsKept (point w n g) held → OrderIsKept (point w (entry w n (Arrived (run_no r) m)) g) held
 arrives_kept w n g held r m read may kept = record {
   grips = fits_same w n (entry w n (Arrived (run_no r) m)) g (λ q d k. put_keeps (may_command w q d k) n.run r new refl q) (λ q d. put_keeps (may_undo d) n.run r new refl q) kept.grips;
   window = subst (WindowInvariant w.kinds) (λ i. record {
@@ -92,7 +94,7 @@ arrives_kept w n g held r m read may kept = record {
     states = λ q. sym (put_keeps (state_by w g q) n.run r new refl q) i;
     up = n.up;
     held = held;
-    probe = λ d. (window_of w n g held).probe d;
+    probe = λ d. (window_of (point w n g) held).probe d;
   }) kept.window;
   history = λ d. same_history n (entry w n (Arrived (run_no r) m)) d (record {
     line = refl;
@@ -107,7 +109,7 @@ arrives_kept w n g held r m read may kept = record {
 
 -- A run is placed
 
-pub unplaced_holds : (w : Setting) (n : Reading) (g : Grips) (r : ℕ) → is_run w.runs r ≡ true → is_live n r ≡ false → GripsFit w n g → HoldsNone g r
+pub unplaced_holds : (w : Setting) (n : Reading) (g : Grips) (r : ℕ) → is_run w.runs r ≡ true → is_live n r ≡ false → GripsFit (point w n g) → HoldsNone g r
 unplaced_holds w n g r run dead f d (Commands k) at = clash (is_live n r) dead (three (is_live n r) (asks_on w n r d) (k == next_of n r) (f.runs.commands d r k at)).0
   where
     clash : (b : Bool) → b ≡ false → b ≡ true → ⊥
@@ -126,10 +128,10 @@ unplaced_holds w n g r run dead f d (Probes v) at = clash (run_positive w r run)
 
 -- placed with no touch and no event of its devices behind it, it leaves the order
 pub placed_at_kept : (w : Setting) (n : Reading) (g : Grips) (held : ℕ → ℕ) (r at m : ℕ) (planned : List Planned) → IsRead w n → may_follow w n (Placed (run_no r) at m) ≡ true
-    → ((d : ℕ) → touches w.runs r d ≡ true → is_calm_line w.kinds (window_of w n g held).states d (drop at n.line) ≡ true) → OrderIsKept w n g held → OrderIsKept w (with_placed n (run_no r) at m planned (split_at n.line at)) g held
+    → ((d : ℕ) → touches w.runs r d ≡ true → is_calm_line w.kinds (window_of (point w n g) held).states d (drop at n.line) ≡ true) → OrderIsKept (point w n g) held → OrderIsKept (point w (with_placed n (run_no r) at m planned (split_at n.line at)) g) held
 placed_at_kept w n g held r at m planned read may calm kept = record {
   grips = fits_other w n next g r (λ q ne. put_other n.run r new q ne) holds kept.grips;
-  window = run_placed w.kinds (window_of w n g held) (window_of w next g held) r (record {
+  window = run_placed w.kinds (window_of (point w n g) held) (window_of (point w next g) held) r (record {
     front = take at n.line;
     back = drop at n.line;
     at = sym (take-append-drop at n.line);
@@ -195,8 +197,8 @@ placed_at_kept w n g held r at m planned read may calm kept = record {
 
 -- .. as it does where the place is clear
 pub placed_kept : (w : Setting) (n : Reading) (g : Grips) (held : ℕ → ℕ) (r at m : ℕ) (planned : List Planned) → IsRead w n
-    → may_follow w n (Placed (run_no r) at m) ≡ true → IsClear w n g r at → OrderIsKept w n g held
-    → OrderIsKept w (with_placed n (run_no r) at m planned (split_at n.line at)) g held
+    → may_follow w n (Placed (run_no r) at m) ≡ true → IsClear (point w n g) r at → OrderIsKept (point w n g) held
+    → OrderIsKept (point w (with_placed n (run_no r) at m planned (split_at n.line at)) g) held
 placed_kept w n g held r at m planned read may clear kept = placed_at_kept w n g held r at m planned read may (λ d used. calm_place w n g held r at d read clear (home d (uses_homed (length w.first) d (commands_of w.runs r) (kept.window.runs r).homed used)) used) kept
   where
     home : (d : ℕ) → d < length w.first → is_device w d ≡ true
@@ -204,10 +206,10 @@ placed_kept w n g held r at m planned read may clear kept = placed_at_kept w n g
 
 -- A run commits
 
-pub commits_kept : (w : Setting) (n : Reading) (g : Grips) (held : ℕ → ℕ) (r : ℕ) → IsRead w n → may_follow w n (Ended (run_no r) Committed) ≡ true → grip_wait w g r ≡ None → OrderIsKept w n g held → OrderIsKept w (entry w n (Ended (run_no r) Committed)) g held
+pub commits_kept : (w : Setting) (n : Reading) (g : Grips) (held : ℕ → ℕ) (r : ℕ) → IsRead w n → may_follow w n (Ended (run_no r) Committed) ≡ true → grip_wait w g r ≡ None → OrderIsKept (point w n g) held → OrderIsKept (point w (entry w n (Ended (run_no r) Committed)) g) held
 commits_kept w n g held r read may free kept = record {
   grips = fits_other w n next g r (λ q ne. put_other n.run r new q ne) (holds_none w g r kept.grips.homed free) kept.grips;
-  window = run_commits w.kinds (window_of w n g held) (window_of w next g held) r (record {
+  window = run_commits w.kinds (window_of (point w n g) held) (window_of (point w next g) held) r (record {
     place = in_place w n next g g held held r (cut_live w n r read live) refl (λ q ne. put_other n.run r new q ne) (λ q e ne. refl);
     keeps = record { commands = refl; answers = ap (λ o. o.answers) own; undid = λ d. ap (λ o. (o.on d).undid) own; grip = λ d. refl };
     live = live_uncommitted n r live;
@@ -269,7 +271,7 @@ next_at d (c ∷ cs) zero h = (omega arith, same c.device.0 d h)
     same x y h = grind (arith, common_steps)
 next_at d (c ∷ cs) (suc k) h = let rest = next_at d cs k h in (omega (arith, rest.0), rest.1)
 
-pub out_is : (w : Setting) (n : Reading) (g : Grips) (d r k : ℕ) → GripsFit w n g → g d ≡ Some (record { maker = r; purpose = Commands k }) → IsOut w n d r k
+pub out_is : (w : Setting) (n : Reading) (g : Grips) (d r k : ℕ) → GripsFit (point w n g) → g d ≡ Some (record { maker = r; purpose = Commands k }) → IsOut w n d r k
 out_is w n g d r k f at = record { live = parts.0; number = number; more = next.0; device = next.1 ∙ ap (λ x. (command_at w.runs r x).device.0) (sym number); guard = ap (λ x. holds (command_at w.runs r x).when (n.run r).register) number ∙ asks_guard w n r d parts.1 }
   where
     parts : (is_live n r ≡ true) × (asks_on w n r d ≡ true) × ((k == next_of n r) ≡ true)
@@ -285,12 +287,12 @@ out_is w n g d r k f at = record { live = parts.0; number = number; more = next.
     next = next_at d (commands_of w.runs r) (next_of n r) (asks_next w n r d parts.1)
 
 -- the run's next command, and those behind it
-next_rest : (w : Setting) (n : Reading) (g : Grips) (r k : ℕ) → k ≡ next_of n r → length (n.run r).answers < length (commands_of w.runs r) → rest (run_state w n g r) ≡ command_at w.runs r k ∷ drop (next_of n r + 1) (commands_of w.runs r)
+next_rest : (w : Setting) (n : Reading) (g : Grips) (r k : ℕ) → k ≡ next_of n r → length (n.run r).answers < length (commands_of w.runs r) → rest (run_state (point w n g) r) ≡ command_at w.runs r k ∷ drop (next_of n r + 1) (commands_of w.runs r)
 next_rest w n g r k number more = rest_next (commands_of w.runs r) (n.run r).answers more ∙ ap (λ x. command_at w.runs r x ∷ drop (next_of n r + 1) (commands_of w.runs r)) (sym number)
 
 -- the run gets an answer and its grip comes home: it is doomed where it was
 pub gets_answer : (w : Setting) (n : Reading) (g : Grips) (r k : ℕ) (a : Answer) → k ≡ next_of n r → length (n.run r).answers < length (commands_of w.runs r)
-    → GetsAnswer (run_state w n g r) (run_state w (entry w n (Did (run_no r) k a)) (put g (command_at w.runs r k).device.0 None) r) (command_at w.runs r k) (drop (next_of n r + 1) (commands_of w.runs r)) a (is_doomed n r)
+    → GetsAnswer (run_state (point w n g) r) (run_state (point w (entry w n (Did (run_no r) k a)) (put g (command_at w.runs r k).device.0 None)) r) (command_at w.runs r k) (drop (next_of n r + 1) (commands_of w.runs r)) a (is_doomed n r)
 gets_answer w n g r k a number more = record {
   next = next_rest w n g r k number more;
   commands = refl;
@@ -325,19 +327,21 @@ gets_answer w n g r k a number more = record {
     or_self false = refl
 
 -- .. in its place
-pub answered_place : (w : Setting) (n : Reading) (g : Grips) (held after : ℕ → ℕ) (d r k : ℕ) (a : Answer) (p : Purpose) → CutAt r n.line → g d ≡ Some (record { maker = r; purpose = p }) → ChangesInPlace (window_of w n g held) (window_of w (entry w n (Did (run_no r) k a)) (put g d None) after) r
+pub answered_place : (w : Setting) (n : Reading) (g : Grips) (held after : ℕ → ℕ) (d r k : ℕ) (a : Answer) (p : Purpose) → CutAt r n.line
+    → g d ≡ Some (record { maker = r; purpose = p })
+    → ChangesInPlace (window_of (point w n g) held) (window_of (point w (entry w n (Did (run_no r) k a)) (put g d None)) after) r
 answered_place w n g held after d r k a p cut at =
     in_place w n (entry w n (Did (run_no r) k a)) g (put g d None) held after r cut refl (λ q ne. put_other n.run r _ q ne) (λ q e ne. put_keeps (held_by w q) g d None (sym (ap (held_by w q) at ∙ held_other w r q p ne)) e)
 
 -- a grip of a run comes home, and no other run changes
-pub home_fits : (w : Setting) (n m : Reading) (g : Grips) (d r : ℕ) (p : Purpose) → ((q : ℕ) → q ≢ r → m.run q ≡ n.run q) → is_run w.runs r ≡ true → g d ≡ Some (record { maker = r; purpose = p }) → GripsFit w n g → GripsFit w m (put g d None)
+pub home_fits : (w : Setting) (n m : Reading) (g : Grips) (d r : ℕ) (p : Purpose) → ((q : ℕ) → q ≢ r → m.run q ≡ n.run q) → is_run w.runs r ≡ true → g d ≡ Some (record { maker = r; purpose = p }) → GripsFit (point w n g) → GripsFit (point w m (put g d None))
 home_fits w n m g d r p others run at f = fits_other w n m (put g d None) r others none (fits_without w n g d f)
   where
     none : HoldsNone (put g d None) r
     none = let is = run_positive w r run in subst (HoldsNone (put g d None)) (sym is.1) (none_left w n g d is.0 p (at ∙ ap (λ x. Some (record { maker = x; purpose = p })) is.1) f)
 
 -- nothing behind the run has happened on the device of its command that is out
-pub out_newest : (w : Setting) (n : Reading) (g : Grips) (held : ℕ → ℕ) (d r k : ℕ) (cut : CutAt r n.line) → IsRead w n → OrderIsKept w n g held → g d ≡ Some (record { maker = r; purpose = Commands k }) → IsOut w n d r k → IsNewest n d r cut.back
+pub out_newest : (w : Setting) (n : Reading) (g : Grips) (held : ℕ → ℕ) (d r k : ℕ) (cut : CutAt r n.line) → IsRead w n → OrderIsKept (point w n g) held → g d ≡ Some (record { maker = r; purpose = Commands k }) → IsOut w n d r k → IsNewest n d r cut.back
 out_newest w n g held d r k cut read kept at out = record { unseen = λ none. unseen_behind w n g held d r cut read kept device used command; calm = λ none sound. calm_behind w n g held d r cut read kept device used (awaits none sound) }
   where
     c : Command
@@ -346,11 +350,11 @@ out_newest w n g held d r k cut read kept at out = record { unseen = λ none. un
     device : is_device w d ≡ true
     device = kept.grips.homed d (ap is_some at)
 
-    left : rest (run_state w n g r) ≡ c ∷ drop (next_of n r + 1) (commands_of w.runs r)
+    left : rest (run_state (point w n g) r) ≡ c ∷ drop (next_of n r + 1) (commands_of w.runs r)
     left = next_rest w n g r k out.number out.more
 
     used : touches w.runs r d ≡ true
-    used = subst (λ x. touches w.runs r x ≡ true) (sym out.device) (next_used (run_state w n g r) c (drop (next_of n r + 1) (commands_of w.runs r)) left)
+    used = subst (λ x. touches w.runs r x ≡ true) (sym out.device) (next_used (run_state (point w n g) r) c (drop (next_of n r + 1) (commands_of w.runs r)) left)
 
     reading_grip : (b : Bool) → holds_command (if b then Reads else Writes) ≡ true
     reading_grip true = refl
@@ -359,7 +363,7 @@ out_newest w n g held d r k cut read kept at out = record { unseen = λ none. un
     command : holds_command (held_by w r (g d)) ≡ true
     command = ap holds_command (ap (held_by w r) at ∙ held_own w r (Commands k)) ∙ reading_grip (reads c.job)
 
-    pending : uses_device d (rest (run_state w n g r)) ≡ true
+    pending : uses_device d (rest (run_state (point w n g) r)) ≡ true
     pending = ap (uses_device d) left ∙ self d c.device.0 (uses_device d (drop (next_of n r + 1) (commands_of w.runs r))) out.device
       where
         self : (x y : ℕ) (b : Bool) → x ≡ y → ((y == x) || b) ≡ true
@@ -368,14 +372,19 @@ out_newest w n g held d r k cut read kept at out = record { unseen = λ none. un
     open_first : (x y z v : Bool) → x ≡ false → y ≡ false → z ≡ true → v ≡ false → (stage_is_open (stage_of x y z) && not v) ≡ true
     open_first x y z v h k e f = grind (arith, common_steps)
 
-    awaits : did n r d ≡ false → is_doomed n r ≡ false → awaits_first (usage w.kinds (run_state w n g r) d) ≡ true
-    awaits none sound = open_first (is_committed n r) (is_doomed n r) (uses_device d (rest (run_state w n g r))) (is_some (device_summary w.kinds (run_state w n g r) d).view) (live_uncommitted n r out.live) sound pending (ap is_some ((read.summarized r).view d) ∙ seen_view (view_of n r d) ∙ none)
+    awaits : did n r d ≡ false → is_doomed n r ≡ false → awaits_first (usage w.kinds (run_state (point w n g) r) d) ≡ true
+    awaits none sound =
+        open_first (is_committed n r) (is_doomed n r) (uses_device d (rest (run_state (point w n g) r)))
+        (is_some (device_summary w.kinds (run_state (point w n g) r) d).view) (live_uncommitted n r out.live) sound pending
+        (ap is_some ((read.summarized r).view d) ∙ seen_view (view_of n r d) ∙ none)
 
-wrote_at : (w : Setting) (n : Reading) (g : Grips) (held : ℕ → ℕ) (r k : ℕ) → IsRead w n → g (command_at w.runs r k).device.0 ≡ Some (record { maker = r; purpose = Commands k }) → reads (command_at w.runs r k).job ≡ false → IsOut w n (command_at w.runs r k).device.0 r k → OrderIsKept w n g held
-    → OrderIsKept w (entry w n (Did (run_no r) k Fine)) (put g (command_at w.runs r k).device.0 None) (put held (command_at w.runs r k).device.0 (driven (kind_at w.kinds (command_at w.runs r k).device.0) (command_at w.runs r k).job (n.run r).register))
+wrote_at : (w : Setting) (n : Reading) (g : Grips) (held : ℕ → ℕ) (r k : ℕ) → IsRead w n
+    → g (command_at w.runs r k).device.0 ≡ Some (record { maker = r; purpose = Commands k }) → reads (command_at w.runs r k).job ≡ false
+    → IsOut w n (command_at w.runs r k).device.0 r k → OrderIsKept (point w n g) held
+    → OrderIsKept (point w (entry w n (Did (run_no r) k Fine)) (put g (command_at w.runs r k).device.0 None)) (put held (command_at w.runs r k).device.0 (driven (kind_at w.kinds (command_at w.runs r k).device.0) (command_at w.runs r k).job (n.run r).register))
 wrote_at w n g held r k read at writes out kept = record {
   grips = home_fits w n (entry w n (Did (run_no r) k Fine)) g d r (Commands k) (λ q ne. put_other n.run r _ q ne) (live_run w n r read out.live) at kept.grips;
-  window = write_answered w.kinds (window_of w n g held) (window_of w (entry w n (Did (run_no r) k Fine)) (put g d None) (put held d v)) r c (drop (next_of n r + 1) (commands_of w.runs r)) (is_doomed n r) (record {
+  window = write_answered w.kinds (window_of (point w n g) held) (window_of (point w (entry w n (Did (run_no r) k Fine)) (put g d None)) (put held d v)) r c (drop (next_of n r + 1) (commands_of w.runs r)) (is_doomed n r) (record {
     place = answered_place w n g held (put held d v) d r k Fine (Commands k) cut at;
     answer = gets_answer w n g r k Fine out.number out.more;
     guard = ap (holds c.when) (read.summarized r).register ∙ out.guard;
@@ -402,19 +411,19 @@ wrote_at w n g held r k read at writes out kept = record {
     cut : CutAt r n.line
     cut = cut_live w n r read out.live
 
-pub wrote_kept : (w : Setting) (n : Reading) (g : Grips) (held : ℕ → ℕ) (d r k : ℕ) → IsRead w n → g d ≡ Some (record { maker = r; purpose = Commands k }) → reads (command_at w.runs r k).job ≡ false → OrderIsKept w n g held
-    → OrderIsKept w (entry w n (Did (run_no r) k Fine)) (put g d None) (put held d (driven (kind_at w.kinds d) (command_at w.runs r k).job (n.run r).register))
+pub wrote_kept : (w : Setting) (n : Reading) (g : Grips) (held : ℕ → ℕ) (d r k : ℕ) → IsRead w n → g d ≡ Some (record { maker = r; purpose = Commands k }) → reads (command_at w.runs r k).job ≡ false → OrderIsKept (point w n g) held
+    → OrderIsKept (point w (entry w n (Did (run_no r) k Fine)) (put g d None)) (put held d (driven (kind_at w.kinds d) (command_at w.runs r k).job (n.run r).register))
 wrote_kept w n g held d r k read at writes kept =
     let out = out_is w n g d r k kept.grips at in
-    subst (λ x. OrderIsKept w (entry w n (Did (run_no r) k Fine)) (put g x None) (put held x (driven (kind_at w.kinds x) (command_at w.runs r k).job (n.run r).register))) (sym out.device)
+    subst (λ x. OrderIsKept (point w (entry w n (Did (run_no r) k Fine)) (put g x None)) (put held x (driven (kind_at w.kinds x) (command_at w.runs r k).job (n.run r).register))) (sym out.device)
     (wrote_at w n g held r k read (subst (λ x. g x ≡ Some (record { maker = r; purpose = Commands k })) out.device at) writes (subst (λ x. IsOut w n x r k) out.device out) kept)
 
 found_at : (w : Setting) (n : Reading) (g : Grips) (held : ℕ → ℕ) (r k : ℕ) → IsRead w n → g (command_at w.runs r k).device.0 ≡ Some (record { maker = r; purpose = Commands k }) → reads (command_at w.runs r k).job ≡ true
-    → (fails (command_at w.runs r k) (Found (held (command_at w.runs r k).device.0)) ≡ true → is_doomed n r ≡ true) → IsOut w n (command_at w.runs r k).device.0 r k → OrderIsKept w n g held
-    → OrderIsKept w (entry w n (Did (run_no r) k (Found (held (command_at w.runs r k).device.0)))) (put g (command_at w.runs r k).device.0 None) held
+    → (fails (command_at w.runs r k) (Found (held (command_at w.runs r k).device.0)) ≡ true → is_doomed n r ≡ true) → IsOut w n (command_at w.runs r k).device.0 r k → OrderIsKept (point w n g) held
+    → OrderIsKept (point w (entry w n (Did (run_no r) k (Found (held (command_at w.runs r k).device.0)))) (put g (command_at w.runs r k).device.0 None)) held
 found_at w n g held r k read at reading passes out kept = record {
   grips = home_fits w n (entry w n (Did (run_no r) k (Found x))) g d r (Commands k) (λ q ne. put_other n.run r _ q ne) (live_run w n r read out.live) at kept.grips;
-  window = read_answered w.kinds (window_of w n g held) (window_of w (entry w n (Did (run_no r) k (Found x))) (put g d None) held) r c (drop (next_of n r + 1) (commands_of w.runs r)) x (is_doomed n r) (record {
+  window = read_answered w.kinds (window_of (point w n g) held) (window_of (point w (entry w n (Did (run_no r) k (Found x))) (put g d None)) held) r c (drop (next_of n r + 1) (commands_of w.runs r)) x (is_doomed n r) (record {
     place = answered_place w n g held held d r k (Found x) (Commands k) cut at;
     answer = gets_answer w n g r k (Found x) out.number out.more;
     guard = ap (holds c.when) (read.summarized r).register ∙ out.guard;
@@ -442,11 +451,11 @@ found_at w n g held r k read at reading passes out kept = record {
 
 -- a read is answered with the value at which its device stands, and where it fails its run is doomed already
 pub found_kept : (w : Setting) (n : Reading) (g : Grips) (held : ℕ → ℕ) (d r k : ℕ) → IsRead w n → g d ≡ Some (record { maker = r; purpose = Commands k })
-    → reads (command_at w.runs r k).job ≡ true → (fails (command_at w.runs r k) (Found (held d)) ≡ true → is_doomed n r ≡ true) → OrderIsKept w n g held
-    → OrderIsKept w (entry w n (Did (run_no r) k (Found (held d)))) (put g d None) held
+    → reads (command_at w.runs r k).job ≡ true → (fails (command_at w.runs r k) (Found (held d)) ≡ true → is_doomed n r ≡ true) → OrderIsKept (point w n g) held
+    → OrderIsKept (point w (entry w n (Did (run_no r) k (Found (held d)))) (put g d None)) held
 found_kept w n g held d r k read at reading passes kept =
     let out = out_is w n g d r k kept.grips at in
-    subst (λ y. OrderIsKept w (entry w n (Did (run_no r) k (Found (held y)))) (put g y None) held) (sym out.device)
+    subst (λ y. OrderIsKept (point w (entry w n (Did (run_no r) k (Found (held y)))) (put g y None)) held) (sym out.device)
     (found_at w n g held r k read (subst (λ y. g y ≡ Some (record { maker = r; purpose = Commands k })) out.device at) reading (subst (λ y. fails (command_at w.runs r k) (Found (held y)) ≡ true → is_doomed n r ≡ true) out.device passes) (subst (λ y. IsOut w n y r k) out.device out) kept)
 
 -- A command goes out
@@ -457,11 +466,11 @@ next_is (x ∷ cs) zero c at = (omega arith, some_is x c at)
 next_is (x ∷ cs) (suc k) c at = let rest = next_is cs k c at in (omega (arith, rest.0), rest.1)
 
 pub goes_kept : (w : Setting) (n : Reading) (g : Grips) (held : ℕ → ℕ) (r : ℕ) (c : Command) → IsRead w n → is_run w.runs r ≡ true → is_live n r ≡ true → (n.run r).doomed ≡ None → grip_wait w g r ≡ None → next_command w n r ≡ Some c → holds c.when (n.run r).register ≡ true
-    → behind_wait w n g r c.device.0 ≡ None → dirty_wait w n g r c ≡ None → is_out g c.device.0 ≡ false → sees_down n r c.device.0 ≡ false → n.up c.device.0 ≡ true → is_device w c.device.0 ≡ true → OrderIsKept w n g held
-    → OrderIsKept w n (put g c.device.0 (Some (record { maker = r; purpose = Commands (next_of n r) }))) held
+    → behind_wait (point w n g) r c.device.0 ≡ None → dirty_wait (point w n g) r c ≡ None → is_out g c.device.0 ≡ false → sees_down n r c.device.0 ≡ false → n.up c.device.0 ≡ true → is_device w c.device.0 ≡ true → OrderIsKept (point w n g) held
+    → OrderIsKept (point w n (put g c.device.0 (Some (record { maker = r; purpose = Commands (next_of n r) })))) held
 goes_kept w n g held r c read run live sound free next guard behind dirty in' sees up device kept = record {
   grips = fits_with w n g d r (Commands k) device may (λ q e. holds_none w g r kept.grips.homed free) kept.grips;
-  window = command_out w.kinds (window_of w n g held) (window_of w n (put g d (Some new)) held) r c later (record {
+  window = command_out w.kinds (window_of (point w n g) held) (window_of (point w n (put g d (Some new))) held) r c later (record {
     place = in_place w n n g (put g d (Some new)) held held r cut refl (λ q ne. refl) (λ q e ne. put_keeps (held_by w q) g d (Some new) (held_other w r q (Commands k) ne ∙ sym (ap (held_by w q) home)) e);
     keeps = record { commands = refl; answers = refl; committed = refl; doomed = refl; undid = λ e ne. refl; grip = λ e ne. ap (held_by w r) (put_other g d (Some new) e ne) };
     next = left;
@@ -497,11 +506,11 @@ goes_kept w n g held r c read run live sound free next guard behind dirty in' se
     is : (k < length (commands_of w.runs r)) × (command_at w.runs r k ≡ c)
     is = next_is (commands_of w.runs r) k c next
 
-    left : rest (run_state w n g r) ≡ c ∷ later
+    left : rest (run_state (point w n g) r) ≡ c ∷ later
     left = rest_next (commands_of w.runs r) (n.run r).answers is.0 ∙ ap (λ x. x ∷ later) is.1
 
     used : touches w.runs r d ≡ true
-    used = next_used (run_state w n g r) c later left
+    used = next_used (run_state (point w n g) r) c later left
 
     nothing : (o : Option Grip) → is_some o ≡ false → o ≡ None
     nothing None h = refl
@@ -519,8 +528,8 @@ goes_kept w n g held r c read run live sound free next guard behind dirty in' se
     may : may_command w r d k (n.run r) ≡ true
     may = λ i. live i && ((ap (λ o. unwrap_or (option_map (λ x. is_on d x && holds x.when (n.run r).register) o) false) next ∙ (λ j. same d j && guard j)) i) && same k i
 
-    pending : stage_is_open (usage w.kinds (run_state w n g r) d).stage ≡ true
+    pending : stage_is_open (usage w.kinds (run_state (point w n g) r) d).stage ≡ true
     pending = λ i. stage_is_open (stage_of (live_uncommitted n r live i) (is_some (sound i)) ((ap (uses_device d) left ∙ self d (uses_device d later)) i))
 
-    clear : reads c.job ≡ true → ((n.run r).on d).wrote ≡ None → dirty_wait w n g r c ≡ find (λ x. has_effect n g x d) (live_before n r)
+    clear : reads c.job ≡ true → ((n.run r).on d).wrote ≡ None → dirty_wait (point w n g) r c ≡ find (λ x. has_effect n g x d) (live_before n r)
     clear reading none = λ i. if reading i && not (sees i) && not (is_some (none i)) then find (λ x. has_effect n g x d) (live_before n r) else None

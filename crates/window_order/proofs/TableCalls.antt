@@ -21,7 +21,8 @@ use Rattle.lineage_table.specs.Lineages.{LineageState}
 use Rattle.lineage_table.specs.declared.accesses.Access.{Access}
 use Rattle.lineage_table.specs.declared.accesses.Status.TheVariants.{Acquired, Released, Scheduled}
 use Rattle.lineage_table.specs.declared.accesses.Status.{Status}
-use Rattle.lock_leasing.specs.Configurations.{Commands, Grips, grips_command}
+use Rattle.lock_leasing.specs.Configurations.{Grips, grips_command, point}
+use Rattle.lock_leasing.specs.declared.purposes.Purpose.TheVariants.{Commands}
 use Rattle.lock_leasing.specs.Order.{is_touched, open_runs_are_last, opens}
 use Rattle.lock_leasing.specs.Tables.{status_by_answers, uses}
 use Rattle.std.proofs.Common.{ap, arith, refl, subst, sym, ◌∙◌}
@@ -48,12 +49,12 @@ use Rattle.window_order.specs.TableKept.{LineageIsKept, access_read, accesses_al
 -- The order of the runs around a command that is out
 
 -- no run before one that has touched the device is open there
-pub closed_before : (w : Setting) (n : Reading) (g : Grips) (d : ℕ) (front back : List Item) (i : Item) → is_touched n g d i ≡ true → open_runs_are_last w n g d (front ++ i ∷ back) ≡ true → (x : ℕ) → list_any (is_ran x) front ≡ true → is_open w n x d ≡ false
+pub closed_before : (w : Setting) (n : Reading) (g : Grips) (d : ℕ) (front back : List Item) (i : Item) → is_touched n g d i ≡ true → open_runs_are_last (point w n g) d (front ++ i ∷ back) ≡ true → (x : ℕ) → list_any (is_ran x) front ≡ true → is_open w n x d ≡ false
 closed_before w n g d [] back i touched last x there = absurd (cc)
 closed_before w n g d (Ran q ∷ front) back i touched last x there = at_ (closed_before w n g d front back i touched rest.1 x) (q.0 == x) refl there
   where
-    rest : ((not (opens w n d (Ran q)) || not (list_any (is_touched n g d) (front ++ i ∷ back))) ≡ true) × (open_runs_are_last w n g d (front ++ i ∷ back) ≡ true)
-    rest = both (not (opens w n d (Ran q)) || not (list_any (is_touched n g d) (front ++ i ∷ back))) (open_runs_are_last w n g d (front ++ i ∷ back)) last
+    rest : ((not (opens w n d (Ran q)) || not (list_any (is_touched n g d) (front ++ i ∷ back))) ≡ true) × (open_runs_are_last (point w n g) d (front ++ i ∷ back) ≡ true)
+    rest = both (not (opens w n d (Ran q)) || not (list_any (is_touched n g d) (front ++ i ∷ back))) (open_runs_are_last (point w n g) d (front ++ i ∷ back)) last
 
     some : (a b c : Bool) → b ≡ true → (a || (b || c)) ≡ true
     some a b c h = grind (arith, common_steps)
@@ -67,8 +68,8 @@ closed_before w n g d (Ran q ∷ front) back i touched last x there = at_ (close
     at_ : (list_any (is_ran x) front ≡ true → is_open w n x d ≡ false) → (b : Bool) → (q.0 == x) ≡ b → (b || list_any (is_ran x) front) ≡ true → is_open w n x d ≡ false
     at_ ih true e h = sym (ap (λ y. is_open w n y d) (eqb-true q.0 x e)) ∙ shut (is_open w n q.0 d) (list_any (is_touched n g d) (front ++ i ∷ back)) any rest.0
     at_ ih false e h = ih h
-closed_before w n g d (Failed e k ∷ front) back i touched last x there = closed_before w n g d front back i touched (both (not false || not (list_any (is_touched n g d) (front ++ i ∷ back))) (open_runs_are_last w n g d (front ++ i ∷ back)) last).1 x there
-closed_before w n g d (Back e k ∷ front) back i touched last x there = closed_before w n g d front back i touched (both (not false || not (list_any (is_touched n g d) (front ++ i ∷ back))) (open_runs_are_last w n g d (front ++ i ∷ back)) last).1 x there
+closed_before w n g d (Failed e k ∷ front) back i touched last x there = closed_before w n g d front back i touched (both (not false || not (list_any (is_touched n g d) (front ++ i ∷ back))) (open_runs_are_last (point w n g) d (front ++ i ∷ back)) last).1 x there
+closed_before w n g d (Back e k ∷ front) back i touched last x there = closed_before w n g d front back i touched (both (not false || not (list_any (is_touched n g d) (front ++ i ∷ back))) (open_runs_are_last (point w n g) d (front ++ i ∷ back)) last).1 x there
 
 -- a run that holds the grip for a command is not undone
 command_kept : (u : Usage) → holds_command u.grip ≡ true → HoldsFit u.grip u → u.undid ≡ false
@@ -81,21 +82,24 @@ command_kept u command fits = at_ u.grip command fits
     at_ (ToUndo v) h k = absurd (cc)
 
 -- while the run's command is out on the device, it is the run's turn there
-pub touches_now : (w : Setting) (n : Reading) (g : Grips) (held : ℕ → ℕ) (d r k : ℕ) (cut : CutAt r n.line) → IsRead w n → OrderIsKept w n g held → g d ≡ Some (record { maker = r; purpose = Commands k }) → TouchesNow w n g d r cut
+pub touches_now : (w : Setting) (n : Reading) (g : Grips) (held : ℕ → ℕ) (d r k : ℕ) (cut : CutAt r n.line) → IsRead w n → OrderIsKept (point w n g) held → g d ≡ Some (record { maker = r; purpose = Commands k }) → TouchesNow w n g d r cut
 touches_now w n g held d r k cut read order at = record {
   live = live;
   pending = pending;
   acts = or_right (not (is_doomed n r)) (grips_command g r d) gripped;
   undoes_none = own_undo g d r (Commands k) at;
   alone = λ q ne. other_command g d r q (Commands k) at ne;
-  kept = command_kept (usage w.kinds (run_state w n g r) d) command (use_cut (walk_start (stand_at w.first d).up (stand_at w.first d).value) (entries w.kinds (window_of w n g held).states d cut.front) (usage w.kinds (run_state w n g r) d) (entries w.kinds (window_of w n g held).states d cut.back)
+  kept =
+      command_kept (usage w.kinds (run_state (point w n g) r) d) command
+      (use_cut (walk_start (stand_at w.first d).up (stand_at w.first d).value) (entries w.kinds (window_of (point w n g) held).states d cut.front)
+      (usage w.kinds (run_state (point w n g) r) d) (entries w.kinds (window_of (point w n g) held).states d cut.back)
       (subst (WalkHolds (walk_start (stand_at w.first d).up (stand_at w.first d).value)) (device_order_at w n g held d r cut used) (order.window.devices d (below_home w d device)).walk)).fits.grip;
   front = λ x there lives sound. no_more (is_live n x) (is_doomed n x) (pends w n x d) lives sound (closed_before w n g d cut.front cut.back (Ran (run_no r)) touched along x there);
   back = unseen_behind w n g held d r cut read order device used command;
 }
   where
-    along : open_runs_are_last w n g d (cut.front ++ Ran (run_no r) ∷ cut.back) ≡ true
-    along = ap (open_runs_are_last w n g d) (sym cut.at) ∙ open_runs_last w n g held d read order
+    along : open_runs_are_last (point w n g) d (cut.front ++ Ran (run_no r) ∷ cut.back) ≡ true
+    along = ap (open_runs_are_last (point w n g) d) (sym cut.at) ∙ open_runs_last w n g held d read order
 
     device : is_device w d ≡ true
     device = order.grips.homed d (ap is_some at)
@@ -124,11 +128,11 @@ touches_now w n g held d r k cut read order at = record {
 -- The run's access
 
 -- how the access stands
-pub status_there : (w : Setting) (n : Reading) (g : Grips) (d r : ℕ) (cut : CutAt r n.line) (s : LineageState) → IsRead w n → TouchesNow w n g d r cut → LineageIsKept w n g d s → status_of r s.accesses ≡ Some (if did n r d then Acquired else Scheduled)
+pub status_there : (w : Setting) (n : Reading) (g : Grips) (d r : ℕ) (cut : CutAt r n.line) (s : LineageState) → IsRead w n → TouchesNow w n g d r cut → LineageIsKept (point w n g) d s → status_of r s.accesses ≡ Some (if did n r d then Acquired else Scheduled)
 status_there w n g d r cut s read now kept =
     ap (status_of r) (kept.accesses ∙ accesses_around w n g kept.passed d r cut read now)
-    ∙ status_at r (front_accesses (uses w n d) (commits_write n d) (access_read w n g kept.passed d) false cut.front) (access_read w n g kept.passed d r)
-    (accesses_along (uses w n d) (commits_write n d) (access_read w n g kept.passed d) cut.back) (none_in_front w n g kept.passed d r cut) (eq-eqb r r refl)
+    ∙ status_at r (front_accesses (uses w n d) (commits_write n d) (access_read (point w n g) kept.passed d) false cut.front) (access_read (point w n g) kept.passed d r)
+    (accesses_along (uses w n d) (commits_write n d) (access_read (point w n g) kept.passed d) cut.back) (none_in_front w n g kept.passed d r cut) (eq-eqb r r refl)
     ∙ (λ i. Some (if never_passed n g d r kept.passed kept.may_pass now.acts i then Released else (if did n r d then (if works_now w n g d r cut now i then Acquired else Released) else Scheduled)))
 
 -- a run that stands among these has no answer where none of them has
@@ -143,21 +147,21 @@ found n d x (Failed e k ∷ is) none there = found n d x is none there
 found n d x (Back e k ∷ is) none there = found n d x is none there
 
 -- before its first answer on the device the run's access waits: none is acquired
-pub waits_there : (w : Setting) (n : Reading) (g : Grips) (d r : ℕ) (cut : CutAt r n.line) (s : LineageState) → IsRead w n → TouchesNow w n g d r cut → did n r d ≡ false → LineageIsKept w n g d s → IsWaiting r s
+pub waits_there : (w : Setting) (n : Reading) (g : Grips) (d r : ℕ) (cut : CutAt r n.line) (s : LineageState) → IsRead w n → TouchesNow w n g d r cut → did n r d ≡ false → LineageIsKept (point w n g) d s → IsWaiting r s
 waits_there w n g d r cut s read now none kept = record {
   scheduled = scheduled;
   none_acquired =
-      ap some_acquired around ∙ list_any-append (λ (x : Access). is_acquired x.status) front (access_read w n g kept.passed d r ∷ back)
+      ap some_acquired around ∙ list_any-append (λ (x : Access). is_acquired x.status) front (access_read (point w n g) kept.passed d r ∷ back)
       ∙ (λ i. none_front i || (is_acquired (if never_passed n g d r kept.passed kept.may_pass now.acts i then Released else (if none i then (if (not (is_doomed n r) && pends w n r d) || grips_command g r d then Acquired else Released) else Scheduled)) || none_back i));
 }
   where
     front : List Access
-    front = front_accesses (uses w n d) (commits_write n d) (access_read w n g kept.passed d) false cut.front
+    front = front_accesses (uses w n d) (commits_write n d) (access_read (point w n g) kept.passed d) false cut.front
 
     back : List Access
-    back = accesses_along (uses w n d) (commits_write n d) (access_read w n g kept.passed d) cut.back
+    back = accesses_along (uses w n d) (commits_write n d) (access_read (point w n g) kept.passed d) cut.back
 
-    around : s.accesses ≡ front ++ access_read w n g kept.passed d r ∷ back
+    around : s.accesses ≡ front ++ access_read (point w n g) kept.passed d r ∷ back
     around = kept.accesses ∙ accesses_around w n g kept.passed d r cut read now
 
     scheduled : status_of r s.accesses ≡ Some Scheduled
@@ -171,9 +175,9 @@ waits_there w n g d r cut s read now none kept = record {
     unacquired false status h = h
 
     none_front : list_any (λ (x : Access). is_acquired x.status) front ≡ false
-    none_front = front_none (uses w n d) (commits_write n d) (access_read w n g kept.passed d) false (λ (x : Access). is_acquired x.status) cut.front (λ x there used. unacquired (kept.passed x) (status_by_answers w n g x d)
+    none_front = front_none (uses w n d) (commits_write n d) (access_read (point w n g) kept.passed d) false (λ (x : Access). is_acquired x.status) cut.front (λ x there used. unacquired (kept.passed x) (status_by_answers (point w n g) x d)
         (unacquired_before w n g d r cut now x there (lives (is_live n x) (touches w.runs x d) (touches w.runs x d && not (pends w n x d) && not (did n x d)) used)))
 
     none_back : list_any (λ (x : Access). is_acquired x.status) back ≡ false
-    none_back = along_none (uses w n d) (commits_write n d) (access_read w n g kept.passed d) (λ (x : Access). is_acquired x.status) cut.back (λ x there used. unacquired (kept.passed x) (status_by_answers w n g x d)
+    none_back = along_none (uses w n d) (commits_write n d) (access_read (point w n g) kept.passed d) (λ (x : Access). is_acquired x.status) cut.back (λ x there used. unacquired (kept.passed x) (status_by_answers (point w n g) x d)
         (λ i. is_acquired (if found n d x cut.back now.back there i then (if (not (is_doomed n x) && pends w n x d) || grips_command g x d then Acquired else Released) else Scheduled)))

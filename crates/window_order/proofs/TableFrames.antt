@@ -14,7 +14,7 @@ use Rattle.lineage_table.specs.Lineages.{LineageState}
 use Rattle.lineage_table.specs.declared.accesses.Access.{Access}
 use Rattle.lineage_table.specs.declared.accesses.Status.TheVariants.{Acquired, Released, Scheduled}
 use Rattle.lineage_table.specs.declared.accesses.Status.{Status}
-use Rattle.lock_leasing.specs.Configurations.{Grips, grips_command, grips_undo}
+use Rattle.lock_leasing.specs.Configurations.{Grips, grips_command, grips_undo, point}
 use Rattle.lock_leasing.specs.Tables.{may_be_passed, uses, view_when}
 use Rattle.lock_leasing.specs.Words.{committed_write}
 use Rattle.std.proofs.Common.{ap, refl, subst, sym, ◌∙◌}
@@ -96,33 +96,33 @@ pub record SameUses (w : Setting) (n m : Reading) (g h : Grips) (d : ℕ) : Type
 pub uses_same : (w : Setting) (n : Reading) (g h : Grips) (d : ℕ) → ((q : ℕ) → may_be_passed n g q d ≡ true → may_be_passed n h q d ≡ true) → SameUses w n n g h d
 uses_same w n g h d may = record { line = refl; has_one = λ q. refl; covering = λ q. refl; write = λ q. refl; unplaced = λ q. refl; up = refl; may = may }
 
-committed_kept : (w : Setting) (n m : Reading) (g h : Grips) (d : ℕ) (s : LineageState) → SameUses w n m g h d → (kept : LineageIsKept w n g d s) → s.committed ≡ unwrap_or (fold (λ b x. option_or (committed_write m d x) b) None m.line) (stand_at w.first d).value
+committed_kept : (w : Setting) (n m : Reading) (g h : Grips) (d : ℕ) (s : LineageState) → SameUses w n m g h d → (kept : LineageIsKept (point w n g) d s) → s.committed ≡ unwrap_or (fold (λ b x. option_or (committed_write m d x) b) None m.line) (stand_at w.first d).value
 committed_kept w n m g h d s same kept =
     kept.committed ∙ sym (ap (λ is. unwrap_or (fold (λ b x. option_or (committed_write m d x) b) None is) (stand_at w.first d).value) same.line ∙ ap (λ o. unwrap_or o (stand_at w.first d).value) (same_committed n m d None n.line same.write))
 
 -- the accesses are the same
-pub lineage_same : (w : Setting) (n m : Reading) (g h : Grips) (d : ℕ) (s : LineageState) → SameUses w n m g h d → (kept : LineageIsKept w n g d s) → ((q : ℕ) → access_by w h kept.passed d q (m.run q) ≡ access_by w g kept.passed d q (n.run q)) → LineageIsKept w m h d s
+pub lineage_same : (w : Setting) (n m : Reading) (g h : Grips) (d : ℕ) (s : LineageState) → SameUses w n m g h d → (kept : LineageIsKept (point w n g) d s) → ((q : ℕ) → access_by w h kept.passed d q (m.run q) ≡ access_by w g kept.passed d q (n.run q)) → LineageIsKept (point w m h) d s
 lineage_same w n m g h d s same kept accesses = record {
   passed = kept.passed;
   may_pass = λ q passed. same.may q (kept.may_pass q passed);
   committed = committed_kept w n m g h d s same kept;
-  accesses = kept.accesses ∙ sym (ap (accesses_read w m h kept.passed d) same.line ∙ along_same (uses w n d) (uses w m d) (commits_write n d) (commits_write m d) (access_read w n g kept.passed d) (access_read w m h kept.passed d) n.line same.has_one same.covering accesses);
+  accesses = kept.accesses ∙ sym (ap (accesses_read (point w m h) kept.passed d) same.line ∙ along_same (uses w n d) (uses w m d) (commits_write n d) (commits_write m d) (access_read (point w n g) kept.passed d) (access_read (point w m h) kept.passed d) n.line same.has_one same.covering accesses);
   room = subst (λ x. x ≤ s.room) (sym (same_unplaced n m d 1 w.runs same.unplaced)) kept.room;
   up = kept.up ∙ sym same.up;
 }
 
 -- the access of one run is changed
-pub lineage_changed : (w : Setting) (n m : Reading) (g h : Grips) (d r : ℕ) (change : Access → Access) (s : LineageState) → RunsAreDistinct n.line → SameUses w n m g h d → (kept : LineageIsKept w n g d s)
+pub lineage_changed : (w : Setting) (n m : Reading) (g h : Grips) (d r : ℕ) (change : Access → Access) (s : LineageState) → RunsAreDistinct n.line → SameUses w n m g h d → (kept : LineageIsKept (point w n g) d s)
     → access_by w h kept.passed d r (m.run r) ≡ change (access_by w g kept.passed d r (n.run r)) → ((q : ℕ) → q ≢ r → access_by w h kept.passed d q (m.run q) ≡ access_by w g kept.passed d q (n.run q))
-    → LineageIsKept w m h d (record s { accesses = with_change r change s.accesses })
+    → LineageIsKept (point w m h) d (record s { accesses = with_change r change s.accesses })
 lineage_changed w n m g h d r change s distinct same kept own others = record {
   passed = kept.passed;
   may_pass = λ q passed. same.may q (kept.may_pass q passed);
   committed = committed_kept w n m g h d s same kept;
   accesses =
       ap (with_change r change) kept.accesses
-      ∙ change_along (uses w n d) (commits_write n d) (access_read w n g kept.passed d) (access_read w m h kept.passed d) r change n.line distinct (λ x. refl) own others
-      ∙ sym (ap (accesses_read w m h kept.passed d) same.line ∙ along_same (uses w n d) (uses w m d) (commits_write n d) (commits_write m d) (access_read w m h kept.passed d) (access_read w m h kept.passed d) n.line same.has_one same.covering (λ q. refl));
+      ∙ change_along (uses w n d) (commits_write n d) (access_read (point w n g) kept.passed d) (access_read (point w m h) kept.passed d) r change n.line distinct (λ x. refl) own others
+      ∙ sym (ap (accesses_read (point w m h) kept.passed d) same.line ∙ along_same (uses w n d) (uses w m d) (commits_write n d) (commits_write m d) (access_read (point w m h) kept.passed d) (access_read (point w m h) kept.passed d) n.line same.has_one same.covering (λ q. refl));
   room = subst (λ x. x ≤ s.room) (sym (same_unplaced n m d 1 w.runs same.unplaced)) kept.room;
   up = kept.up ∙ sym same.up;
 }

@@ -12,7 +12,7 @@ use Rattle.home_types.specs.declared.commands.Answer.TheVariants.{Down}
 use Rattle.home_types.specs.declared.commands.Command.{Command}
 use Rattle.home_types.specs.declared.items.Item.TheVariants.{Ran}
 use Rattle.lineage_table.specs.Lineages.{LineageState}
-use Rattle.lock_leasing.specs.Configurations.{Grip, Grips, grips_command, is_command, is_out, is_undo}
+use Rattle.lock_leasing.specs.Configurations.{Grip, Grips, grips_command, is_command, is_out, is_undo, point}
 use Rattle.lock_leasing.specs.Order.{open_runs_are_last}
 use Rattle.lock_leasing.specs.Words.{holds_device, live_runs}
 use Rattle.std.proofs.Common.{ap, arith, refl, sym, ◌∙◌}
@@ -40,7 +40,7 @@ use Rattle.window_order.specs.TableChanges.{ChangesEach, answered_change}
 use Rattle.window_order.specs.TableKept.{TableIsKept}
 
 -- where a run is open on a device and has an answer there, no other run has a command out on it
-none_called : (w : Setting) (n : Reading) (g : Grips) (held : ℕ → ℕ) (d r q : ℕ) → IsRead w n → OrderIsKept w n g held → is_open w n r d ≡ true → did n r d ≡ true → q ≢ r → grips_command g q d ≡ false
+none_called : (w : Setting) (n : Reading) (g : Grips) (held : ℕ → ℕ) (d r q : ℕ) → IsRead w n → OrderIsKept (point w n g) held → is_open w n r d ≡ true → did n r d ≡ true → q ≢ r → grips_command g q d ≡ false
 none_called w n g held d r q read kept opened has ne = by_grip (grips_command g q d) refl
   where
     lives : (l x p : Bool) → (l && not x && p) ≡ true → l ≡ true
@@ -71,8 +71,8 @@ none_called w n g held d r q read kept opened has ne = by_grip (grips_command g 
         stands : (list_any (is_ran r) cut.front || list_any (is_ran r) (Ran (run_no q) ∷ cut.back)) ≡ true
         stands = sym (list_any-append (is_ran r) cut.front (Ran (run_no q) ∷ cut.back)) ∙ sym (ap (list_any (is_ran r)) cut.at) ∙ live_stands w n r read (lives (is_live n r) (is_doomed n r) (pends w n r d) opened)
 
-        along : open_runs_are_last w n g d (cut.front ++ Ran (run_no q) ∷ cut.back) ≡ true
-        along = ap (open_runs_are_last w n g d) (sym cut.at) ∙ open_runs_last w n g held d read kept
+        along : open_runs_are_last (point w n g) d (cut.front ++ Ran (run_no q) ∷ cut.back) ≡ true
+        along = ap (open_runs_are_last (point w n g) d) (sym cut.at) ∙ open_runs_last w n g held d read kept
 
         by_place : (b : Bool) → list_any (is_ran r) cut.front ≡ b → ⊥
         by_place true there = both_ways (is_open w n r d) (closed_before w n g d cut.front cut.back (Ran (run_no q)) (or_right (did n q d) (grips_command g q d) out) along r there) opened
@@ -94,7 +94,7 @@ told_touches_now w n g held r c cut s = record {
   kept = by_undid ((n.run r).on d).undid refl;
   undoes_none = unheld (g d) refl;
   alone = λ q ne. by_view q ne (sees_down n r d) refl;
-  front = λ x there lives sound. left (is_live n x) (is_doomed n x) (pends w n x d) _ lives sound (found_live n (λ y. holds_device w n g y d) cut.front none x there lives);
+  front = λ x there lives sound. left (is_live n x) (is_doomed n x) (pends w n x d) _ lives sound (found_live n (λ y. holds_device (point w n g) y d) cut.front none x there lives);
   back = open_behind w n g held d r cut s.read s.kept s.device (told_touches w n g held r c s) (told_open w n g held r c s);
 }
   where
@@ -133,12 +133,12 @@ told_touches_now w n g held r c cut s = record {
     left : (l x p e : Bool) → l ≡ true → x ≡ false → (l && (if x then e else p)) ≡ false → p ≡ false
     left l x p e h k j = grind (arith, common_steps)
 
-    none : find (λ y. holds_device w n g y d) (live_runs n cut.front) ≡ None
-    none = sym (ap (λ l. find (λ y. holds_device w n g y d) (live_runs n l)) (ap (before r) cut.at ∙ before_cut r cut.front cut.back cut.before)) ∙ s.behind
+    none : find (λ y. holds_device (point w n g) y d) (live_runs n cut.front) ≡ None
+    none = sym (ap (λ l. find (λ y. holds_device (point w n g) y d) (live_runs n l)) (ap (before r) cut.at ∙ before_cut r cut.front cut.back cut.before)) ∙ s.behind
 
 -- the answer is noted as one that a call gave
-pub told_table : (w : Setting) (n : Reading) (g : Grips) (held : ℕ → ℕ) (r : ℕ) (c : Command) (old new : List LineageState) → IsToldDown w n g held r c → ChangesEach (answered_change w n r (next_of n r) Down) old new → TableIsKept w n g old
-    → TableIsKept w (entry w n (Did (run_no r) (next_of n r) Down)) g new
+pub told_table : (w : Setting) (n : Reading) (g : Grips) (held : ℕ → ℕ) (r : ℕ) (c : Command) (old new : List LineageState) → IsToldDown w n g held r c → ChangesEach (answered_change w n r (next_of n r) Down) old new → TableIsKept (point w n g) old
+    → TableIsKept (point w (entry w n (Did (run_no r) (next_of n r) Down)) g) new
 told_table w n g held r c old new s changes kept = changed_table w n (entry w n (Did (run_no r) (next_of n r) Down)) g g (answered_change w n r (next_of n r) Down) old new
     (answered_kept w n g g r (next_of n r) Down cut refl s.read refl (next_is (commands_of w.runs r) (next_of n r) c s.next).0 now
     (record { command = unheld; undo = now.undoes_none; others = λ q ne. record { command = refl; undo = refl } })

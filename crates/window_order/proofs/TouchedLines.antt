@@ -17,7 +17,8 @@ use Rattle.home_types.specs.Kinds.{kind_at}
 use Rattle.home_types.specs.declared.commands.Command.{Command}
 use Rattle.home_types.specs.declared.items.Item.TheVariants.{Back, Failed, Ran}
 use Rattle.home_types.specs.declared.items.Item.{Item}
-use Rattle.lock_leasing.specs.Configurations.{Commands, Grip, Grips, Undoes, grips_command, is_command, no_grips}
+use Rattle.lock_leasing.specs.Configurations.{Grip, Grips, grips_command, is_command, no_grips, point}
+use Rattle.lock_leasing.specs.declared.purposes.Purpose.TheVariants.{Commands, Undoes}
 use Rattle.lock_leasing.specs.Places.{GripsFit}
 use Rattle.lock_leasing.specs.Standings.{has_ended, item_has_touched}
 use Rattle.lock_leasing.specs.Words.{has_touched}
@@ -78,7 +79,7 @@ marks_committed w n g r marks kept = line_settling r touches also
         at_ false = refl
 
 -- a run is placed: it has touched nothing
-pub marks_placed : (w : Setting) (n : Reading) (g : Grips) (r at m : ℕ) (planned : List Planned) (marks : List Mark) → IsRead w n → GripsFit w n g → may_follow w n (Placed (run_no r) at m) ≡ true → MarksAreKept n g marks
+pub marks_placed : (w : Setting) (n : Reading) (g : Grips) (r at m : ℕ) (planned : List Planned) (marks : List Mark) → IsRead w n → GripsFit (point w n g) → may_follow w n (Placed (run_no r) at m) ≡ true → MarksAreKept n g marks
     → MarksAreKept (with_placed n (run_no r) at m planned (split_at n.line at)) g (with_item at (Ran (run_no r)) marks)
 marks_placed w n g r at m planned marks read fit may kept = line_inserted at (Ran (run_no r)) told (run_comes (item_has_touched next g) (run_no r) untouched) lives
   where

@@ -14,7 +14,8 @@ use Rattle.home_types.specs.declared.items.Item.TheVariants.{Back, Failed, Ran}
 use Rattle.home_types.specs.declared.items.Item.{Item}
 use Rattle.home_types.specs.declared.numbers.DeviceNo.{DeviceNo}
 use Rattle.lock_leasing.proofs.EventRuns.{before_first, before_none, put_at}
-use Rattle.lock_leasing.specs.Configurations.{Commands, Grips, Probes, grips_command}
+use Rattle.lock_leasing.specs.Configurations.{Grips, grips_command}
+use Rattle.lock_leasing.specs.declared.purposes.Purpose.TheVariants.{Commands, Probes}
 use Rattle.lock_leasing.specs.Places.{up_to_first}
 use Rattle.lock_leasing.specs.Standings.{has_ended, item_has_touched}
 use Rattle.lock_leasing.specs.Words.{live_runs}

@@ -17,7 +17,8 @@ use Rattle.history_book.specs.Readings.{Event, Reading, is_committed, is_doomed,
 use Rattle.history_book.specs.Settings.{Setting, is_device, is_weak}
 use Rattle.home_types.specs.declared.items.Item.TheVariants.{Back, Failed, Ran}
 use Rattle.home_types.specs.declared.items.Item.{Item}
-use Rattle.lock_leasing.specs.Configurations.{Grips, Probes, Undoes}
+use Rattle.lock_leasing.specs.Configurations.{Grips, point}
+use Rattle.lock_leasing.specs.declared.purposes.Purpose.TheVariants.{Probes, Undoes}
 use Rattle.lock_leasing.specs.Order.{InHistoryOrder, is_in_line, is_late}
 use Rattle.lock_leasing.specs.Waits.{lost_by}
 use Rattle.lock_leasing.specs.Words.{live_runs}
@@ -62,11 +63,11 @@ none_left w n q d read stands sound up closed = by_live (is_live n q) refl
         let committed : is_committed n q ≡ true = stands_committed n q (line_stands w n read q stands) dead in
         ap (λ k. list_any (is_on d) (drop k (commands_of w.runs q))) ((read.shaped q).whole committed) ∙ ap (list_any (is_on d)) (drop_all (length (commands_of w.runs q)) (commands_of w.runs q) (omega arith))
 
-pub turned_history : (w : Setting) (n m : Reading) (g : Grips) (held : ℕ → ℕ) (d : ℕ) (x : Item) → IsRead w n → is_weak w.mode ≡ false → is_device w d ≡ true → OrderIsKept w n g held → Turns w n m d x → (e : ℕ) → InHistoryOrder m e
+pub turned_history : (w : Setting) (n m : Reading) (g : Grips) (held : ℕ → ℕ) (d : ℕ) (x : Item) → IsRead w n → is_weak w.mode ≡ false → is_device w d ≡ true → OrderIsKept (point w n g) held → Turns w n m d x → (e : ℕ) → InHistoryOrder m e
 turned_history w n m g held d x read strong device kept turn e = two_places (λ y. InHistoryOrder n y → InHistoryOrder m y) e d at_it elsewhere (kept.history e)
   where
-    c : EventCut w.kinds (window_of w n g held).states d x n.line
-    c = event_cut w.kinds (window_of w n g held).states d x n.line
+    c : EventCut w.kinds (window_of (point w n g) held).states d x n.line
+    c = event_cut w.kinds (window_of (point w n g) held).states d x n.line
 
     comes : (y : ℕ) → EventComes n m y x c.front c.back
     comes y = record {
@@ -110,20 +111,21 @@ any_none p q (Failed e k ∷ is) none stands = any_none p q is none stands
 any_none p q (Back e k ∷ is) none stands = any_none p q is none stands
 
 -- where none of the order does, no run of the line does
-order_spans_none : (w : Setting) (n : Reading) (g : Grips) (held : ℕ → ℕ) (d : ℕ) → IsRead w n → any_run (at_device w.kinds (window_of w n g held).states d spans_up) n.line ≡ false → (q : ℕ) → is_in_line n q ≡ true → (is_open w n q d && sees_up n q d) ≡ false
-order_spans_none w n g held d read none q stands = sym (spans_same w n g held d q read (line_stands w n read q stands)) ∙ any_none (at_device w.kinds (window_of w n g held).states d spans_up) q n.line none stands
+order_spans_none : (w : Setting) (n : Reading) (g : Grips) (held : ℕ → ℕ) (d : ℕ) → IsRead w n → any_run (at_device w.kinds (window_of (point w n g) held).states d spans_up) n.line ≡ false → (q : ℕ) → is_in_line n q ≡ true → (is_open w n q d && sees_up n q d) ≡ false
+order_spans_none w n g held d read none q stands = sym (spans_same w n g held d q read (line_stands w n read q stands)) ∙ any_none (at_device w.kinds (window_of (point w n g) held).states d spans_up) q n.line none stands
 
 -- while a command of a run is out on the device, no other run does
-pub out_spans_none : (w : Setting) (n : Reading) (g : Grips) (held : ℕ → ℕ) (d r : ℕ) (cut : CutAt r n.line) → IsRead w n → OrderIsKept w n g held → is_device w d ≡ true → touches w.runs r d ≡ true → (spans_up (usage w.kinds (run_state w n g r) d) || holds_command (held_by w r (g d))) ≡ true
+pub out_spans_none : (w : Setting) (n : Reading) (g : Grips) (held : ℕ → ℕ) (d r : ℕ) (cut : CutAt r n.line) → IsRead w n → OrderIsKept (point w n g) held
+    → is_device w d ≡ true → touches w.runs r d ≡ true → (spans_up (usage w.kinds (run_state (point w n g) r) d) || holds_command (held_by w r (g d))) ≡ true
     → (q : ℕ) → is_in_line n q ≡ true → q ≢ r → (is_open w n q d && sees_up n q d) ≡ false
 out_spans_none w n g held d r cut read kept device used out q stands ne =
     sym (spans_same w n g held d q read (line_stands w n read q stands))
     ∙ in_part (list_any (is_ran q) cut.front) refl (either (list_any (is_ran q) cut.front) (list_any (is_ran q) (Ran (run_no r) ∷ cut.back)) (sym (list_any-append (is_ran q) cut.front (Ran (run_no r) ∷ cut.back)) ∙ sym (ap (list_any (is_ran q)) cut.at) ∙ stands))
   where
-    none : (has spans_up (entries w.kinds (window_of w n g held).states d cut.front) ≡ false) × (has spans_up (entries w.kinds (window_of w n g held).states d cut.back) ≡ false)
+    none : (has spans_up (entries w.kinds (window_of (point w n g) held).states d cut.front) ≡ false) × (has spans_up (entries w.kinds (window_of (point w n g) held).states d cut.back) ≡ false)
     none =
-        one_spans (device_record w.kinds (window_of w n g held) d) (entries w.kinds (window_of w n g held).states d cut.front)
-        (entries w.kinds (window_of w n g held).states d cut.back) (usage w.kinds (run_state w n g r) d) (kept.window.devices d (below_home w d device))
+        one_spans (device_record w.kinds (window_of (point w n g) held) d) (entries w.kinds (window_of (point w n g) held).states d cut.front)
+        (entries w.kinds (window_of (point w n g) held).states d cut.back) (usage w.kinds (run_state (point w n g) r) d) (kept.window.devices d (below_home w d device))
         (device_order_at w n g held d r cut used) out
 
     either : (a b : Bool) → (a || b) ≡ true → a ≡ false → b ≡ true
@@ -132,24 +134,25 @@ out_spans_none w n g held d r cut read kept device used out q stands ne =
     tail : (x y : ℕ) (b : Bool) → y ≢ x → ((x == y) || b) ≡ true → b ≡ true
     tail x y b h k = grind (arith, common_steps)
 
-    in_part : (b : Bool) → list_any (is_ran q) cut.front ≡ b → (list_any (is_ran q) cut.front ≡ false → list_any (is_ran q) (Ran (run_no r) ∷ cut.back) ≡ true) → at_device w.kinds (window_of w n g held).states d spans_up q ≡ false
-    in_part true there later = any_none (at_device w.kinds (window_of w n g held).states d spans_up) q cut.front (sym (has_entries w.kinds (window_of w n g held).states d spans_up cut.front) ∙ none.0) there
-    in_part false there later = any_none (at_device w.kinds (window_of w n g held).states d spans_up) q cut.back (sym (has_entries w.kinds (window_of w n g held).states d spans_up cut.back) ∙ none.1) (tail r q (list_any (is_ran q) cut.back) ne (later there))
+    in_part : (b : Bool) → list_any (is_ran q) cut.front ≡ b → (list_any (is_ran q) cut.front ≡ false → list_any (is_ran q) (Ran (run_no r) ∷ cut.back) ≡ true) → at_device w.kinds (window_of (point w n g) held).states d spans_up q ≡ false
+    in_part true there later = any_none (at_device w.kinds (window_of (point w n g) held).states d spans_up) q cut.front (sym (has_entries w.kinds (window_of (point w n g) held).states d spans_up cut.front) ∙ none.0) there
+    in_part false there later = any_none (at_device w.kinds (window_of (point w n g) held).states d spans_up) q cut.back (sym (has_entries w.kinds (window_of (point w n g) held).states d spans_up cut.back) ∙ none.1) (tail r q (list_any (is_ran q) cut.back) ne (later there))
 
 -- no run sees up a device that a probe restores, ..
-pub restored_spans_none : (w : Setting) (n : Reading) (g : Grips) (held : ℕ → ℕ) (d m v : ℕ) → IsRead w n → OrderIsKept w n g held → is_device w d ≡ true → g d ≡ Some (record { maker = m; purpose = Probes (Some v) }) → (q : ℕ) → is_in_line n q ≡ true → (is_open w n q d && sees_up n q d) ≡ false
+pub restored_spans_none : (w : Setting) (n : Reading) (g : Grips) (held : ℕ → ℕ) (d m v : ℕ) → IsRead w n → OrderIsKept (point w n g) held → is_device w d
+    ≡ true → g d ≡ Some (record { maker = m; purpose = Probes (Some v) }) → (q : ℕ) → is_in_line n q ≡ true → (is_open w n q d && sees_up n q d) ≡ false
 restored_spans_none w n g held d m v read kept device out =
-    order_spans_none w n g held d read (sym (has_entries w.kinds (window_of w n g held).states d spans_up n.line)
-    ∙ restart_loses_none (device_record w.kinds (window_of w n g held) d) v (kept.window.devices d (below_home w d device)) (ap probe_of out))
+    order_spans_none w n g held d read (sym (has_entries w.kinds (window_of (point w n g) held).states d spans_up n.line)
+    ∙ restart_loses_none (device_record w.kinds (window_of (point w n g) held) d) v (kept.window.devices d (below_home w d device)) (ap probe_of out))
 
 -- .. or an undo drives
-pub undone_spans_none : (w : Setting) (n : Reading) (g : Grips) (held : ℕ → ℕ) (d r v : ℕ) (cut : CutAt r n.line) → IsRead w n → OrderIsKept w n g held
+pub undone_spans_none : (w : Setting) (n : Reading) (g : Grips) (held : ℕ → ℕ) (d r v : ℕ) (cut : CutAt r n.line) → IsRead w n → OrderIsKept (point w n g) held
     → is_device w d ≡ true → touches w.runs r d ≡ true → g d ≡ Some (record { maker = r; purpose = Undoes v }) → (q : ℕ) → is_in_line n q ≡ true
     → (is_open w n q d && sees_up n q d) ≡ false
 undone_spans_none w n g held d r v cut read kept device used out = order_spans_none w n g held d read
-    (sym (has_entries w.kinds (window_of w n g held).states d spans_up n.line)
-    ∙ undo_loses_none (device_record w.kinds (window_of w n g held) d) (entries w.kinds (window_of w n g held).states d cut.front)
-    (entries w.kinds (window_of w n g held).states d cut.back) (usage w.kinds (run_state w n g r) d) v (kept.window.devices d (below_home w d device))
+    (sym (has_entries w.kinds (window_of (point w n g) held).states d spans_up n.line)
+    ∙ undo_loses_none (device_record w.kinds (window_of (point w n g) held) d) (entries w.kinds (window_of (point w n g) held).states d cut.front)
+    (entries w.kinds (window_of (point w n g) held).states d cut.back) (usage w.kinds (run_state (point w n g) r) d) v (kept.window.devices d (below_home w d device))
     (device_order_at w n g held d r cut used) (ap (held_by w r) out ∙ held_own w r (Undoes v)))
 
 -- The run that is lost

@@ -14,7 +14,8 @@ use Rattle.home_types.specs.declared.items.Item.{Item}
 use Rattle.home_types.specs.declared.numbers.DeviceNo.{DeviceNo}
 use Rattle.lineage_table.specs.Lineages.{LineageState, counted_up}
 use Rattle.lineage_table.specs.declared.accesses.Access.{Access}
-use Rattle.lock_leasing.specs.Configurations.{Commands, Grips, Probes, Undoes}
+use Rattle.lock_leasing.specs.Configurations.{Grips, point}
+use Rattle.lock_leasing.specs.declared.purposes.Purpose.TheVariants.{Commands, Probes, Undoes}
 use Rattle.lock_leasing.specs.Words.{committed_write}
 use Rattle.std.proofs.Common.{ap, refl, subst, sym, ◌∙◌}
 use Rattle.std.specs.List.{list_any}
@@ -78,13 +79,13 @@ pub record CountsSo (n m : Reading) (d : ℕ) (up : Bool) : Type 0 where
   pub runs : m.run ≡ n.run
   pub counted : m.up ≡ put n.up d up
 
-pub turned_kept : (w : Setting) (n m : Reading) (g : Grips) (d : ℕ) (up : Bool) → CountsSo n m d up → (e : ℕ) (s : LineageState) → LineageIsKept w n g e s → LineageIsKept w m g e (turned_change d up e s)
-turned_kept w n m g d up turn e s kept = subst (λ f. LineageIsKept w (record m { run = f }) g e (turned_change d up e s)) (sym turn.runs) (by_device (e == d) refl)
+pub turned_kept : (w : Setting) (n m : Reading) (g : Grips) (d : ℕ) (up : Bool) → CountsSo n m d up → (e : ℕ) (s : LineageState) → LineageIsKept (point w n g) e s → LineageIsKept (point w m g) e (turned_change d up e s)
+turned_kept w n m g d up turn e s kept = subst (λ f. LineageIsKept (point w (record m { run = f }) g) e (turned_change d up e s)) (sym turn.runs) (by_device (e == d) refl)
   where
     mid : Reading
     mid = record m { run = n.run }
 
-    counted_so : (u : Bool) → u ≡ m.up e → LineageIsKept w mid g e (counted_up u s)
+    counted_so : (u : Bool) → u ≡ m.up e → LineageIsKept (point w mid g) e (counted_up u s)
     counted_so u is = record {
       passed = kept.passed;
       may_pass = kept.may_pass;
@@ -94,13 +95,13 @@ turned_kept w n m g d up turn e s kept = subst (λ f. LineageIsKept w (record m 
           ∙ ap (λ o. unwrap_or o (stand_at w.first e).value) (last_put (committed_write n e) turn.before turn.item None n.line (no_write n e turn.item (turn.event (λ q. true)))));
       accesses =
           kept.accesses
-          ∙ sym (ap (accesses_along (uses w n e) (commits_write n e) (access_read w n g kept.passed e)) turn.line
-          ∙ accesses_put (uses w n e) (commits_write n e) (access_read w n g kept.passed e) turn.before turn.item n.line turn.event);
+          ∙ sym (ap (accesses_along (uses w n e) (commits_write n e) (access_read (point w n g) kept.passed e)) turn.line
+          ∙ accesses_put (uses w n e) (commits_write n e) (access_read (point w n g) kept.passed e) turn.before turn.item n.line turn.event);
       room = kept.room;
       up = is;
     }
 
-    by_device : (b : Bool) → (e == d) ≡ b → LineageIsKept w mid g e (if b then counted_up up s else s)
+    by_device : (b : Bool) → (e == d) ≡ b → LineageIsKept (point w mid g) e (if b then counted_up up s else s)
     by_device true here = counted_so up (sym (ap (λ f. f e) turn.counted ∙ ap (λ b. if b then up else n.up e) here))
     by_device false there = counted_so s.up (kept.up ∙ sym (ap (λ f. f e) turn.counted ∙ ap (λ b. if b then up else n.up e) there))
 
@@ -110,17 +111,17 @@ fell_counts : (w : Setting) (n : Reading) (d : DeviceNo) → CountsSo n (entry w
 fell_counts w n d = record { item = Failed d _; event = λ p. refl; before = of_run (awaits_there w n d.0); line = refl; runs = refl; counted = refl }
 
 -- a device fails
-pub fell_table : (w : Setting) (n : Reading) (g : Grips) (d : DeviceNo) (old new : List LineageState) → ChangesEach (turned_change d.0 false) old new → TableIsKept w n g old → TableIsKept w (entry w n (Fell d)) g new
+pub fell_table : (w : Setting) (n : Reading) (g : Grips) (d : DeviceNo) (old new : List LineageState) → ChangesEach (turned_change d.0 false) old new → TableIsKept (point w n g) old → TableIsKept (point w (entry w n (Fell d)) g) new
 fell_table w n g d old new changes kept = changed_table w n (entry w n (Fell d)) g g (turned_change d.0 false) old new (turned_kept w n (entry w n (Fell d)) g d.0 false (fell_counts w n d)) changes kept
 
 -- .. or comes back
-pub rose_table : (w : Setting) (n : Reading) (g : Grips) (d : DeviceNo) (old new : List LineageState) → ChangesEach (turned_change d.0 true) old new → TableIsKept w n g old → TableIsKept w (entry w n (Rose d)) g new
+pub rose_table : (w : Setting) (n : Reading) (g : Grips) (d : DeviceNo) (old new : List LineageState) → ChangesEach (turned_change d.0 true) old new → TableIsKept (point w n g) old → TableIsKept (point w (entry w n (Rose d)) g) new
 rose_table w n g d old new changes kept = changed_table w n (entry w n (Rose d)) g g (turned_change d.0 true) old new
     (turned_kept w n (entry w n (Rose d)) g d.0 true (record { item = Back d _; event = λ p. refl; before = of_run (awaits_there w n d.0); line = refl; runs = refl; counted = refl })) changes kept
 
 -- it fails at a command that is out, which is answered: the order is that before both entries
-pub died_table : (w : Setting) (n : Reading) (g : Grips) (held : ℕ → ℕ) (d r k : ℕ) (f : DeviceNo) (a : Answer) (old new : List LineageState) → is_access a ≡ true → IsRead w n → OrderIsKept w n g held → g d ≡ Some (record { maker = r; purpose = Commands k })
-    → ChangesEach (λ e s. turned_change f.0 false e (answered_change w n r k a e s)) old new → TableIsKept w n g old → TableIsKept w (entry w (entry w n (Fell f)) (Did (run_no r) k a)) (put g d None) new
+pub died_table : (w : Setting) (n : Reading) (g : Grips) (held : ℕ → ℕ) (d r k : ℕ) (f : DeviceNo) (a : Answer) (old new : List LineageState) → is_access a ≡ true → IsRead w n → OrderIsKept (point w n g) held → g d ≡ Some (record { maker = r; purpose = Commands k })
+    → ChangesEach (λ e s. turned_change f.0 false e (answered_change w n r k a e s)) old new → TableIsKept (point w n g) old → TableIsKept (point w (entry w (entry w n (Fell f)) (Did (run_no r) k a)) (put g d None)) new
 died_table w n g held d r k f a old new access read order at changes kept = changed_table w n next g (put g d None) (λ e s. turned_change f.0 false e (answered_change w n r k a e s)) old new
     (λ e s own. turned_kept w (entry w n (Did (run_no r) k a)) next (put g d None) f.0 false
     (record { item = Failed f _; event = λ p. refl; before = of_run (awaits_there w n f.0); line = refl; runs = refl; counted = refl }) e
@@ -130,8 +131,8 @@ died_table w n g held d r k f a old new access read order at changes kept = chan
     next = entry w (entry w n (Fell f)) (Did (run_no r) k a)
 
 -- .. or at an undo, whose write left the table as it went out
-pub undo_died_table : (w : Setting) (n : Reading) (g : Grips) (d r v : ℕ) (drove : Bool) (old new : List LineageState) → g d ≡ Some (record { maker = r; purpose = Undoes v }) → ChangesEach (turned_change d false) old new → TableIsKept w n g old
-    → TableIsKept w (entry w (entry w n (Fell (device_no d))) (Undid (run_no r) (device_no d) drove)) (put g d None) new
+pub undo_died_table : (w : Setting) (n : Reading) (g : Grips) (d r v : ℕ) (drove : Bool) (old new : List LineageState) → g d ≡ Some (record { maker = r; purpose = Undoes v }) → ChangesEach (turned_change d false) old new → TableIsKept (point w n g) old
+    → TableIsKept (point w (entry w (entry w n (Fell (device_no d))) (Undid (run_no r) (device_no d) drove)) (put g d None)) new
 undo_died_table w n g d r v drove old new at changes kept = changed_table w n next g (put g d None) (turned_change d false) old new
     (λ e s own. turned_kept w (entry w n (Undid (run_no r) (device_no d) drove)) next (put g d None) d false
     (record { item = Failed (device_no d) _; event = λ p. refl; before = of_run (awaits_there w n d); line = refl; runs = refl; counted = refl }) e s
@@ -143,11 +144,11 @@ undo_died_table w n g d r v drove old new at changes kept = changed_table w n ne
 -- A probe goes out, and comes home
 
 -- the table stays where the grips say the same of each run
-regripped_table : (w : Setting) (n : Reading) (g h : Grips) (table : List LineageState) → ((d q : ℕ) → SameGrip g h d q) → TableIsKept w n g table → TableIsKept w n h table
+regripped_table : (w : Setting) (n : Reading) (g h : Grips) (table : List LineageState) → ((d q : ℕ) → SameGrip g h d q) → TableIsKept (point w n g) table → TableIsKept (point w n h) table
 regripped_table w n g h table same kept = same_table w n n g h table (λ d s own. lineage_same w n n g h d s (uses_same w n g h d (λ q may. may_gripped g h d q (n.run q) (same d q).command ∙ may)) own (λ q. access_gripped w g h own.passed d q (n.run q) (same d q))) kept
 
-pub probe_out_table : (w : Setting) (n : Reading) (g : Grips) (d m : ℕ) (v : Option ℕ) (table : List LineageState) → g d ≡ None → TableIsKept w n g table → TableIsKept w n (put g d (Some (record { maker = m; purpose = Probes v }))) table
+pub probe_out_table : (w : Setting) (n : Reading) (g : Grips) (d m : ℕ) (v : Option ℕ) (table : List LineageState) → g d ≡ None → TableIsKept (point w n g) table → TableIsKept (point w n (put g d (Some (record { maker = m; purpose = Probes v })))) table
 probe_out_table w n g d m v table at kept = regripped_table w n g (put g d (Some (record { maker = m; purpose = Probes v }))) table (probe_out_grip g d m v at) kept
 
-pub probe_home_table : (w : Setting) (n : Reading) (g : Grips) (d m : ℕ) (v : Option ℕ) (table : List LineageState) → g d ≡ Some (record { maker = m; purpose = Probes v }) → TableIsKept w n g table → TableIsKept w n (put g d None) table
+pub probe_home_table : (w : Setting) (n : Reading) (g : Grips) (d m : ℕ) (v : Option ℕ) (table : List LineageState) → g d ≡ Some (record { maker = m; purpose = Probes v }) → TableIsKept (point w n g) table → TableIsKept (point w n (put g d None)) table
 probe_home_table w n g d m v table at kept = regripped_table w n g (put g d None) table (probe_home_grip g d m v at) kept

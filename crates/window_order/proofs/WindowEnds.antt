@@ -17,7 +17,9 @@ use Rattle.home_types.specs.HomeStates.{nowhere, stand_at}
 use Rattle.home_types.specs.declared.items.Item.TheVariants.{Back, Failed, Ran}
 use Rattle.home_types.specs.declared.items.Item.{Item}
 use Rattle.home_types.specs.declared.worlds.Stand.{Stand}
-use Rattle.lock_leasing.specs.Configurations.{Commands, Grip, Grips, Probes, Purpose, Undoes, grips_undo, is_undo}
+use Rattle.lock_leasing.specs.Configurations.{Grip, Grips, grips_undo, is_undo, point}
+use Rattle.lock_leasing.specs.declared.purposes.Purpose.TheVariants.{Commands, Probes, Undoes}
+use Rattle.lock_leasing.specs.declared.purposes.Purpose.{Purpose}
 use Rattle.lock_leasing.specs.Order.{SettledAgree, committed_home, committed_value, is_in_line, is_late, is_settled, settled_items}
 use Rattle.lock_leasing.specs.Words.{Write, committed_write, effective_write, is_undone, standing_value, write_of}
 use Rattle.std.proofs.Common.{ap, arith, refl, subst, sym, ◌∙◌}
@@ -128,7 +130,7 @@ marked_events n d (Event i ∷ ms) h = at_ (λ e. marked_events n d ms e) (is_ev
 marked_events n d (Last r ∷ ms) h = marked_events n d ms h
 
 -- the events of a device in the line are those of its log, in the same order
-pub order_events : (w : Setting) (n : Reading) (g : Grips) (held : ℕ → ℕ) → OrderIsKept w n g held → LogsOwnEvents n → (d : ℕ) → filter (is_event_on d) n.line ≡ events_of (n.log d)
+pub order_events : (w : Setting) (n : Reading) (g : Grips) (held : ℕ → ℕ) → OrderIsKept (point w n g) held → LogsOwnEvents n → (d : ℕ) → filter (is_event_on d) n.line ≡ events_of (n.log d)
 order_events w n g held o own d =
     sym (filter_twice (is_event_on d) (of_run (λ r. did n r d && not (is_late n r d))) n.line)
     ∙ ap (filter (is_event_on d)) (o.history d).events
@@ -143,7 +145,7 @@ all_settled n (Failed d k ∷ is) h = ap (λ l. Failed d k ∷ l) (all_settled n
 all_settled n (Back d k ∷ is) h = ap (λ l. Back d k ∷ l) (all_settled n is h)
 
 -- a run that has out the grip of an undo is live
-undo_live : (w : Setting) (n : Reading) (g : Grips) (held : ℕ → ℕ) (r d : ℕ) → OrderIsKept w n g held → grips_undo g r d ≡ true → is_live n r ≡ true
+undo_live : (w : Setting) (n : Reading) (g : Grips) (held : ℕ → ℕ) (r d : ℕ) → OrderIsKept (point w n g) held → grips_undo g r d ≡ true → is_live n r ≡ true
 undo_live w n g held r d o h = by (g d) refl h
   where
     never : (b : Bool) → (b && false) ≡ true → ⊥
@@ -165,7 +167,7 @@ undo_live w n g held r d o h = by (g d) refl h
     by (Some p) e x = of p.maker p.purpose e x
 
 -- a committed run is not undone
-not_undone : (w : Setting) (n : Reading) (g : Grips) (held : ℕ → ℕ) (r d : ℕ) → IsRead w n → OrderIsKept w n g held → NoneIsLive n → is_committed n r ≡ true → is_undone n g r d ≡ false
+not_undone : (w : Setting) (n : Reading) (g : Grips) (held : ℕ → ℕ) (r d : ℕ) → IsRead w n → OrderIsKept (point w n g) held → NoneIsLive n → is_committed n r ≡ true → is_undone n g r d ≡ false
 not_undone w n g held r d s o over c = by ((n.run r).on d).undid (grips_undo g r d) refl refl
   where
     sound : (b : Bool) → is_some (n.run r).doomed ≡ b → b ≡ false
@@ -196,7 +198,7 @@ last_writes n g d b c (Failed x k ∷ is) h m e = last_writes n g d b c is h m e
 last_writes n g d b c (Back x k ∷ is) h m e = last_writes n g d b c is h m e
 
 -- the standing value of a device is its committed one
-pub standing_committed : (w : Setting) (n : Reading) (g : Grips) (held : ℕ → ℕ) (d : ℕ) → IsRead w n → OrderIsKept w n g held → is_weak w.mode ≡ false → NoneIsLive n → standing_value w n g d ≡ committed_value w n d
+pub standing_committed : (w : Setting) (n : Reading) (g : Grips) (held : ℕ → ℕ) (d : ℕ) → IsRead w n → OrderIsKept (point w n g) held → is_weak w.mode ≡ false → NoneIsLive n → standing_value (point w n g) d ≡ committed_value w n d
 standing_committed w n g held d s o weak over =
     ap (λ b. if b then n.last d else unwrap_or (option_map (λ e. e.value) (effective_write n g d)) (stand_at w.first d).value) weak
     ∙ ap (λ v. unwrap_or v (stand_at w.first d).value) (last_writes n g d None None n.line (λ r h. line_committed w n r s over h) (λ r c. not_undone w n g held r d s o over c) refl)
@@ -209,8 +211,8 @@ pub record AgreesAtEnd (w : Setting) (n : Reading) (last : List Stand) : Type 0 
   pub counted : (d : ℕ) → d < length w.first → (stand_at last d).up ≡ n.up d
 
 -- it does where each device is left at its standing value, up or down as it is counted
-pub agrees_at_end : (w : Setting) (n : Reading) (g : Grips) (held : ℕ → ℕ) (last : List Stand) → IsRead w n → OrderIsKept w n g held → is_weak w.mode ≡ false → NoneIsLive n → length last ≡ length w.first
-    → ((d : ℕ) → d < length w.first → stand_at last d ≡ record { value = standing_value w n g d; up = n.up d }) → AgreesAtEnd w n last
+pub agrees_at_end : (w : Setting) (n : Reading) (g : Grips) (held : ℕ → ℕ) (last : List Stand) → IsRead w n → OrderIsKept (point w n g) held → is_weak w.mode ≡ false → NoneIsLive n → length last ≡ length w.first
+    → ((d : ℕ) → d < length w.first → stand_at last d ≡ record { value = standing_value (point w n g) d; up = n.up d }) → AgreesAtEnd w n last
 agrees_at_end w n g held last s o weak over size each =
     let all : settled_items n ≡ n.line = all_settled n n.line (λ r h. line_committed w n r s over h) in
     let agree : SettledAgree w n = settled_agree w n g held s o in

@@ -8,12 +8,9 @@ use Rattle.home_types.specs.declared.items.Item.{Item}
 use Rattle.home_types.specs.declared.modes.Scheduler.TheVariants.{Fcfs, JustInTime, Timeline}
 use Rattle.home_types.specs.declared.modes.Scheduler.{Scheduler}
 use Rattle.window_order.specs.declared.planned_uses.PlannedUse.{PlannedUse}
-use Rattle.window_order.specs.declared.purposes.Purpose.TheVariants.{Command, Probe, Undo}
-use Rattle.window_order.specs.declared.purposes.Purpose.{Purpose as KeptPurpose}
 use Rattle.lineage_table.specs.Accesses.{is_scheduled, status_of}
 use Rattle.lineage_table.specs.Lineages.{LineageState, released, removed, scheduled}
 use Rattle.lineage_table.specs.declared.accesses.Status.TheVariants.{Acquired, Scheduled}
-use Rattle.lock_leasing.specs.Configurations.{Commands, Probes, Purpose, Undoes}
 use Rattle.serial_line.specs.Marks.{Marked, front_of, items_of, stands}
 use Rattle.std.specs.Prelude.{Bool, List, None, Option, Some, false, get_or, if◌then◌else◌, length, option_map, true, unwrap_or, ℕ, ◌≡◌}
 use Rattle.window_order.specs.TableChanges.{IsWaiting, answer_noted, first_with_access, passed_if, rescheduled}
@@ -78,8 +75,3 @@ noted_first r first view wrote last s = answer_noted r first view wrote last (pa
 -- touched the device, and else released
 abbrev pub left_by : RunId → Bool → LineageState → LineageState
 left_by r first s = if first then removed r s else released r s
-
-abbrev pub purpose_of : KeptPurpose → Purpose
-purpose_of (Command k) = Commands k
-purpose_of (Undo v) = Undoes v
-purpose_of (Probe value) = Probes value

@@ -7,10 +7,12 @@ use Rattle.device_order.specs.declared.records.HeldGrip.TheVariants.{Free, Undoe
 use Rattle.device_order.specs.declared.records.HeldGrip.{HeldGrip}
 use Rattle.device_order.specs.declared.records.Probe.TheVariants.{Asks, Restores, Unprobed}
 use Rattle.device_order.specs.declared.records.Probe.{Probe}
-use Rattle.history_book.specs.Readings.{Reading, is_committed, is_doomed}
+use Rattle.history_book.specs.Readings.{is_committed, is_doomed}
 use Rattle.history_book.specs.Settings.{Setting}
 use Rattle.home_types.specs.Numbers.{DeviceId, RunId}
-use Rattle.lock_leasing.specs.Configurations.{Commands, Grip, Grips, Probes, Purpose, Undoes}
+use Rattle.lock_leasing.specs.Configurations.{Grip, Point}
+use Rattle.lock_leasing.specs.declared.purposes.Purpose.TheVariants.{Commands, Probes, Undoes}
+use Rattle.lock_leasing.specs.declared.purposes.Purpose.{Purpose}
 use Rattle.std.specs.Prelude.{None, Option, Some, if◌then◌else◌, ℕ, ◌==◌}
 
 -- what a run holds the grip of a device for, whose device is out for this purpose
@@ -37,24 +39,24 @@ probe_of None = Unprobed
 probe_of (Some grip) = probe_for_purpose grip.purpose
 
 -- what is known of the run
-abbrev pub run_state : Setting → Reading → Grips → RunId → RunState
-run_state w n g r = record {
-  commands = commands_of w.runs r;
-  answers = (n.run r).answers;
-  committed = is_committed n r;
-  doomed = is_doomed n r;
-  undid = λ d. ((n.run r).on d).undid;
-  grip = λ d. held_by w r (g d);
+abbrev pub run_state : Point → RunId → RunState
+run_state p r = record {
+  commands = commands_of p.setting.runs r;
+  answers = (p.reading.run r).answers;
+  committed = is_committed p.reading r;
+  doomed = is_doomed p.reading r;
+  undid = λ d. ((p.reading.run r).on d).undid;
+  grip = λ d. held_by p.setting r (p.grips d);
 }
 
 -- the window, where each device stands, or stood as it went out, at this value
-abbrev pub window_of : Setting → Reading → Grips → (DeviceId → ℕ) → WindowModel
-window_of w n g held = record {
-  runs = w.runs;
-  first = w.first;
-  line = n.line;
-  states = λ r. run_state w n g r;
-  up = n.up;
+abbrev pub window_of : Point → (DeviceId → ℕ) → WindowModel
+window_of p held = record {
+  runs = p.setting.runs;
+  first = p.setting.first;
+  line = p.reading.line;
+  states = λ r. run_state p r;
+  up = p.reading.up;
   held = held;
-  probe = λ d. probe_of (g d);
+  probe = λ d. probe_of (p.grips d);
 }

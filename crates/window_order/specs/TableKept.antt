@@ -13,7 +13,7 @@ use Rattle.home_types.specs.declared.items.Item.{Item}
 use Rattle.lineage_table.specs.Lineages.{LineageState, lineage_at}
 use Rattle.lineage_table.specs.declared.accesses.Access.{Access}
 use Rattle.lineage_table.specs.declared.accesses.Status.TheVariants.{Released}
-use Rattle.lock_leasing.specs.Configurations.{Grips}
+use Rattle.lock_leasing.specs.Configurations.{Point}
 use Rattle.lock_leasing.specs.Order.{committed_value}
 use Rattle.lock_leasing.specs.Tables.{may_be_passed, status_by_answers, uses, view_when}
 use Rattle.lock_leasing.specs.Words.{is_undone}
@@ -23,14 +23,14 @@ use Rattle.std.specs.Prelude.{Bool, List, None, Some, [], if◌then◌else◌, i
 -- The accesses
 
 -- the access of the run: where it was passed, released by a run that sees the device down
-abbrev pub access_read : Setting → Reading → Grips → (RunId → Bool) → DeviceId → RunId → Access
-access_read w n g passed d r = record {
+abbrev pub access_read : Point → (RunId → Bool) → DeviceId → RunId → Access
+access_read p passed d r = record {
   run = run_no r;
-  status = if passed r then Released else status_by_answers w n g r d;
-  view = if passed r then Some Down else option_map view_when (view_of n r d);
-  wrote = if is_undone n g r d then None else ((n.run r).on d).wrote;
-  from = planned_start (n.run r).planned d;
-  to = planned_end (n.run r).planned d;
+  status = if passed r then Released else status_by_answers p r d;
+  view = if passed r then Some Down else option_map view_when (view_of p.reading r d);
+  wrote = if is_undone p.reading p.grips r d then None else ((p.reading.run r).on d).wrote;
+  from = planned_start (p.reading.run r).planned d;
+  to = planned_end (p.reading.run r).planned d;
 }
 
 -- the accesses of the runs that have one, in the order of these items, but for those before a run
@@ -51,10 +51,11 @@ commits_write n d r = is_committed n r && has_written n r d
 
 -- the accesses to the device: of the live runs that use it, but for those before a committed run
 -- that wrote it
-abbrev pub accesses_read : Setting → Reading → Grips → (RunId → Bool) → DeviceId
+abbrev pub accesses_read : Point → (RunId → Bool) → DeviceId
     → List Item → List Access
-accesses_read w n g passed d line =
-    accesses_along (uses w n d) (commits_write n d) (access_read w n g passed d) line
+accesses_read p passed d line =
+    accesses_along (uses p.setting p.reading d) (commits_write p.reading d)
+    (access_read p passed d) line
 
 -- Room
 
@@ -72,17 +73,17 @@ unplaced_on w n d = unplaced_among n d 1 w.runs
 -- The table
 
 -- the lineage is the device's, with room for the runs that are not placed
-pub record LineageIsKept (w : Setting) (n : Reading) (g : Grips) (d : DeviceId)
+pub record LineageIsKept (p : Point) (d : DeviceId)
     (s : LineageState) : Type 0 where
   -- the runs whose access was passed, each of which may be
   pub passed : RunId → Bool
-  pub may_pass : (r : RunId) → passed r ≡ true → may_be_passed n g r d ≡ true
-  pub committed : s.committed ≡ committed_value w n d
-  pub accesses : s.accesses ≡ accesses_read w n g passed d n.line
-  pub room : unplaced_on w n d ≤ s.room
-  pub up : s.up ≡ n.up d
+  pub may_pass : (r : RunId) → passed r ≡ true → may_be_passed p.reading p.grips r d ≡ true
+  pub committed : s.committed ≡ committed_value p.setting p.reading d
+  pub accesses : s.accesses ≡ accesses_read p passed d p.reading.line
+  pub room : unplaced_on p.setting p.reading d ≤ s.room
+  pub up : s.up ≡ p.reading.up d
 
-pub record TableIsKept (w : Setting) (n : Reading) (g : Grips)
+pub record TableIsKept (p : Point)
     (table : List LineageState) : Type 0 where
-  pub devices : length table ≡ length w.first
-  pub each : (d : DeviceId) → d < length w.first → LineageIsKept w n g d (lineage_at table d)
+  pub devices : length table ≡ length p.setting.first
+  pub each : (d : DeviceId) → d < length p.setting.first → LineageIsKept p d (lineage_at table d)

@@ -8,7 +8,7 @@ ghost use Rattle.history_book.specs.Readings.{is_access, is_fine, is_told};
 ghost use Rattle.home_types.specs.Limits.{most_devices};
 ghost use Rattle.home_types.specs.declared.items.Item.TheVariants.{Ran};
 ghost use Rattle.home_types.specs.declared.modes.Scheduler.TheVariants.{Timeline};
-ghost use Rattle.window_order.specs.KeptOrders.{IsSealed, IsUnreleased, MayArrange, MayNote, arranged, is_first, left_by, noted_first, purpose_of, scheduled_with};
+ghost use Rattle.window_order.specs.KeptOrders.{IsSealed, IsUnreleased, MayArrange, MayNote, arranged, is_first, left_by, noted_first, scheduled_with};
 ghost use Rattle.lineage_table.specs.Lineages.{TableIsOpened, accesses_at, committed_lineage, lineage_at, removed, undone, with_lineage};
 ghost use Rattle.lock_leasing.specs.Configurations.{is_command, is_undo};
 ghost use Rattle.lock_leasing.specs.Tables.{view_when};
@@ -18,7 +18,6 @@ ghost use Rattle.serial_line.specs.Marks.{front_of, items_of, marks_without, set
 ghost use Rattle.window_order.specs.TableChanges.{ChangesEach, IsNewOn, doomed_unless, first_with_access};
 
 use crate::planned_uses::PlannedUse;
-use crate::purposes::Purpose;
 use crate::releases::{pass_before, release_all};
 use crate::reschedules::wait_again;
 use abort_rollback::{Undo, withdraw};
@@ -26,6 +25,7 @@ use command_rules::Roster;
 use commit_compaction::commit;
 use home_types::{Answer, DeviceNo, Item, NoMemory, RunNo, Scheduler, Value, View, World};
 use lineage_table::{Access, Status, Table};
+use lock_leasing::Purpose;
 use serial_line::Line;
 use std::alloc::Global;
 
@@ -131,18 +131,18 @@ impl KeptOrder {
         requires run { stands (Ran r) self.old.line.marks ≡ true }
         requires device { d.0 < most_devices }
         requires homed { d.0 < length self.old.table }
-        ensures marks { self.new.line.marks ≡ (if is_command (purpose_of purpose)
+        ensures marks { self.new.line.marks ≡ (if is_command purpose
             then touching r.0 d.0 self.old.line.marks else self.old.line.marks) }
         ensures spare { self.new.line.spare ≡ self.old.line.spare }
         ensures sealed { self.new.line.sealed ≡ self.old.line.sealed }
         ensures runs { self.new.line.runs ≡ self.old.line.runs }
-        ensures table { self.new.table ≡ (if is_undo (purpose_of purpose)
+        ensures table { self.new.table ≡ (if is_undo purpose
             then with_lineage self.old.table d.0 (undone r.0) else self.old.table) }
     {
         match purpose {
-            Purpose::Command(_) => self.line.mark(r, d),
-            Purpose::Undo(_) => self.table.undone(d, r),
-            Purpose::Probe(_) => {}
+            Purpose::Commands(_) => self.line.mark(r, d),
+            Purpose::Undoes(_) => self.table.undone(d, r),
+            Purpose::Probes(_) => {}
         }
     }
 

@@ -5,10 +5,8 @@
 
 mod kept_orders;
 mod planned_uses;
-mod purposes;
 mod releases;
 mod reschedules;
 
 pub use kept_orders::{KeptOrder, Noted, note_of, seal};
 pub use planned_uses::PlannedUse;
-pub use purposes::Purpose;

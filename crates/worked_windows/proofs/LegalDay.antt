@@ -2,6 +2,7 @@
 -- it comes back and is turned off.
 use Rattle.home_types.specs.declared.commands.Guard.TheVariants.{Always}
 use Rattle.worked_windows.proofs.LegalWindow as first_window
+use Rattle.device_states.specs.Devices.{Shown}
 use Rattle.history_book.specs.Histories.{kept_by, reading}
 use Rattle.history_book.specs.declared.records.WindowRecord.{WindowRecord}
 use Rattle.home_types.specs.HomeStates.{stand_at}
@@ -12,13 +13,14 @@ use Rattle.legal_days.specs.Agreement.{AgreesWithSerial}
 use Rattle.legal_days.specs.LegalDays.{DevicesAreLeft, IsDeviceOf, IsLegalDay, RecordsAreLegal, setting_of, total}
 use Rattle.legal_days.specs.LegalWindows.{IsLegalWindow}
 use Rattle.legal_days.specs.Orders.{IsOrderFor}
+use Rattle.lock_leasing.specs.Configurations.{point}
 use Rattle.lock_leasing.specs.Places.{MayBeOut}
 use Rattle.routine_reader.specs.declared.scripts.DeviceText.{DeviceText}
 use Rattle.routine_reader.specs.declared.scripts.Script.{Script}
 use Rattle.routine_reader.specs.declared.scripts.WindowText.{WindowText}
 use Rattle.std.proofs.Common.{arith, subst}
 use Rattle.std.proofs.lemmas.Grind.{common_steps}
-use Rattle.std.specs.Prelude.{List, None, Option, Some, [], codes, drop, refl, slice_get, suc, take, true, zero, ⊤, ℕ, ◌++◌, ◌∷◌, ◌≡◌}
+use Rattle.std.specs.Prelude.{List, None, Some, [], codes, drop, refl, slice_get, suc, take, true, zero, ℕ, ⊤, ◌++◌, ◌∷◌, ◌≡◌}
 use Rattle.worked_windows.proofs.Words.{Arrived, Back, Committed, Did, Ended, Entry, Eventual, Fcfs, Fine, Placed, Ran, Range, Rose, Set, Setting, States, device_no, no_grips, run_no, split_of}
 
 -- The script
@@ -100,7 +102,7 @@ closed = record {
 }
 
 -- nothing is out when the run is placed
-nothing_out : MayBeOut window (reading window (take 1 history)) no_grips
+nothing_out : MayBeOut (point window (reading window (take 1 history)) no_grips)
 unfolding split_of
 nothing_out = record { commands = λ d r k out. absurd (cc); undos = λ d r v out. absurd (cc); one = λ d e r p q out too. absurd (cc) }
 
@@ -138,23 +140,16 @@ second_window_is_legal = record {
 abbrev pub records : List WindowRecord
 records = first_window.closed ∷ closed ∷ []
 
--- a device as the day leaves it
-pub record LeftDevice : Type 0 where
-  pub number : ℕ
-  pub downs : Option (List (ℕ × ℕ))
-  pub value : ℕ
-  pub turns : ℕ
-  pub faults : ℕ
+-- what each device shows as the day leaves it
+abbrev pub light_left : Shown
+light_left = record { tag = 0; plan = Some ((2, 3) ∷ []); stands = 0; turns = 3; probes = 0; faults = 1 }
 
-abbrev pub light_left : LeftDevice
-light_left = record { number = 0; downs = Some ((2, 3) ∷ []); value = 0; turns = 3; faults = 1 }
-
-abbrev pub devices : List LeftDevice
+abbrev pub devices : List Shown
 devices =
     light_left
-    ∷ record { number = 1; downs = Some []; value = 1; turns = 1; faults = 0 }
-    ∷ record { number = 2; downs = Some []; value = 0; turns = 0; faults = 0 }
-    ∷ record { number = 3; downs = None; value = 18; turns = 0; faults = 0 } ∷ []
+    ∷ record { tag = 1; plan = Some []; stands = 1; turns = 1; probes = 0; faults = 0 }
+    ∷ record { tag = 2; plan = Some []; stands = 0; turns = 0; probes = 0; faults = 0 }
+    ∷ record { tag = 3; plan = None; stands = 18; turns = 0; probes = 0; faults = 0 } ∷ []
 
 -- each item of the list, with its place
 abbrev pub Each : {X : Type 0} → (ℕ → X → Type 0) → List X → Type 0
@@ -187,24 +182,24 @@ each_pair P (x ∷ xs) (y ∷ ys) all zero v z at z_at =
 each_pair P (x ∷ xs) (y ∷ ys) all (suc k) v z at z_at = each_pair (λ i. P (suc i)) xs ys all.1 k v z at z_at
 
 -- the devices that are left: the script's, with the turns and the faults of both windows
-devices_are_left : DevicesAreLeft (λ x. x.number) (λ x. x.downs) (λ x. x.value) (λ x. x.turns) (λ x. x.faults) script records devices
+devices_are_left : DevicesAreLeft (λ (x : Shown). x) script records devices
 unfolding split_of
 devices_are_left = record {
   size = refl;
-  own = each_pair (λ d device text. IsDeviceOf (λ x. x.number) (λ x. x.downs) text d device) devices script.devices.items (
+  own = each_pair (λ d device text. IsDeviceOf (λ (x : Shown). x) text d device) devices script.devices.items (
     record { tag_is = refl; plan_is = λ p told. cc },
     (
       record { tag_is = refl; plan_is = λ p told. cc },
       (record { tag_is = refl; plan_is = λ p told. cc }, (record { tag_is = refl; plan_is = λ p told. absurd (cc) }, tt)),
     ),
   );
-  stand = each (λ d device. (stand_at closed.last.devices.items d).up ≡ true → device.value ≡ (stand_at closed.last.devices.items d).value) devices
+  stand = each (λ d device. (stand_at closed.last.devices.items d).up ≡ true → device.stands ≡ (stand_at closed.last.devices.items d).value) devices
       ((λ up. refl), ((λ up. refl), ((λ up. refl), ((λ up. refl), tt))));
   turns_are = each (λ d device. device.turns ≡ total (λ x. x.turns.items) records d) devices (refl, (refl, (refl, (refl, tt))));
   faults_are = each (λ d device. device.faults ≡ total (λ x. x.faults.items) records d) devices (refl, (refl, (refl, (refl, tt))));
 }
 
 -- both windows, and the devices after them
-day_is_legal : IsLegalDay (λ x. x.number) (λ x. x.downs) (λ x. x.value) (λ x. x.turns) (λ x. x.faults) script mode records devices
+day_is_legal : IsLegalDay (λ (x : Shown). x) script mode records devices
 unfolding split_of
 day_is_legal = record { count = refl; legal = records_are_legal; left = devices_are_left }

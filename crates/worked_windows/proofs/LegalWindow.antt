@@ -7,6 +7,7 @@ use Rattle.legal_days.specs.AccountedCalls.{CallsAreAccounted}
 use Rattle.legal_days.specs.Agreement.{AgreesWithSerial}
 use Rattle.legal_days.specs.LegalWindows.{IsLegalWindow}
 use Rattle.legal_days.specs.Orders.{IsOrderFor}
+use Rattle.lock_leasing.specs.Configurations.{point}
 use Rattle.lock_leasing.specs.Places.{MayBeOut}
 use Rattle.std.proofs.Common.{arith}
 use Rattle.std.proofs.lemmas.Grind.{common_steps}
@@ -29,7 +30,7 @@ closed = record {
 }
 
 -- nothing is out when the run is placed
-nothing_out : MayBeOut worked.window (reading worked.window (take 1 worked.history)) no_grips
+nothing_out : MayBeOut (point worked.window (reading worked.window (take 1 worked.history)) no_grips)
 unfolding split_of
 nothing_out = record { commands = λ d r k out. absurd (cc); undos = λ d r v out. absurd (cc); one = λ d e r p q out too. absurd (cc) }
 

@@ -11,7 +11,7 @@ use Rattle.hub_core.specs.Steps.{Choice, decide}
 use Rattle.legal_days.specs.CleanReads.{entry_is_clean}
 use Rattle.legal_days.specs.Isolation.{is_isolated}
 use Rattle.legal_days.specs.JustifiedAborts.{abort_is_justified}
-use Rattle.lock_leasing.specs.Configurations.{Grips}
+use Rattle.lock_leasing.specs.Configurations.{Grips, point}
 use Rattle.lock_leasing.specs.Order.{committed_home, firsts_of_line, firsts_of_log, is_in_line, live_writes_are_covered, marks_of_line, marks_of_log, open_runs_are_last, settled_items}
 use Rattle.lock_leasing.specs.Places.{Placing, first_place, scheduled_place}
 use Rattle.lock_leasing.specs.Words.{effective_writer_of, has_touched, holds_device, live_runs, overdue_for, standing_value}
@@ -19,7 +19,7 @@ use Rattle.std.specs.List.{list_all, list_any}
 use Rattle.std.specs.Prelude.{Bool, List, Option, false, filter, is_none, is_some, map, not, true, ℕ, ◌&&◌, ◌||◌, ◌∷◌}
 
 -- of the line and of each device; then of the runs that wait for a place, of the live runs, and what `take` does for each run and for 0
-pub record Point : Type 0 where
+pub record Words : Type 0 where
   pub line : List Item
   pub up : List Bool
   pub writers : List (Option ℕ)
@@ -37,21 +37,21 @@ pub record Point : Type 0 where
 abbrev pub waiting_runs : Setting → Reading → List ℕ
 waiting_runs w n = filter (λ r. is_some (n.run r).arrived && is_none (n.run r).placed) (run_numbers w)
 
-abbrev pub words_at : Setting → Reading → Grips → ℕ → Point
+abbrev pub words_at : Setting → Reading → Grips → ℕ → Words
 words_at w n g m = record {
   line = n.line;
   up = map n.up (device_numbers w);
   writers = map (effective_writer_of n g) (device_numbers w);
-  values = map (standing_value w n g) (device_numbers w);
-  holders = map (λ d. filter (λ r. holds_device w n g r d) (run_numbers w)) (device_numbers w);
+  values = map (standing_value (point w n g)) (device_numbers w);
+  holders = map (λ d. filter (λ r. holds_device (point w n g) r d) (run_numbers w)) (device_numbers w);
   touched = map (λ d. filter (λ r. has_touched n g r d) (run_numbers w)) (device_numbers w);
-  first_places = map (first_place w n g) (waiting_runs w n);
-  places = map (λ r. scheduled_place w n g r m) (waiting_runs w n);
-  overdue = map (λ r. map (λ d. overdue_for w n g r d m) (device_numbers w)) (live_runs n n.line);
+  first_places = map (first_place (point w n g)) (waiting_runs w n);
+  places = map (λ r. scheduled_place (point w n g) r m) (waiting_runs w n);
+  overdue = map (λ r. map (λ d. overdue_for (point w n g) r d m) (device_numbers w)) (live_runs n n.line);
   starts = map (λ r. map (planned_start (n.run r).planned) (devices_of w r)) (live_runs n n.line);
   ends = map (λ r. map (planned_end (n.run r).planned) (devices_of w r)) (live_runs n n.line);
   whole_ends = map (whole_end w n) (live_runs n n.line);
-  choices = map (λ r. decide w n g r m) (0 ∷ run_numbers w);
+  choices = map (λ r. decide (point w n g) r m) (0 ∷ run_numbers w);
 }
 
 -- The four clauses of the serial order
@@ -72,7 +72,7 @@ clauses_of_line w n g = record {
   serial = executed w (settled_items n);
   firsts = map (firsts_of_line n) (device_numbers w);
   marks = map (marks_of_line n) (device_numbers w);
-  holds_on = map (λ d. live_writes_are_covered n g d n.line && open_runs_are_last w n g d n.line && spans_are_free w n d) (device_numbers w);
+  holds_on = map (λ d. live_writes_are_covered n g d n.line && open_runs_are_last (point w n g) d n.line && spans_are_free w n d) (device_numbers w);
 }
 
 -- .. and what the history says

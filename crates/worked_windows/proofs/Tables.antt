@@ -16,10 +16,11 @@ use Rattle.home_types.specs.declared.worlds.Stand.{Stand}
 use Rattle.hub_core.specs.Steps.{give_entries}
 use Rattle.legal_days.specs.AccountedCalls.{told_calls}
 use Rattle.legal_days.specs.LegalWindows.{all_ended, weakly_allowed}
-use Rattle.lock_leasing.specs.Configurations.{Grip, Grips, Purpose}
+use Rattle.lock_leasing.specs.Configurations.{Grip, Grips}
+use Rattle.lock_leasing.specs.declared.purposes.Purpose.{Purpose}
 use Rattle.std.specs.List.{list_all}
 use Rattle.std.specs.Prelude.{Bool, List, Some, [], drop, false, map, not, take, true, ℕ, ◌&&◌, ◌++◌, ◌+◌, ◌==◌, ◌∷◌, ◌≡◌}
-use Rattle.worked_windows.proofs.Points.{Clauses, Point, clauses_of_history, clauses_of_line, verdict, words_at}
+use Rattle.worked_windows.proofs.Points.{Clauses, Words, clauses_of_history, clauses_of_line, verdict, words_at}
 use lib.Pointwise.{pointwise}
 
 -- The home of many windows
@@ -42,9 +43,9 @@ pub record Row : Type 0 where
   pub out : Grips
   pub moment : ℕ
   -- the point, from the one before
-  pub change : Point → Point
+  pub change : Words → Words
 
-abbrev pub row : ℕ → Grips → ℕ → (Point → Point) → Row
+abbrev pub row : ℕ → Grips → ℕ → (Words → Words) → Row
 row entries out moment change = record { entries = entries; out = out; moment = moment; change = change }
 
 -- a row where every word is as at the point before
@@ -80,11 +81,11 @@ abbrev pub reading_at : Setting → List Entry → ℕ → Reading
 reading_at w history entries = reading w (take entries history)
 
 -- all words at the rows' points, computed ..
-abbrev pub words_along : Setting → List Entry → List Row → List Point
+abbrev pub words_along : Setting → List Entry → List Row → List Words
 words_along w history rows = map (λ r. words_at w (reading_at w history r.entries) r.out r.moment) rows
 
 -- .. and as the rows say, behind this point
-abbrev pub points_from : Point → List Row → List Point
+abbrev pub points_from : Words → List Row → List Words
 points_from p [] = []
 points_from p (r ∷ rows) = r.change p ∷ points_from (r.change p) rows
 
@@ -141,7 +142,7 @@ pub record Outcome : Type 0 where
 -- what was found for a window
 pub record Table : Type 0 where
   -- the words at the first row's point
-  pub first : Point
+  pub first : Words
   pub rows : List Row
   pub gives : List Give
   -- how many device calls the history tells of, on each device
@@ -162,7 +163,7 @@ pub record IsWorked (w : Setting) (history : List Entry) (table : Table) : Type 
 -- Windows of the weak model, which promises no order
 
 pub record WeakTable : Type 0 where
-  pub first : Point
+  pub first : Words
   pub rows : List Row
   pub gives : List Give
   pub calls : List ℕ

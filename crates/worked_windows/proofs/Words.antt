@@ -18,7 +18,8 @@ pub use Rattle.home_types.specs.declared.modes.Scheduler.TheVariants.{Fcfs, Just
 pub use Rattle.home_types.specs.declared.modes.Visibility.TheVariants.{Eventual, Global, Partitioned, Weak}
 pub use Rattle.hub_core.specs.Steps.{Absent, HandsOut, Moves, Over, Waits}
 pub use Rattle.hub_core.specs.declared.waits.Why.TheVariants.{Behind, Busy, Denied, Dirty, Follow, Strict}
-pub use Rattle.lock_leasing.specs.Configurations.{Commands, Probes, Undoes, no_grips}
+pub use Rattle.lock_leasing.specs.Configurations.{no_grips}
+pub use Rattle.lock_leasing.specs.declared.purposes.Purpose.TheVariants.{Commands, Probes, Undoes}
 pub use Rattle.lock_leasing.specs.Places.{At, DeniedBy}
 pub use Rattle.std.specs.Prelude.{List, None, Some, [], false, refl, slice_set, true, ◌++◌, ◌∷◌, ◌≡◌}
 pub use Rattle.worked_windows.proofs.Tables.{IsWeaklyWorked, IsWorked, Table, WeakTable, give, held, home_of_four, less, more, points_from, row, still, words_along}

@@ -20,7 +20,9 @@ use Rattle.lineage_table.specs.Accesses.{is_acquired}
 use Rattle.lineage_table.specs.Lineages.{LineageState, lineage_at}
 use Rattle.lineage_table.specs.declared.accesses.Access.{Access}
 use Rattle.lineage_table.specs.declared.accesses.Status.TheVariants.{Acquired, Released, Scheduled}
-use Rattle.lock_leasing.specs.Configurations.{Commands, Grips, Purpose, Undoes, no_grips}
+use Rattle.lock_leasing.specs.Configurations.{Grips, no_grips, point}
+use Rattle.lock_leasing.specs.declared.purposes.Purpose.TheVariants.{Commands, Undoes}
+use Rattle.lock_leasing.specs.declared.purposes.Purpose.{Purpose}
 use Rattle.lock_leasing.specs.Order.{committed_value}
 use Rattle.lock_leasing.specs.Tables.{EachTellsOfRun, IsLineageOf, Represents, TellsOfRun, may_be_passed, runs_with_access, some_in_use, status_by_answers, view_when}
 use Rattle.lock_leasing.specs.Words.{has_touched, is_undone, overdue_for}
@@ -48,14 +50,14 @@ out d r purpose = put no_grips d (Some (record { maker = r; purpose = purpose })
 
 -- the table represents the configuration at this point of the history, with these grips out
 abbrev IsTableAt : Setting → List Entry → Grips → List LineageState → Type 0
-IsTableAt w history g table = Represents w (reading w history) g table
+IsTableAt w history g table = Represents (point w (reading w history) g) table
 
 -- What an access tells
 
 -- the access with what its run tells, but for a view
 abbrev told_by_run : Setting → Reading → Grips → ℕ → Access → Access
 told_by_run w n g d x = record x {
-  status = status_by_answers w n g x.run.0 d;
+  status = status_by_answers (point w n g) x.run.0 d;
   wrote = if is_undone n g x.run.0 d then None else ((n.run x.run.0).on d).wrote;
   from = planned_start (n.run x.run.0).planned d;
   to = planned_end (n.run x.run.0).planned d;
@@ -63,7 +65,7 @@ told_by_run w n g d x = record x {
 
 -- that of a run that is not doomed
 sound : {w : Setting} {n : Reading} {g : Grips} {d : ℕ} {x : Access} {rest : List Access} → is_doomed n x.run.0 ≡ false
-    → x ≡ record (told_by_run w n g d x) { view = option_map view_when (view_of n x.run.0 d) } → TellsOfRun w n g d x rest
+    → x ≡ record (told_by_run w n g d x) { view = option_map view_when (view_of n x.run.0 d) } → TellsOfRun (point w n g) d x rest
 sound is told = record {
   status = λ bound. ap (λ y. y.status) told;
   free = λ may. absurd (cc);
@@ -76,7 +78,7 @@ sound is told = record {
 
 -- that of a doomed run that has touched the device
 doomed : {w : Setting} {n : Reading} {g : Grips} {d : ℕ} {x : Access} {rest : List Access} → is_doomed n x.run.0 ≡ true
-    → has_touched n g x.run.0 d ≡ true → x ≡ told_by_run w n g d x → TellsOfRun w n g d x rest
+    → has_touched n g x.run.0 d ≡ true → x ≡ told_by_run w n g d x → TellsOfRun (point w n g) d x rest
 doomed is touched told = record {
   status = λ bound. ap (λ y. y.status) told;
   free = λ may. absurd (cc);
@@ -90,7 +92,7 @@ doomed is touched told = record {
 -- that of a doomed run that has not touched the device: it may have been passed
 passed : {w : Setting} {n : Reading} {g : Grips} {d : ℕ} {x : Access} {rest : List Access} → is_doomed n x.run.0 ≡ true
     → may_be_passed n g x.run.0 d ≡ true → is_acquired x.status ≡ false → (some_in_use rest ≡ true → x.status ≡ Released)
-    → x ≡ record (told_by_run w n g d x) { status = x.status } → TellsOfRun w n g d x rest
+    → x ≡ record (told_by_run w n g d x) { status = x.status } → TellsOfRun (point w n g) d x rest
 passed is may free released told = record {
   status = λ bound. absurd (cc);
   free = λ bound. free;
@@ -114,17 +116,17 @@ each_of_four P a b c e (suc (suc (suc (suc d)))) below = absurd (omega (arith, b
 abbrev IsOfDevice : Setting → Reading → ℕ → LineageState → Type 0
 IsOfDevice w n d s = ◌≡◌ {A = ℕ × (List ℕ × Bool)} (s.committed, (map (λ x. x.run.0) s.accesses, s.up)) (committed_value w n d, (runs_with_access w n d n.line, n.up d))
 
-lineage : {w : Setting} {n : Reading} {g : Grips} {d : ℕ} {s : LineageState} → IsOfDevice w n d s → EachTellsOfRun w n g d s.accesses → IsLineageOf w n g d s
+lineage : {w : Setting} {n : Reading} {g : Grips} {d : ℕ} {s : LineageState} → IsOfDevice w n d s → EachTellsOfRun (point w n g) d s.accesses → IsLineageOf (point w n g) d s
 lineage is each = record { committed = ap (λ y. y.0) is; runs = ap (λ y. y.1.0) is; each = each; up = ap (λ y. y.1.1) is }
 
 -- .. from what the accesses tell, device by device
 represents : {w : Setting} {n : Reading} {g : Grips} {a b c e : LineageState} → length w.first ≡ 4
     → IsOfDevice w n 0 a → IsOfDevice w n 1 b → IsOfDevice w n 2 c → IsOfDevice w n 3 e
-    → EachTellsOfRun w n g 0 a.accesses → EachTellsOfRun w n g 1 b.accesses → EachTellsOfRun w n g 2 c.accesses → EachTellsOfRun w n g 3 e.accesses
-    → Represents w n g (a ∷ b ∷ c ∷ e ∷ [])
+    → EachTellsOfRun (point w n g) 0 a.accesses → EachTellsOfRun (point w n g) 1 b.accesses → EachTellsOfRun (point w n g) 2 c.accesses → EachTellsOfRun (point w n g) 3 e.accesses
+    → Represents (point w n g) (a ∷ b ∷ c ∷ e ∷ [])
 represents {w = w} {n = n} {g = g} {a = a} {b = b} {c = c} {e = e} home of_a of_b of_c of_e told_a told_b told_c told_e = record {
   devices = sym home;
-  each = λ d below. each_of_four (λ k. IsLineageOf w n g k (lineage_at (a ∷ b ∷ c ∷ e ∷ []) k))
+  each = λ d below. each_of_four (λ k. IsLineageOf (point w n g) k (lineage_at (a ∷ b ∷ c ∷ e ∷ []) k))
       (lineage of_a told_a) (lineage of_b told_b) (lineage of_c told_c) (lineage of_e told_e) d (subst (λ k. d < k) home below);
 }
 
@@ -324,7 +326,7 @@ history_of_two =
     ∷ Doomed (run_no 2) (Revoked (run_no 1) (device_no 2) 220 321) ∷ []
 
 -- run 1 asks for the oven while run 2 holds its grip
-lease_is_overdue : overdue_for window_of_two (reading window_of_two (take 6 history_of_two)) (out 2 2 (Commands 1)) 1 2 321 ≡ Some 2
+lease_is_overdue : overdue_for (point window_of_two (reading window_of_two (take 6 history_of_two)) (out 2 2 (Commands 1))) 1 2 321 ≡ Some 2
 unfolding split_of
 lease_is_overdue = refl
 

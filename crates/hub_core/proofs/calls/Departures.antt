@@ -9,7 +9,7 @@ use Rattle.device_gate.specs.declared.gates.Place.TheVariants.{Home, Out}
 use Rattle.device_gate.specs.declared.gates.Place.{Place}
 use Rattle.device_gate.specs.declared.slips.Slip.{Slip}
 use Rattle.device_gate.specs.declared.slips.Task.{Task}
-use Rattle.device_states.specs.Devices.{HasRoom}
+use Rattle.device_states.specs.Devices.{MayBeProbed, Shown}
 use Rattle.std.specs.Borrow.{Bor}
 use Rattle.history_book.specs.Histories.{entries_of, is_fall_of}
 use Rattle.history_book.specs.Readings.{put}
@@ -32,9 +32,8 @@ use Rattle.hub_core.specs.declared.open_windows.OpenWindow.TheInside.{Inside}
 use Rattle.home_types.specs.declared.numbers.DeviceNo.{DeviceNo}
 use Rattle.command_rules.specs.Rosters.{device_no}
 use Rattle.hub_core.specs.OpenHubs.{OpenHub, configuration_of, grip_in, held_in, hub_state_of, no_device, progress_at}
-use Rattle.window_order.specs.KeptOrders.{purpose_of}
+use Rattle.lock_leasing.specs.declared.purposes.Purpose.{Purpose}
 use Rattle.hub_core.specs.declared.known.DeviceProgress.{DeviceProgress}
-use Rattle.window_order.specs.declared.purposes.Purpose.{Purpose as KeptPurpose}
 use Rattle.lock_leasing.specs.Configurations.{Configuration, Grip, Grips, is_out, read_of}
 use Rattle.std.proofs.Common.{ap, ap₂, arith, cond, inl, inr, refl, subst, sym, ◌∙◌}
 use Rattle.std.proofs.lemmas.List.{length-set}
@@ -62,12 +61,12 @@ home_place {D = D} s d within home = by_place (slice_get s.places d) refl home
     by_place (Some (Out slip task)) at is = absurd (cc)
 
 -- so often a device may still be called
-pub has_room : {D : Type 0} (stands turns probes faults : D → ℕ) (s : OpenHub D) (d : ℕ) (device : D) → HubIsKept stands turns probes faults s → slice_get s.places d ≡ Some (Home device) → HasRoom (turns device) (probes device + 1) (faults device)
-has_room stands turns probes faults s d device k at =
+pub has_room : {D : Type 0} (shows : D → Shown) (s : OpenHub D) (d : ℕ) (device : D) → HubIsKept shows s → slice_get s.places d ≡ Some (Home device) → MayBeProbed (shows device)
+has_room shows s d device k at =
     let fits = k.home d device at in
     let windows : s.opened < 2147483648 = k.configuration.opens.few_windows in
     let rounds : s.rounds ≤ 100 = k.configuration.opens.few_rounds in
-    let few = few_entries stands turns probes faults s k in
+    let few = few_entries shows s k in
     let falls : told_falls (entries_of s.history) d ≤ length s.history = falls_most s.history d in
     let calls : told_calls s.setting.runs (entries_of s.history) d ≤ length s.history = told_most s.setting s.history d in
     let had_turns : (progress_at s.devices d).at_opening.turns ≤ s.opened * 131072 + 1 = (k.low d).few_turns in
@@ -85,9 +84,9 @@ has_room stands turns probes faults s d device k at =
     told_most : (w : Setting) (h : List Kept) (e : ℕ) → told_calls w.runs (entries_of h) e ≤ length h
     told_most w h e = let most : told_calls w.runs (entries_of h) e ≤ length (entries_of h) = count_by-le-length (tells_call w.runs e) (entries_of h) in omega (arith, most, length_entries h)
 
-pub few_tickets : {D : Type 0} (stands turns probes faults : D → ℕ) (s : OpenHub D) → HubIsKept stands turns probes faults s → s.tickets < 9223372036854775808
-few_tickets stands turns probes faults s k =
-    let few = few_entries stands turns probes faults s k in
+pub few_tickets : {D : Type 0} (shows : D → Shown) (s : OpenHub D) → HubIsKept shows s → s.tickets < 9223372036854775808
+few_tickets shows s k =
+    let few = few_entries shows s k in
     let tickets : s.tickets ≤ length s.history + count_by is_away s.places + all_probes_taken s = k.few_tickets in
     let away : count_by is_away s.places ≤ length s.places = count_by-le-length is_away s.places in
     let taken : all_probes_taken s ≤ length s.devices * s.rounds = sum_by-le (λ (p : DeviceProgress). s.rounds - p.probes_left) s.rounds s.devices (λ i p within. omega arith) in
@@ -97,19 +96,19 @@ few_tickets stands turns probes faults s k =
 
 -- What is kept of another device
 
-pub other_home : {D : Type 0} (stands turns probes faults : D → ℕ) (s : OpenHub D) (x : List Kept) (m : ℕ) (v : List DeviceProgress) (u : List (Place D)) (k e : ℕ) (device : D)
+pub other_home : {D : Type 0} (shows : D → Shown) (s : OpenHub D) (x : List Kept) (m : ℕ) (v : List DeviceProgress) (u : List (Place D)) (k e : ℕ) (device : D)
     → progress_at v e ≡ progress_at s.devices e
     → told_calls s.setting.runs (entries_of x) e ≡ told_calls s.setting.runs (entries_of s.history) e
     → told_falls (entries_of x) e ≡ told_falls (entries_of s.history) e
     → (read_of (configuration_of (record s { history = x; moment = m; devices = v; places = u; tickets = k }))).up e ≡ (read_of (configuration_of s)).up e
-    → FitsAtHome stands turns probes faults s e device → FitsAtHome stands turns probes faults (record s { history = x; moment = m; devices = v; places = u; tickets = k }) e device
-other_home stands turns probes faults s x m v u k e device known told falls up' fits =
+    → FitsAtHome shows s e device → FitsAtHome shows (record s { history = x; moment = m; devices = v; places = u; tickets = k }) e device
+other_home shows s x m v u k e device known told falls up' fits =
     record {
       stand = λ up. fits.stand (sym up' ∙ up) ∙ ap (λ (p : DeviceProgress). p.held) (sym known);
       turns_are = fits.turns_are ∙ ap₂ (λ (p : DeviceProgress) n. p.at_opening.turns + n) (sym known) (sym told);
       probes_are = fits.probes_are ∙ ap (λ (p : DeviceProgress). p.at_opening.probes + (s.rounds - p.probes_left)) (sym known);
-      falls_told = subst (λ (p : DeviceProgress). p.at_opening.faults + told_falls (entries_of x) e ≤ faults device) (sym known) (omega (arith, fits.falls_told, falls));
-      few_faults = subst (λ (p : DeviceProgress). faults device ≤ p.at_opening.faults + told_falls (entries_of x) e + (s.rounds - p.probes_left)) (sym known) (omega (arith, fits.few_faults, falls));
+      falls_told = subst (λ (p : DeviceProgress). p.at_opening.faults + told_falls (entries_of x) e ≤ (shows device).faults) (sym known) (omega (arith, fits.falls_told, falls));
+      few_faults = subst (λ (p : DeviceProgress). (shows device).faults ≤ p.at_opening.faults + told_falls (entries_of x) e + (s.rounds - p.probes_left)) (sym known) (omega (arith, fits.few_faults, falls));
     }
 
 pub other_out : {D : Type 0} (s : OpenHub D) (x : List Kept) (m : ℕ) (v : List DeviceProgress) (u : List (Place D)) (k e : ℕ) (slip : Slip) (task : Task)
@@ -126,8 +125,8 @@ other_out s x m v u k e slip task known told falls register fits =
       probes_are = fits.probes_are ∙ ap (λ (p : DeviceProgress). p.at_opening.probes + (s.rounds - p.probes_left)) (sym known);
       falls_told = subst (λ (p : DeviceProgress). p.at_opening.faults + told_falls (entries_of x) e ≤ slip.faults) (sym known) (omega (arith, fits.falls_told, falls));
       few_faults = subst (λ (p : DeviceProgress). slip.faults + probed task ≤ p.at_opening.faults + told_falls (entries_of x) e + (s.rounds - p.probes_left)) (sym known) (omega (arith, fits.few_faults, falls));
-      does = fits.does ∙ task_same (configuration_of s) (configuration_of (record s { history = x; moment = m; devices = v; places = u; tickets = k })) slip.maker (purpose_of (progress_at s.devices e).purpose) refl register
-          ∙ ap (λ (p : DeviceProgress). task_of (configuration_of (record s { history = x; moment = m; devices = v; places = u; tickets = k })) slip.maker (purpose_of p.purpose)) (sym known);
+      does = fits.does ∙ task_same (configuration_of s) (configuration_of (record s { history = x; moment = m; devices = v; places = u; tickets = k })) slip.maker (progress_at s.devices e).purpose refl register
+          ∙ ap (λ (p : DeviceProgress). task_of (configuration_of (record s { history = x; moment = m; devices = v; places = u; tickets = k })) slip.maker p.purpose) (sym known);
     }
 
 -- how many are out for a run when one goes out
@@ -160,7 +159,7 @@ taken_same rounds devices d x same within =
 -- The device goes out
 
 -- for this purpose, with so many of its probes left
-abbrev pub gone : {D : Type 0} → OpenHub D → ℕ → KeptPurpose → ℕ → Slip → Task → ℕ → OpenHub D
+abbrev pub gone : {D : Type 0} → OpenHub D → ℕ → Purpose → ℕ → Slip → Task → ℕ → OpenHub D
 gone s d purpose left slip task t =
     record s {
       history = s.history;
@@ -171,37 +170,37 @@ gone s d purpose left slip task t =
     }
 
 -- its slip is for the maker, and says how it is; a probe is one of those that were left, and a run's device is counted as one that is out
-pub record IsLeaving {D : Type 0} (turns probes faults : D → ℕ) (s : OpenHub D) (r d : ℕ) (purpose : KeptPurpose) (left : ℕ) (device : D) (slip : Slip) (task : Task) : Type 0 where
+pub record IsLeaving {D : Type 0} (shows : D → Shown) (s : OpenHub D) (r d : ℕ) (purpose : Purpose) (left : ℕ) (device : D) (slip : Slip) (task : Task) : Type 0 where
   pub number : slip.device.0 ≡ d
   pub maker : slip.maker ≡ r
   pub stood : slip.stood ≡ held_in s d
-  pub had_turns : slip.turns ≡ turns device
-  pub had_probes : slip.probes ≡ probes device
-  pub had_faults : slip.faults ≡ faults device
-  pub does : task ≡ task_of (configuration_of s) r (purpose_of purpose)
+  pub had_turns : slip.turns ≡ (shows device).turns
+  pub had_probes : slip.probes ≡ (shows device).probes
+  pub had_faults : slip.faults ≡ (shows device).faults
+  pub does : task ≡ task_of (configuration_of s) r purpose
   pub probed_so : left + probed task ≡ (progress_at s.devices d).probes_left
   pub ticket : 1 ≤ one_for (nat_lt 0 r) + probed task
 
-pub gone_configuration : {D : Type 0} (s : OpenHub D) (r d left t : ℕ) (purpose : KeptPurpose) (slip : Slip) (task : Task) → slip.maker ≡ r → d < length s.places → d < length s.devices
-    → configuration_of (gone s d purpose left slip task t) ≡ record (configuration_of s) { moment = t; probes = put (configuration_of s).probes d left; grips = put (configuration_of s).grips d (Some (record { maker = r; purpose = purpose_of purpose })) }
+pub gone_configuration : {D : Type 0} (s : OpenHub D) (r d left t : ℕ) (purpose : Purpose) (slip : Slip) (task : Task) → slip.maker ≡ r → d < length s.places → d < length s.devices
+    → configuration_of (gone s d purpose left slip task t) ≡ record (configuration_of s) { moment = t; probes = put (configuration_of s).probes d left; grips = put (configuration_of s).grips d (Some (record { maker = r; purpose = purpose })) }
 gone_configuration s r d left t purpose slip task maker within known =
     let known_now = record (progress_at s.devices d) { purpose = purpose; probes_left = left } in
     let probes : ◌≡◌ {A = ℕ → ℕ} (λ e. (progress_at (slice_set s.devices d known_now) e).probes_left) (put (configuration_of s).probes d left) = known_set (λ (p : DeviceProgress). p.probes_left) s.devices d known_now known in
-    let grips : ◌≡◌ {A = ℕ → Option Grip} (λ e. grip_in (slice_get (slice_set s.places d (Out slip task)) e) (progress_at (slice_set s.devices d known_now) e).purpose) (put (configuration_of s).grips d (Some (record { maker = r; purpose = purpose_of purpose }))) =
-    grips_set s.places s.devices d (Out slip task) known_now within known ∙ ap (λ q. put (configuration_of s).grips d (Some (record { maker = q; purpose = purpose_of purpose }))) maker in
+    let grips : ◌≡◌ {A = ℕ → Option Grip} (λ e. grip_in (slice_get (slice_set s.places d (Out slip task)) e) (progress_at (slice_set s.devices d known_now) e).purpose) (put (configuration_of s).grips d (Some (record { maker = r; purpose = purpose }))) =
+    grips_set s.places s.devices d (Out slip task) known_now within known ∙ ap (λ q. put (configuration_of s).grips d (Some (record { maker = q; purpose = purpose }))) maker in
     λ i. record { setting = s.setting; history = s.history; moment = t; probes = probes i; grips = grips i }
 
-pub gone_kept : {D : Type 0} (stands turns probes faults : D → ℕ) (s : OpenHub D) (r d left t : ℕ) (purpose : KeptPurpose) (device : D) (slip : Slip) (task : Task)
-    → slice_get s.places d ≡ Some (Home device) → IsLeaving turns probes faults s r d purpose left device slip task → IsKeptByModel (configuration_of (gone s d purpose left slip task t)) s.rounds s.opened (held_in s)
-    → HubIsKept stands turns probes faults s → HubIsKept stands turns probes faults (gone s d purpose left slip task t)
-gone_kept {D = D} stands turns probes faults s r d left t purpose device slip task at leaves configuration k =
+pub gone_kept : {D : Type 0} (shows : D → Shown) (s : OpenHub D) (r d left t : ℕ) (purpose : Purpose) (device : D) (slip : Slip) (task : Task)
+    → slice_get s.places d ≡ Some (Home device) → IsLeaving shows s r d purpose left device slip task → IsKeptByModel (configuration_of (gone s d purpose left slip task t)) s.rounds s.opened (held_in s)
+    → HubIsKept shows s → HubIsKept shows (gone s d purpose left slip task t)
+gone_kept {D = D} shows s r d left t purpose device slip task at leaves configuration k =
     record {
       configuration = subst (λ h. IsKeptByModel (configuration_of after) s.rounds s.opened h) held configuration;
       devices_size = length-set s.devices d known_now ∙ k.devices_size;
       places_size = length-set s.places d (Out slip task) ∙ k.places_size;
       home = λ e other there. elim (get_set s.places d e (Out slip task) within) [
         | inl p ↦ absurd (let both : Some (Out slip task) ≡ Some (Home other) = sym p.1 ∙ there in cc)
-        | inr q ↦ other_home stands turns probes faults s s.history t _ _ _ e other (device_there s.devices d e known_now q.0) refl refl refl (k.home e other (sym q.1 ∙ there))
+        | inr q ↦ other_home shows s s.history t _ _ _ e other (device_there s.devices d e known_now q.0) refl refl refl (k.home e other (sym q.1 ∙ there))
       ];
       out = λ e other does there. elim (get_set s.places d e (Out slip task) within) [
         | inl p ↦ subst (λ (x : Place D). IsFitting e x) (same_Some (Out slip task) (Out other does) (sym p.1 ∙ there)) (subst (λ x. IsFitting x (Out slip task)) (sym p.0) goes)
@@ -253,10 +252,10 @@ gone_kept {D = D} stands turns probes faults s r d left t purpose device slip ta
               now ∙ ap (λ (p : DeviceProgress). p.at_opening.probes + (s.rounds - p.probes_left)) (sym here);
           falls_told = subst (λ (p : DeviceProgress). p.at_opening.faults + told_falls (entries_of s.history) d ≤ slip.faults) (sym here) (omega (arith, fits.falls_told, leaves.had_faults));
           few_faults = subst (λ (p : DeviceProgress). slip.faults + probed task ≤ p.at_opening.faults + told_falls (entries_of s.history) d + (s.rounds - p.probes_left)) (sym here)
-              (let few : faults device ≤ (progress_at s.devices d).at_opening.faults + told_falls (entries_of s.history) d + (s.rounds - (progress_at s.devices d).probes_left) = fits.few_faults in
+              (let few : (shows device).faults ≤ (progress_at s.devices d).at_opening.faults + told_falls (entries_of s.history) d + (s.rounds - (progress_at s.devices d).probes_left) = fits.few_faults in
               omega (arith, few, leaves.had_faults, leaves.probed_so, few_left));
-          does = leaves.does ∙ task_same (configuration_of s) (configuration_of after) r (purpose_of purpose) refl refl
-              ∙ ap₂ (λ q (p : DeviceProgress). task_of (configuration_of after) q (purpose_of p.purpose)) (sym leaves.maker) (sym here);
+          does = leaves.does ∙ task_same (configuration_of s) (configuration_of after) r purpose refl refl
+              ∙ ap₂ (λ q (p : DeviceProgress). task_of (configuration_of after) q p.purpose) (sym leaves.maker) (sym here);
         }
 
 -- what a list has at a place is some
@@ -265,30 +264,30 @@ is_there xs i None less is = absurd (omega (arith, less, gone_past xs i (sym is)
 is_there xs i (Some x) less is = refl
 
 -- as the hub is seen
-pub gone_carries : {D : Type 0} (s : OpenHub D) (r d left t : ℕ) (purpose : KeptPurpose) (slip : Slip) (task : Task) → task ≡ task_of (configuration_of s) r (purpose_of purpose) → d < length s.places
-    → (hub_state_of (gone s d purpose left slip task t)).carried ≡ carrying (hub_state_of s) r d (purpose_of purpose) slip
+pub gone_carries : {D : Type 0} (s : OpenHub D) (r d left t : ℕ) (purpose : Purpose) (slip : Slip) (task : Task) → task ≡ task_of (configuration_of s) r purpose → d < length s.places
+    → (hub_state_of (gone s d purpose left slip task t)).carried ≡ carrying (hub_state_of s) r d purpose slip
 gone_carries s r d left t purpose slip task does within = carried_set s.places d (Out slip task) within ∙ ap (λ x. put (hub_state_of s).carried d (Some (record { slip = slip; task = x }))) does
 
 -- The parts of the hub from which it goes out
 
 -- the device is sent to the maker, for this purpose and task, and so many of its probes are left: so the parts change, but for the history
-pub record IsGone {D : Type 0} (turns probes faults : D → ℕ) (h t : Inside D) (r d : ℕ) (purpose : KeptPurpose) (left : ℕ) (task : Task) (grip : Gripped D Ready) : Type 0 where
-  pub sent : IsSent turns probes faults h.away (device_no d) r (record (progress_at h.away.known.items d) { purpose = purpose; probes_left = left }) task grip t.away
-  pub does : task ≡ task_of (configuration_of (open_of h)) r (purpose_of purpose)
+pub record IsGone {D : Type 0} (shows : D → Shown) (h t : Inside D) (r d : ℕ) (purpose : Purpose) (left : ℕ) (task : Task) (grip : Gripped D Ready) : Type 0 where
+  pub sent : IsSent shows h.away (device_no d) r (record (progress_at h.away.known.items d) { purpose = purpose; probes_left = left }) task grip t.away
+  pub does : task ≡ task_of (configuration_of (open_of h)) r purpose
   pub probed_so : left + probed task ≡ (progress_at h.away.known.items d).probes_left
   pub ticket : 1 ≤ one_for (nat_lt 0 r) + probed task
   pub new : t ≡ record h { moment = t.moment; away = t.away; order = t.order }
 
 -- the device is one of the home
-pub gone_within : {D : Type 0} {stands turns probes faults : D → ℕ} (h t : Inside D) (r d : ℕ) (purpose : KeptPurpose) (left : ℕ) (task : Task)
-    (grip : Gripped D Ready) → IsGone turns probes faults h t r d purpose left task grip → IsWhole stands turns probes faults h
+pub gone_within : {D : Type 0} {shows : D → Shown} (h t : Inside D) (r d : ℕ) (purpose : Purpose) (left : ℕ) (task : Task)
+    (grip : Gripped D Ready) → IsGone shows h t r d purpose left task grip → IsWhole shows h
     → (d < length h.away.gate.places) × (d < length h.away.known.items)
 gone_within h t r d purpose left task grip is k =
     let within = slice_get_within h.away.gate.places d (Home grip.device) is.sent.at in
     (within, omega (arith, within, k.shown.devices_size, k.shown.places_size))
 
-gone_leaves : {D : Type 0} {turns probes faults : D → ℕ} (h t : Inside D) (r d : ℕ) (purpose : KeptPurpose) (left : ℕ) (task : Task) (grip : Gripped D Ready)
-    → IsGone turns probes faults h t r d purpose left task grip → IsLeaving turns probes faults (open_of h) r d purpose left grip.device grip.slip task
+gone_leaves : {D : Type 0} {shows : D → Shown} (h t : Inside D) (r d : ℕ) (purpose : Purpose) (left : ℕ) (task : Task) (grip : Gripped D Ready)
+    → IsGone shows h t r d purpose left task grip → IsLeaving shows (open_of h) r d purpose left grip.device grip.slip task
 gone_leaves h t r d purpose left task grip is = record {
   number = ap (λ (x : DeviceNo). x.0) is.sent.device;
   maker = is.sent.maker_is;
@@ -302,39 +301,39 @@ gone_leaves h t r d purpose left task grip is = record {
 }
 
 -- the hub shows it
-pub gone_shows : {D : Type 0} {turns probes faults : D → ℕ} (h t : Inside D) (r d : ℕ) (purpose : KeptPurpose) (left : ℕ) (task : Task) (grip : Gripped D Ready) → IsGone turns probes faults h t r d purpose left task grip → open_of t ≡ gone (open_of h) d purpose left grip.slip task t.moment
+pub gone_shows : {D : Type 0} {shows : D → Shown} (h t : Inside D) (r d : ℕ) (purpose : Purpose) (left : ℕ) (task : Task) (grip : Gripped D Ready) → IsGone shows h t r d purpose left task grip → open_of t ≡ gone (open_of h) d purpose left grip.slip task t.moment
 gone_shows {D = D} h t r d purpose left task grip is =
     ap (λ (x : Inside D). open_of x) is.new ∙ λ i. record (open_of h) { moment = t.moment; devices = is.sent.known_is i; places = is.sent.places i; tickets = is.sent.tickets i }
 
 -- .. and its grips
-pub gone_grips : {D : Type 0} {stands turns probes faults : D → ℕ} (h t : Inside D) (r d : ℕ) (purpose : KeptPurpose) (left : ℕ) (task : Task) (grip : Gripped D Ready) → IsGone turns probes faults h t r d purpose left task grip → IsWhole stands turns probes faults h
-    → ◌≡◌ {A = Grips} (configuration_of (open_of t)).grips (put (configuration_of (open_of h)).grips d (Some (record { maker = r; purpose = purpose_of purpose })))
+pub gone_grips : {D : Type 0} {shows : D → Shown} (h t : Inside D) (r d : ℕ) (purpose : Purpose) (left : ℕ) (task : Task) (grip : Gripped D Ready) → IsGone shows h t r d purpose left task grip → IsWhole shows h
+    → ◌≡◌ {A = Grips} (configuration_of (open_of t)).grips (put (configuration_of (open_of h)).grips d (Some (record { maker = r; purpose = purpose })))
 gone_grips {D = D} h t r d purpose left task grip is k =
     let within = gone_within h t r d purpose left task grip is k in
     ap (λ (x : OpenHub D). (configuration_of x).grips) (gone_shows h t r d purpose left task grip is)
     ∙ ap (λ (c : Configuration). c.grips) (gone_configuration (open_of h) r d left t.moment purpose grip.slip task is.sent.maker_is within.0 within.1)
 
 -- what is kept is kept then, where configuration, line, table and hands are
-pub gone_whole : {D : Type 0} {stands turns probes faults : D → ℕ} (h t : Inside D) (r d : ℕ) (purpose : KeptPurpose) (left : ℕ) (task : Task)
-    (grip : Gripped D Ready) → IsGone turns probes faults h t r d purpose left task grip
+pub gone_whole : {D : Type 0} {shows : D → Shown} (h t : Inside D) (r d : ℕ) (purpose : Purpose) (left : ℕ) (task : Task)
+    (grip : Gripped D Ready) → IsGone shows h t r d purpose left task grip
     → IsKeptByModel (configuration_of (open_of t)) h.rounds h.opened (held_in (open_of h))
-    → OrderIsBeside h.rounds h.history (configuration_of (open_of t)).grips t.order.line t.order.table → HandsAre h.history.setting (configuration_of (open_of t)).grips t.away.hands.items → IsWhole stands turns probes faults h → IsWhole stands turns probes faults t
-gone_whole {D = D} {stands = stands} {turns = turns} {probes = probes} {faults = faults} h t r d purpose left task grip is configuration order hands k =
-    subst (λ (x : Inside D). IsWhole stands turns probes faults x) (sym is.new) (record {
-      shown = subst (λ (x : Inside D). HubIsKept stands turns probes faults (open_of x)) is.new (subst (λ (x : OpenHub D). HubIsKept stands turns probes faults x) (sym shows)
-          (gone_kept stands turns probes faults (open_of h) r d left t.moment purpose grip.device grip.slip task is.sent.at (gone_leaves h t r d purpose left task grip is)
-          (subst (λ (x : OpenHub D). IsKeptByModel (configuration_of x) h.rounds h.opened (held_in (open_of h))) shows configuration) k.shown));
+    → OrderIsBeside h.rounds h.history (configuration_of (open_of t)).grips t.order.line t.order.table → HandsAre h.history.setting (configuration_of (open_of t)).grips t.away.hands.items → IsWhole shows h → IsWhole shows t
+gone_whole {D = D} {shows = shows} h t r d purpose left task grip is configuration order hands k =
+    subst (λ (x : Inside D). IsWhole shows x) (sym is.new) (record {
+      shown = subst (λ (x : Inside D). HubIsKept shows (open_of x)) is.new (subst (λ (x : OpenHub D). HubIsKept shows x) (sym seen)
+          (gone_kept shows (open_of h) r d left t.moment purpose grip.device grip.slip task is.sent.at (gone_leaves h t r d purpose left task grip is)
+          (subst (λ (x : OpenHub D). IsKeptByModel (configuration_of x) h.rounds h.opened (held_in (open_of h))) seen configuration) k.shown));
       room = k.room;
       order = subst (λ (x : Inside D). OrderIsBeside h.rounds h.history (configuration_of (open_of x)).grips t.order.line t.order.table) is.new order;
       hands = subst (λ (x : Inside D). HandsAre h.history.setting (configuration_of (open_of x)).grips t.away.hands.items) is.new hands;
     })
   where
-    shows : open_of t ≡ gone (open_of h) d purpose left grip.slip task t.moment
-    shows = gone_shows h t r d purpose left task grip is
+    seen : open_of t ≡ gone (open_of h) d purpose left grip.slip task t.moment
+    seen = gone_shows h t r d purpose left task grip is
 
 -- in the same window
-pub gone_window : {D : Type 0} {stands turns probes faults : D → ℕ} (h t : Inside D) (r d : ℕ) (purpose : KeptPurpose) (left : ℕ) (task : Task)
-    (grip : Gripped D Ready) → IsGone turns probes faults h t r d purpose left task grip → IsWhole stands turns probes faults h
+pub gone_window : {D : Type 0} {shows : D → Shown} (h t : Inside D) (r d : ℕ) (purpose : Purpose) (left : ℕ) (task : Task)
+    (grip : Gripped D Ready) → IsGone shows h t r d purpose left task grip → IsWhole shows h
     → SameWindow (open_of h) (open_of t)
 gone_window {D = D} h t r d purpose left task grip is k =
     subst (λ (x : OpenHub D). SameWindow (open_of h) x) (sym (gone_shows h t r d purpose left task grip is)) (record {
@@ -345,7 +344,7 @@ gone_window {D = D} h t r d purpose left task grip is k =
     })
 
 -- its grip is the next one
-pub gone_next : {D : Type 0} {turns probes faults : D → ℕ} (h t : Inside D) (r d : ℕ) (purpose : KeptPurpose) (left : ℕ) (task : Task) (grip : Gripped D Ready) → IsGone turns probes faults h t r d purpose left task grip → IsNextGrip (open_of h) grip (open_of t)
+pub gone_next : {D : Type 0} {shows : D → Shown} (h t : Inside D) (r d : ℕ) (purpose : Purpose) (left : ℕ) (task : Task) (grip : Gripped D Ready) → IsGone shows h t r d purpose left task grip → IsNextGrip (open_of h) grip (open_of t)
 gone_next h t r d purpose left task grip is = record {
   ticket = is.sent.ticket;
   tickets = is.sent.tickets;

@@ -6,6 +6,7 @@ use Rattle.device_gate.specs.declared.grips.Ready.{Ready}
 use Rattle.device_gate.specs.declared.slips.Told.TheVariants.{Died, Sensed, Worked}
 use Rattle.device_gate.specs.declared.slips.Told.{Told}
 use Rattle.device_gate.specs.declared.strangers.Stranger.{Stranger}
+use Rattle.device_states.specs.Devices.{Shown}
 use Rattle.history_book.proofs.Sealed.{begins_with_sealed, sealed_on, stays_itself}
 use Rattle.history_book.proofs.Snoc.{entries_on}
 use Rattle.history_book.specs.Histories.{entries_of, entry, kept_by, line_of, reading}
@@ -39,7 +40,9 @@ use Rattle.hub_core.specs.declared.open_windows.OpenWindow.TheInside.{Inside}
 use Rattle.hub_core.specs.declared.turns.Turn.TheVariants.{Absent as NoRun, Go, Moved, Over as Ending, Wait}
 use Rattle.hub_core.specs.declared.turns.Turn.{Turn}
 use Rattle.lock_leasing.proofs.ClearPlaces.{scheduled_stands}
-use Rattle.lock_leasing.specs.Configurations.{Commands, Configuration, Grip, Grips, Probes, Purpose, Undoes, read_of}
+use Rattle.lock_leasing.specs.Configurations.{Configuration, Grip, Grips, point, read_of}
+use Rattle.lock_leasing.specs.declared.purposes.Purpose.TheVariants.{Commands, Probes, Undoes}
+use Rattle.lock_leasing.specs.declared.purposes.Purpose.{Purpose}
 use Rattle.lock_leasing.specs.Places.{IsScheduled}
 use Rattle.lock_leasing.specs.Waits.{lost_by}
 use Rattle.serial_line.specs.Marks.{Mark, items_of}
@@ -86,7 +89,7 @@ none_if : (b : Bool) (xs ys : List Entry) → list_any is_placing xs ≡ false �
 none_if true xs ys one two = one
 none_if false xs ys one two = two
 
-take_behind : (w : Setting) (n : Reading) (g : Grips) (r m : ℕ) → Along w IsPlacedBehind n (made_by (decide w n g r m))
+take_behind : (w : Setting) (n : Reading) (g : Grips) (r m : ℕ) → Along w IsPlacedBehind n (made_by (decide (point w n g) r m))
 take_behind w n g r m =
     decide_is (λ c. Along w IsPlacedBehind n (made_by c)) w n g r m (record {
       absent = λ none. tt;
@@ -175,16 +178,16 @@ choice_sealed s t r m (HandsOut d purpose) is formed behind = none_sealed s t (a
 took_sealed : (s t : Configuration) (r m : ℕ) → t ≡ after_take s r m → IsFormed t → StaysSealed (read_of s) (read_of t)
 took_sealed s t r m is formed = choice_sealed s t r m (choice_of s r m) is formed (take_behind s.setting (read_of s) s.grips r (max s.moment m))
 
-formed_hub : {D : Type 0} (stands turns probes faults : D → ℕ) (t : OpenHub D) → HubIsKept stands turns probes faults t → IsFormed (configuration_of t)
-formed_hub stands turns probes faults t kept = kept.configuration.history.well_formed
+formed_hub : {D : Type 0} (shows : D → Shown) (t : OpenHub D) → HubIsKept shows t → IsFormed (configuration_of t)
+formed_hub shows t kept = kept.configuration.history.well_formed
 
 -- the final items stay
-pub turn_sealed : {D : Type 0} (stands turns probes faults : D → ℕ) (s t : OpenHub D) (r m : ℕ) (turn : Turn D) → IsTurn s r m turn t → HubIsKept stands turns probes faults t → StaysSealed (read_of (configuration_of s)) (read_of (configuration_of t))
-turn_sealed stands turns probes faults s t r m (Go grip) is kept = took_sealed (configuration_of s) (configuration_of t) r m (took_after (hub_state_of s) (hub_state_of t) r m grip.slip _ is.step) (formed_hub stands turns probes faults t kept)
-turn_sealed stands turns probes faults s t r m (Moved made) is kept = took_sealed (configuration_of s) (configuration_of t) r m (after s t r m _ is.0) (formed_hub stands turns probes faults t kept)
-turn_sealed stands turns probes faults s t r m (Wait why) is kept = took_sealed (configuration_of s) (configuration_of t) r m (after s t r m _ is.0) (formed_hub stands turns probes faults t kept)
-turn_sealed stands turns probes faults s t r m (Ending end made) is kept = took_sealed (configuration_of s) (configuration_of t) r m (after s t r m _ is.0) (formed_hub stands turns probes faults t kept)
-turn_sealed stands turns probes faults s t r m NoRun is kept = took_sealed (configuration_of s) (configuration_of t) r m (after s t r m _ is.0) (formed_hub stands turns probes faults t kept)
+pub turn_sealed : {D : Type 0} (shows : D → Shown) (s t : OpenHub D) (r m : ℕ) (turn : Turn D) → IsTurn s r m turn t → HubIsKept shows t → StaysSealed (read_of (configuration_of s)) (read_of (configuration_of t))
+turn_sealed shows s t r m (Go grip) is kept = took_sealed (configuration_of s) (configuration_of t) r m (took_after (hub_state_of s) (hub_state_of t) r m grip.slip _ is.step) (formed_hub shows t kept)
+turn_sealed shows s t r m (Moved made) is kept = took_sealed (configuration_of s) (configuration_of t) r m (after s t r m _ is.0) (formed_hub shows t kept)
+turn_sealed shows s t r m (Wait why) is kept = took_sealed (configuration_of s) (configuration_of t) r m (after s t r m _ is.0) (formed_hub shows t kept)
+turn_sealed shows s t r m (Ending end made) is kept = took_sealed (configuration_of s) (configuration_of t) r m (after s t r m _ is.0) (formed_hub shows t kept)
+turn_sealed shows s t r m NoRun is kept = took_sealed (configuration_of s) (configuration_of t) r m (after s t r m _ is.0) (formed_hub shows t kept)
 
 -- A device comes home
 
@@ -216,17 +219,17 @@ pub seen_so : {D : Type 0} {s t u v : OpenHub D} → s ≡ u → v ≡ t → Sta
 seen_so {D = D} {s = s} {t = t} {u = u} {v = v} before after stays =
     subst (λ (x : OpenHub D). StaysSealed (read_of (configuration_of u)) (read_of (configuration_of x))) (sym after) (subst (λ (x : OpenHub D). StaysSealed (read_of (configuration_of x)) (read_of (configuration_of t))) before stays)
 
-pub given_sealed : {D : Type 0} (stands turns probes faults : D → ℕ) (s t : OpenHub D) (grip : Gripped D Done) (m : ℕ)
-    (result : Result Made (Gripped D Done × Stranger)) → IsGiven s grip m result t → HubIsKept stands turns probes faults t
+pub given_sealed : {D : Type 0} (shows : D → Shown) (s t : OpenHub D) (grip : Gripped D Done) (m : ℕ)
+    (result : Result Made (Gripped D Done × Stranger)) → IsGiven s grip m result t → HubIsKept shows t
     → StaysSealed (read_of (configuration_of s)) (read_of (configuration_of t))
-given_sealed stands turns probes faults s t grip m (Ok made) is kept = back_sealed _ (hub_state_of s) (hub_state_of t) (at_moment (configuration_of s) m) (carried_by grip) grip.stage.told _ is.0.0 is.0.1 (formed_hub stands turns probes faults t kept)
-given_sealed stands turns probes faults s t grip m (Err refused) is kept = same_hub s t is.2
+given_sealed shows s t grip m (Ok made) is kept = back_sealed _ (hub_state_of s) (hub_state_of t) (at_moment (configuration_of s) m) (carried_by grip) grip.stage.told _ is.0.0 is.0.1 (formed_hub shows t kept)
+given_sealed shows s t grip m (Err refused) is kept = same_hub s t is.2
 
-pub probe_given_sealed : {D : Type 0} (stands turns probes faults : D → ℕ) (s t : OpenHub D) (grip : Gripped D Done)
-    (result : Result Made (Gripped D Done × Stranger)) → IsProbeGiven s grip result t → HubIsKept stands turns probes faults t
+pub probe_given_sealed : {D : Type 0} (shows : D → Shown) (s t : OpenHub D) (grip : Gripped D Done)
+    (result : Result Made (Gripped D Done × Stranger)) → IsProbeGiven s grip result t → HubIsKept shows t
     → StaysSealed (read_of (configuration_of s)) (read_of (configuration_of t))
-probe_given_sealed stands turns probes faults s t grip (Ok made) is kept = back_sealed _ (hub_state_of s) (hub_state_of t) (configuration_of s) (carried_by grip) grip.stage.told _ is.0.0 is.0.1 (formed_hub stands turns probes faults t kept)
-probe_given_sealed stands turns probes faults s t grip (Err refused) is kept = same_hub s t is.2
+probe_given_sealed shows s t grip (Ok made) is kept = back_sealed _ (hub_state_of s) (hub_state_of t) (configuration_of s) (carried_by grip) grip.stage.told _ is.0.0 is.0.1 (formed_hub shows t kept)
+probe_given_sealed shows s t grip (Err refused) is kept = same_hub s t is.2
 
 -- A probe goes out
 
@@ -285,12 +288,12 @@ get_beyond (suc n) zero (x ∷ xs) past = absurd (omega (arith, past))
 get_beyond (suc n) (suc k) (x ∷ xs) past = get_beyond n k xs (omega (arith, past))
 
 -- the items of the line that are sealed are those of the history's line that are final
-module _ {D : Type 0} {stands turns probes faults : D → ℕ} (h : Inside D) (s : OpenHub D) (seen : open_of h ≡ s) (k : IsWhole stands turns probes faults h) where
+module _ {D : Type 0} {shows : D → Shown} (h : Inside D) (s : OpenHub D) (seen : open_of h ≡ s) (k : IsWhole shows h) where
   abbrev final : List Item
   final = take (sealed_of s.setting (entries_of s.history)) (line_of s.setting (entries_of s.history))
 
   pub sealed_here : h.order.line.sealed ≡ sealed_of s.setting (entries_of s.history)
-  sealed_here = sealed_is _ _ _ h.order.line (read_whole h k) k.order.line_is k.order.sealed ∙ ap (λ (t : OpenHub D). sealed_of t.setting (entries_of t.history)) seen
+  sealed_here = sealed_is _ h.order.line (read_whole h k) k.order.line_is k.order.sealed ∙ ap (λ (t : OpenHub D). sealed_of t.setting (entries_of t.history)) seen
 
   items_here : items_of h.order.line.marks ≡ line_of s.setting (entries_of s.history)
   items_here = k.order.line_is.items ∙ ap (λ (t : OpenHub D). line_of t.setting (entries_of t.history)) seen

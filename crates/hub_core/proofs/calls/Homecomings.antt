@@ -8,6 +8,7 @@ use Rattle.device_gate.specs.declared.grips.Done.{Done}
 use Rattle.device_gate.specs.declared.slips.Slip.{Slip}
 use Rattle.device_gate.specs.declared.slips.Task.{Task}
 use Rattle.device_gate.specs.declared.slips.Told.{Told}
+use Rattle.device_states.specs.Devices.{Shown}
 use Rattle.history_book.proofs.Counts.{fell_is}
 use Rattle.history_book.proofs.HistoryReads.{MayTake, run_place}
 use Rattle.history_book.specs.Histories.{entries_made, entries_of, kept_by}
@@ -37,15 +38,15 @@ use Rattle.hub_core.specs.HubsKept.{FitsAtHome, HandsAre, HasRoomLeft, HubIsKept
 use Rattle.hub_core.specs.KeptByModel.{IsKeptByModel}
 use Rattle.hub_core.specs.KeptOrders.{OrderIsBeside}
 use Rattle.hub_core.specs.OpenHubs.{OpenHub, configuration_of, events_in, grip_in, held_in, hub_state_of, progress_at}
-use Rattle.window_order.specs.KeptOrders.{purpose_of}
+use Rattle.lock_leasing.specs.declared.purposes.Purpose.TheVariants.{Commands, Probes, Undoes}
+use Rattle.lock_leasing.specs.declared.purposes.Purpose.{Purpose}
 use Rattle.hub_core.specs.Steps.{after_give, at_moment, give_entries, with_entries, with_grip}
 use Rattle.hub_core.specs.declared.known.DeviceProgress.{DeviceProgress}
 use Rattle.hub_core.specs.declared.known.Events.{Events}
 use Rattle.hub_core.specs.declared.open_windows.OpenWindow.TheInside.{Inside}
-use Rattle.window_order.specs.declared.purposes.Purpose.{Purpose as KeptPurpose}
 use Rattle.legal_days.proofs.Lists.{count_cons}
 use Rattle.legal_days.specs.AccountedCalls.{told_calls, told_falls}
-use Rattle.lock_leasing.specs.Configurations.{Commands, Configuration, Grip, Grips, Probes, Purpose, Undoes, read_of}
+use Rattle.lock_leasing.specs.Configurations.{Configuration, Grip, Grips, read_of}
 use Rattle.std.proofs.Common.{ap, arith, inl, inr, refl, subst, sym, ◌∙◌}
 use Rattle.std.proofs.lemmas.Bool.{eq-eqb, lt-ltb, ne_eqb}
 use Rattle.std.proofs.lemmas.Grind.{common_steps}
@@ -107,14 +108,14 @@ count_back (p ∷ places) (suc d) device slip task at =
     omega (arith, now, before, rest)
 
 -- what the step back makes of its device and its history: what is kept of the configuration, where the device stands, and how its counts rose; all else is as before
-pub record ComesBack {D : Type 0} (stands turns probes faults : D → ℕ) (s : OpenHub D) (grip : Gripped D Done) (entries : List Entry) (t : ℕ) : Type 0 where
+pub record ComesBack {D : Type 0} (shows : D → Shown) (s : OpenHub D) (grip : Gripped D Done) (entries : List Entry) (t : ℕ) : Type 0 where
   pub configuration : IsKeptByModel (after_back s grip.slip entries t) s.rounds s.opened (put (held_in s) grip.slip.device.0 (held_back s grip))
   pub value : IsTrue (has_value (kind_at s.setting.kinds grip.slip.device.0) (held_back s grip))
-  pub stand : (read_of (after_back s grip.slip entries t)).up grip.slip.device.0 ≡ true → stands grip.device ≡ held_back s grip
-  pub turns_rose : turns grip.device + told_calls s.setting.runs (entries_of s.history) grip.slip.device.0 ≡ grip.slip.turns + told_calls s.setting.runs (entries_of (after_back s grip.slip entries t).history) grip.slip.device.0
-  pub probes_rose : probes grip.device ≡ grip.slip.probes + probed grip.task
-  pub falls_told : told_falls (entries_of (after_back s grip.slip entries t).history) grip.slip.device.0 + grip.slip.faults ≤ faults grip.device + told_falls (entries_of s.history) grip.slip.device.0
-  pub few_faults : faults grip.device + told_falls (entries_of s.history) grip.slip.device.0 ≤ grip.slip.faults + probed grip.task + told_falls (entries_of (after_back s grip.slip entries t).history) grip.slip.device.0
+  pub stand : (read_of (after_back s grip.slip entries t)).up grip.slip.device.0 ≡ true → (shows grip.device).stands ≡ held_back s grip
+  pub turns_rose : (shows grip.device).turns + told_calls s.setting.runs (entries_of s.history) grip.slip.device.0 ≡ grip.slip.turns + told_calls s.setting.runs (entries_of (after_back s grip.slip entries t).history) grip.slip.device.0
+  pub probes_rose : (shows grip.device).probes ≡ grip.slip.probes + probed grip.task
+  pub falls_told : told_falls (entries_of (after_back s grip.slip entries t).history) grip.slip.device.0 + grip.slip.faults ≤ (shows grip.device).faults + told_falls (entries_of s.history) grip.slip.device.0
+  pub few_faults : (shows grip.device).faults + told_falls (entries_of s.history) grip.slip.device.0 ≤ grip.slip.faults + probed grip.task + told_falls (entries_of (after_back s grip.slip entries t).history) grip.slip.device.0
   pub counted : events_after grip.task grip.stage.told (progress_at s.devices grip.slip.device.0).events ≡ events_in (read_of (after_back s grip.slip entries t)) grip.slip.device.0
   pub calls_other : (e : ℕ) → e ≢ grip.slip.device.0 → told_calls s.setting.runs (entries_of (after_back s grip.slip entries t).history) e ≡ told_calls s.setting.runs (entries_of s.history) e
   pub falls_other : (e : ℕ) → e ≢ grip.slip.device.0 → told_falls (entries_of (after_back s grip.slip entries t).history) e ≡ told_falls (entries_of s.history) e
@@ -124,17 +125,17 @@ pub record ComesBack {D : Type 0} (stands turns probes faults : D → ℕ) (s : 
   -- a run's step tells something
   pub ticket : one_for (nat_lt 0 grip.slip.maker) ≤ length entries
 
-back_kept : {D : Type 0} (stands turns probes faults : D → ℕ) (s : OpenHub D) (grip : Gripped D Done) (entries : List Entry) (t : ℕ)
-    → IsKept s.places grip.slip grip.task → grip.slip.device.0 < length s.devices → ComesBack stands turns probes faults s grip entries t
-    → HubIsKept stands turns probes faults s → HubIsKept stands turns probes faults (back s grip entries t)
-back_kept {D = D} stands turns probes faults s grip entries t at known back' kept =
+back_kept : {D : Type 0} (shows : D → Shown) (s : OpenHub D) (grip : Gripped D Done) (entries : List Entry) (t : ℕ)
+    → IsKept s.places grip.slip grip.task → grip.slip.device.0 < length s.devices → ComesBack shows s grip entries t
+    → HubIsKept shows s → HubIsKept shows (back s grip entries t)
+back_kept {D = D} shows s grip entries t at known back' kept =
     record {
       configuration = now;
       devices_size = length-set s.devices d known_now ∙ kept.devices_size;
       places_size = length-set s.places d (Home grip.device) ∙ kept.places_size;
       home = λ e other there. elim (get_set s.places d e (Home grip.device) within) [
         | inl p ↦ subst (λ (x : Place D). IsFitting e x) (same_Some (Home grip.device) (Home other) (sym p.1 ∙ there)) (subst (λ x. IsFitting x (Home grip.device)) (sym p.0) comes)
-        | inr q ↦ other_home stands turns probes faults s after.history t _ _ _ e other (device_there s.devices d e known_now q.0) (back'.calls_other e q.0) (back'.falls_other e q.0) (back'.up_other e q.0) (kept.home e other (sym q.1 ∙ there))
+        | inr q ↦ other_home shows s after.history t _ _ _ e other (device_there s.devices d e known_now q.0) (back'.calls_other e q.0) (back'.falls_other e q.0) (back'.up_other e q.0) (kept.home e other (sym q.1 ∙ there))
       ];
       out = λ e other does there. elim (get_set s.places d e (Home grip.device) within) [
         | inl p ↦ absurd (let both : Some (Home grip.device) ≡ Some (Out other does) = sym p.1 ∙ there in cc)
@@ -173,7 +174,7 @@ back_kept {D = D} stands turns probes faults s grip entries t at known back' kep
     here = device_here s.devices d known_now known
 
     IsFitting : ℕ → Place D → Type 0
-    IsFitting e (Home x) = FitsAtHome stands turns probes faults after e x
+    IsFitting e (Home x) = FitsAtHome shows after e x
     IsFitting e (Out x y) = ⊤
 
     now : IsKeptByModel (configuration_of after) s.rounds s.opened (held_in after)
@@ -181,7 +182,7 @@ back_kept {D = D} stands turns probes faults s grip entries t at known back' kep
         subst (λ (c : Configuration). IsKeptByModel c s.rounds s.opened (held_in after)) (sym (back_configuration s grip entries t within known))
         (subst (λ h. IsKeptByModel (after_back s grip.slip entries t) s.rounds s.opened h) (sym (known_set (λ (p : DeviceProgress). p.held) s.devices d known_now known)) back'.configuration)
 
-    comes : FitsAtHome stands turns probes faults after d grip.device
+    comes : FitsAtHome shows after d grip.device
     comes =
         let fits = kept.out d grip.slip grip.task at in
         record {
@@ -189,28 +190,28 @@ back_kept {D = D} stands turns probes faults s grip entries t at known back' kep
           turns_are =
               let had : grip.slip.turns ≡ (progress_at s.devices d).at_opening.turns + told_calls s.setting.runs (entries_of s.history) d = fits.turns_are in
               let same : (progress_at after.devices d).at_opening.turns ≡ (progress_at s.devices d).at_opening.turns = ap (λ (p : DeviceProgress). p.at_opening.turns) here in
-              let rose : turns grip.device + told_calls s.setting.runs (entries_of s.history) d ≡ grip.slip.turns + told_calls s.setting.runs (entries_of after.history) d = back'.turns_rose in
+              let rose : (shows grip.device).turns + told_calls s.setting.runs (entries_of s.history) d ≡ grip.slip.turns + told_calls s.setting.runs (entries_of after.history) d = back'.turns_rose in
               omega (arith, rose, had, same);
           probes_are = back'.probes_rose ∙ fits.probes_are ∙ ap (λ (p : DeviceProgress). p.at_opening.probes + (s.rounds - p.probes_left)) (sym here);
-          falls_told = subst (λ (p : DeviceProgress). p.at_opening.faults + told_falls (entries_of after.history) d ≤ faults grip.device) (sym here)
+          falls_told = subst (λ (p : DeviceProgress). p.at_opening.faults + told_falls (entries_of after.history) d ≤ (shows grip.device).faults) (sym here)
               (let had : (progress_at s.devices d).at_opening.faults + told_falls (entries_of s.history) d ≤ grip.slip.faults = fits.falls_told in
-              let rose : told_falls (entries_of after.history) d + grip.slip.faults ≤ faults grip.device + told_falls (entries_of s.history) d = back'.falls_told in
+              let rose : told_falls (entries_of after.history) d + grip.slip.faults ≤ (shows grip.device).faults + told_falls (entries_of s.history) d = back'.falls_told in
               omega (arith, had, rose));
-          few_faults = subst (λ (p : DeviceProgress). faults grip.device ≤ p.at_opening.faults + told_falls (entries_of after.history) d + (s.rounds - p.probes_left)) (sym here)
+          few_faults = subst (λ (p : DeviceProgress). (shows grip.device).faults ≤ p.at_opening.faults + told_falls (entries_of after.history) d + (s.rounds - p.probes_left)) (sym here)
               (let had : grip.slip.faults + probed grip.task ≤ (progress_at s.devices d).at_opening.faults + told_falls (entries_of s.history) d + (s.rounds - (progress_at s.devices d).probes_left) = fits.few_faults in
-              let rose : faults grip.device + told_falls (entries_of s.history) d ≤ grip.slip.faults + probed grip.task + told_falls (entries_of after.history) d = back'.few_faults in
+              let rose : (shows grip.device).faults + told_falls (entries_of s.history) d ≤ grip.slip.faults + probed grip.task + told_falls (entries_of after.history) d = back'.few_faults in
               omega (arith, had, rose));
         }
 
 -- What it told
 
 -- another device is not out for the same run
-other_maker : {D : Type 0} (stands turns probes faults : D → ℕ) (s : OpenHub D) (slip : Slip) (task : Task) (purpose : Purpose) (e : ℕ) (other : Slip)
-    (does : Task) → HubIsKept stands turns probes faults s → IsFor s slip task purpose → is_of_run purpose ≡ true → e ≢ slip.device.0
+other_maker : {D : Type 0} (shows : D → Shown) (s : OpenHub D) (slip : Slip) (task : Task) (purpose : Purpose) (e : ℕ) (other : Slip)
+    (does : Task) → HubIsKept shows s → IsFor s slip task purpose → is_of_run purpose ≡ true → e ≢ slip.device.0
     → slice_get s.places e ≡ Some (Out other does) → other.maker ≢ slip.maker
-other_maker stands turns probes faults s slip task purpose e other does kept for of_run apart there same =
-    apart (kept.configuration.grips.runs.one e slip.device.0 (slip.maker - 1) (purpose_of (progress_at s.devices e).purpose) purpose
-    (ap (λ o. grip_in o (progress_at s.devices e).purpose) there ∙ ap (λ m. Some (record { maker = m; purpose = purpose_of (progress_at s.devices e).purpose })) (same ∙ first))
+other_maker shows s slip task purpose e other does kept for of_run apart there same =
+    apart (kept.configuration.grips.runs.one e slip.device.0 (slip.maker - 1) (progress_at s.devices e).purpose purpose
+    (ap (λ o. grip_in o (progress_at s.devices e).purpose) there ∙ ap (λ m. Some (record { maker = m; purpose = (progress_at s.devices e).purpose })) (same ∙ first))
     (for.grip ∙ ap (λ m. Some (record { maker = m; purpose = purpose })) first))
   where
     first : slip.maker ≡ suc (slip.maker - 1)
@@ -227,10 +228,10 @@ turned_is false true e = λ i. record { fell = plus_none e.fell i; rose = plus_n
 turned_is false false e = λ i. record { fell = plus_none e.fell i; rose = e.rose + 1 }
 
 -- where the call lived the device is as the task leaves it; where it died it is counted down
-pub comes_back : {D : Type 0} (stands turns probes faults : D → ℕ) (s : OpenHub D) (grip : Gripped D Done) (purpose : Purpose) (t tag : ℕ)
-    → IsFor s grip.slip grip.task purpose → WasCalled grip.stage.told grip.task grip.slip tag (stands grip.device) (turns grip.device) (probes grip.device) (faults grip.device) → s.moment ≤ t
-    → HubIsKept stands turns probes faults s → ComesBack stands turns probes faults s grip (entries_for s grip purpose) t
-comes_back {D = D} stands turns probes faults s grip purpose t tag for called later kept =
+pub comes_back : {D : Type 0} (shows : D → Shown) (s : OpenHub D) (grip : Gripped D Done) (purpose : Purpose) (t : ℕ)
+    → IsFor s grip.slip grip.task purpose → WasCalled grip.stage.told grip.task grip.slip (shows grip.device) → s.moment ≤ t
+    → HubIsKept shows s → ComesBack shows s grip (entries_for s grip purpose) t
+comes_back {D = D} shows s grip purpose t for called later kept =
     record {
       configuration =
           given_kept (configuration_of s) s.rounds s.opened (held_in s) d t (held_back s grip) out told for.grip
@@ -239,7 +240,7 @@ comes_back {D = D} stands turns probes faults s grip purpose t tag for called la
       value = fits;
       stand = by_told (has_died told) refl;
       turns_rose =
-          let rose : turns grip.device ≡ grip.slip.turns + calls_told purpose told = called.turns_rose ∙ ap (λ k. grip.slip.turns + (if has_died told then 0 else k)) for.calls in
+          let rose : (shows grip.device).turns ≡ grip.slip.turns + calls_told purpose told = called.turns_rose ∙ ap (λ k. grip.slip.turns + (if has_died told then 0 else k)) for.calls in
           omega (arith, rose, told_here);
       probes_rose = called.probes_rose;
       falls_told = let most = falls_most (is_up_for purpose) (has_died told) in omega (arith, called.faults_rose, falls_here, most);
@@ -249,7 +250,7 @@ comes_back {D = D} stands turns probes faults s grip purpose t tag for called la
       falls_other = falls_other;
       events_other = λ e other. events_same s.setting (entries_of s.history) (entries_of after.history) e (falls_other e other) (ap (λ c. c.1) (give_counted (configuration_of s) d e out told for.on other));
       up_other = λ e other. ap (λ c. c.0) (give_counted (configuration_of s) d e out told for.on other);
-      register = λ e x does other there. sym (give_registers (configuration_of s) d x.maker out told (λ of_run. other_maker stands turns probes faults s grip.slip grip.task purpose e x does kept for of_run other there));
+      register = λ e x does other there. sym (give_registers (configuration_of s) d x.maker out told (λ of_run. other_maker shows s grip.slip grip.task purpose e x does kept for of_run other there));
       ticket = subst (λ b. one_for b ≤ length (entries_for s grip purpose)) for.maker (some_entry s grip purpose);
     }
   where
@@ -275,10 +276,10 @@ comes_back {D = D} stands turns probes faults s grip purpose t tag for called la
         by_death true = kept.values d for.below
         by_death false = for.value
 
-    by_told : (b : Bool) → has_died told ≡ b → (read_of after).up d ≡ true → stands grip.device ≡ held_back s grip
+    by_told : (b : Bool) → has_died told ≡ b → (read_of after).up d ≡ true → (shows grip.device).stands ≡ held_back s grip
     by_told true died up = absurd (let both : true ≡ false = sym up ∙ give_down (configuration_of s) d out told for.on died in cc)
     by_told false lives up =
-        subst (λ b. IfSome (if b then None else Some (value_after grip.task grip.slip.stood)) (λ v. stands grip.device ≡ v)) lives called.stands_there
+        subst (λ b. IfSome (if b then None else Some (value_after grip.task grip.slip.stood)) (λ v. (shows grip.device).stands ≡ v)) lives called.stands_there
         ∙ value_same grip.task grip.slip.stood (held_in s d) for.stood ∙ sym (ap (λ b. if b then held_in s d else value_after grip.task (held_in s d)) lives)
 
     -- what is more of this device alone
@@ -316,15 +317,15 @@ comes_back {D = D} stands turns probes faults s grip purpose t tag for called la
 -- The parts of the hub to which it comes back
 
 -- what is known of the grip, and of its device
-pub record IsReturned {D : Type 0} (stands turns probes faults : D → ℕ) (h : Inside D) (why : KeptPurpose) (tag : ℕ) (grip : Gripped D Done) : Type 0 where
+pub record IsReturned {D : Type 0} (shows : D → Shown) (h : Inside D) (why : Purpose) (grip : Gripped D Done) : Type 0 where
   pub there : IsKept h.away.gate.places grip.slip grip.task
   pub purpose : (progress_at h.away.known.items grip.slip.device.0).purpose ≡ why
-  pub called : WasCalled grip.stage.told grip.task grip.slip tag (stands grip.device) (turns grip.device) (probes grip.device) (faults grip.device)
+  pub called : WasCalled grip.stage.told grip.task grip.slip (shows grip.device)
 
 -- .. also where it is told of what the hub shows
-pub grip_back : {D : Type 0} {stands turns probes faults : D → ℕ} (h : Inside D) (s : OpenHub D) (why : KeptPurpose) (tag : ℕ) (grip : Gripped D Done) → open_of h ≡ s → IsKept s.places grip.slip grip.task → (progress_at s.devices grip.slip.device.0).purpose ≡ why
-    → WasCalled grip.stage.told grip.task grip.slip tag (stands grip.device) (turns grip.device) (probes grip.device) (faults grip.device) → IsReturned stands turns probes faults h why tag grip
-grip_back {D = D} h s why tag grip seen there for called =
+pub grip_back : {D : Type 0} {shows : D → Shown} (h : Inside D) (s : OpenHub D) (why : Purpose) (grip : Gripped D Done) → open_of h ≡ s → IsKept s.places grip.slip grip.task → (progress_at s.devices grip.slip.device.0).purpose ≡ why
+    → WasCalled grip.stage.told grip.task grip.slip (shows grip.device) → IsReturned shows h why grip
+grip_back {D = D} h s why grip seen there for called =
     record {
       there = ap (λ (x : OpenHub D). slice_get x.places grip.slip.device.0) seen ∙ there;
       purpose = ap (λ (x : OpenHub D). (progress_at x.devices grip.slip.device.0).purpose) seen ∙ for;
@@ -332,30 +333,29 @@ grip_back {D = D} h s why tag grip seen there for called =
     }
 
 -- for what it was out
-pub returned_for : {D : Type 0} {stands turns probes faults : D → ℕ} (h : Inside D) (why : KeptPurpose) (tag : ℕ) (grip : Gripped D Done) → IsReturned stands turns probes faults h why tag grip → IsWhole stands turns probes faults h → IsFor (open_of h) grip.slip grip.task (purpose_of why)
-returned_for h why tag grip returned k = out_for _ _ _ _ (open_of h) grip.slip grip.task why k.shown returned.there returned.purpose
+pub returned_for : {D : Type 0} {shows : D → Shown} (h : Inside D) (why : Purpose) (grip : Gripped D Done) → IsReturned shows h why grip → IsWhole shows h → IsFor (open_of h) grip.slip grip.task why
+returned_for h why grip returned k = out_for _ (open_of h) grip.slip grip.task why k.shown returned.there returned.purpose
 
 -- the entries that its step back makes
-abbrev pub returned_entries : {D : Type 0} → OpenHub D → Gripped D Done → KeptPurpose → List Entry
-returned_entries s grip why = entries_for s grip (purpose_of why)
+abbrev pub returned_entries : {D : Type 0} → OpenHub D → Gripped D Done → Purpose → List Entry
+returned_entries s grip why = entries_for s grip why
 
 -- how its device comes back, at the last moment or a later one
-pub returned_comes : {D : Type 0} {stands turns probes faults : D → ℕ} (h : Inside D) (t : ℕ) (why : KeptPurpose) (tag : ℕ) (grip : Gripped D Done) → IsReturned stands turns probes faults h why tag grip → h.moment ≤ t → IsWhole stands turns probes faults h
-    → ComesBack stands turns probes faults (open_of h) grip (returned_entries (open_of h) grip why) t
-returned_comes h t why tag grip returned later k = comes_back _ _ _ _ (open_of h) grip (purpose_of why) t tag (returned_for h why tag grip returned k) returned.called later k.shown
+pub returned_comes : {D : Type 0} {shows : D → Shown} (h : Inside D) (t : ℕ) (why : Purpose) (grip : Gripped D Done) → IsReturned shows h why grip → h.moment ≤ t → IsWhole shows h
+    → ComesBack shows (open_of h) grip (returned_entries (open_of h) grip why) t
+returned_comes h t why grip returned later k = comes_back _ (open_of h) grip why t (returned_for h why grip returned k) returned.called later k.shown
 
 -- its entries may be appended
-pub takes_back : {D : Type 0} {stands turns probes faults : D → ℕ} (h : Inside D) (why : KeptPurpose) (tag : ℕ) (grip : Gripped D Done) → IsReturned stands
-    turns probes faults h why tag grip → IsWhole stands turns probes faults h → MayTake h.history grip.slip.maker (returned_entries (open_of h) grip why)
-takes_back h why tag grip returned k = (returned_comes h h.moment why tag grip returned (omega arith) k).configuration.history.well_formed
+pub takes_back : {D : Type 0} {shows : D → Shown} (h : Inside D) (why : Purpose) (grip : Gripped D Done) → IsReturned shows h why grip → IsWhole shows h → MayTake h.history grip.slip.maker (returned_entries (open_of h) grip why)
+takes_back h why grip returned k = (returned_comes h h.moment why grip returned (omega arith) k).configuration.history.well_formed
 
 -- it may
-pub may_come : {D : Type 0} {stands turns probes faults : D → ℕ} (h : Inside D) (s : OpenHub D) (grip : Gripped D Done) → open_of h ≡ s → IsKept s.places grip.slip grip.task → IsWhole stands turns probes faults h → MayComeHome h.away grip
+pub may_come : {D : Type 0} {shows : D → Shown} (h : Inside D) (s : OpenHub D) (grip : Gripped D Done) → open_of h ≡ s → IsKept s.places grip.slip grip.task → IsWhole shows h → MayComeHome h.away grip
 may_come {D = D} h s grip seen kept k =
     record {
       kept = there;
       known = omega (arith, for.below, k.shown.devices_size);
-      maker = by_maker (is_of_run (purpose_of why)) refl;
+      maker = by_maker (is_of_run why) refl;
       few_fell = let counted = ap (λ (e : Events). e.fell) (k.shown.events d for.below) in omega (arith, counted, few, rounds);
       few_rose = let counted = ap (λ (e : Events). e.rose) (k.shown.events d for.below) in omega (arith, counted, few, rounds);
     }
@@ -366,11 +366,11 @@ may_come {D = D} h s grip seen kept k =
     there : IsKept h.away.gate.places grip.slip grip.task
     there = ap (λ (x : OpenHub D). slice_get x.places d) seen ∙ kept
 
-    why : KeptPurpose
+    why : Purpose
     why = (progress_at h.away.known.items d).purpose
 
-    for : IsFor (open_of h) grip.slip grip.task (purpose_of why)
-    for = out_for _ _ _ _ (open_of h) grip.slip grip.task why k.shown there refl
+    for : IsFor (open_of h) grip.slip grip.task why
+    for = out_for _ (open_of h) grip.slip grip.task why k.shown there refl
 
     few : (read_in h.history).fell d + (read_in h.history).rose d ≤ 2 * h.rounds + 1
     few = few_events (configuration_of (open_of h)) h.rounds h.opened (held_in (open_of h)) d k.shown.configuration
@@ -378,16 +378,15 @@ may_come {D = D} h s grip seen kept k =
     rounds : h.rounds ≤ 100
     rounds = k.shown.configuration.opens.few_rounds
 
-    by_maker : (b : Bool) → is_of_run (purpose_of why) ≡ b → grip.slip.maker ≤ length h.away.hands.items
+    by_maker : (b : Bool) → is_of_run why ≡ b → grip.slip.maker ≤ length h.away.hands.items
     by_maker true of_run = let place = run_place h.history.setting.runs grip.slip.maker (for.run of_run) in omega (arith, place.0, place.1, k.hands.size)
     by_maker false none = let detector : nat_lt 0 grip.slip.maker ≡ false = sym for.maker ∙ none in let zero' : grip.slip.maker ≡ 0 = grind (arith, common_steps) in omega (arith, zero')
 
 -- the history has a place for each entry
-pub returned_places : {D : Type 0} {stands turns probes faults : D → ℕ} (h : Inside D) (why : KeptPurpose) (tag : ℕ) (grip : Gripped D Done) → IsReturned stands
-    turns probes faults h why tag grip → IsWhole stands turns probes faults h → length (returned_entries (open_of h) grip why) ≤ h.history.spare
-returned_places h why tag grip returned k =
+pub returned_places : {D : Type 0} {shows : D → Shown} (h : Inside D) (why : Purpose) (grip : Gripped D Done) → IsReturned shows h why grip → IsWhole shows h → length (returned_entries (open_of h) grip why) ≤ h.history.spare
+returned_places h why grip returned k =
     let entries = returned_entries (open_of h) grip why in
-    let comes = returned_comes h h.moment why tag grip returned (omega arith) k in
+    let comes = returned_comes h h.moment why grip returned (omega arith) k in
     let fits : length (h.history.history ++ kept_by grip.slip.maker entries)
     ≤ most_entries (length h.history.setting.runs) (length h.history.setting.first) h.rounds = history_fits (after_back (open_of h) grip.slip entries h.moment)
     h.rounds h.opened (put (held_in (open_of h)) grip.slip.device.0 (held_back (open_of h) grip)) comes.configuration in
@@ -401,15 +400,15 @@ pub record IsHome {D : Type 0} (h t : Inside D) (grip : Gripped D Done) : Type 0
   pub new : t ≡ record h { history = t.history; moment = t.moment; away = t.away; order = t.order }
 
 -- what is known of a grip that came back, of what became of the parts, and of the entries that its step makes
-pub record CameHome {D : Type 0} (stands turns probes faults : D → ℕ) (h t : Inside D) (why : KeptPurpose) (tag : ℕ) (grip : Gripped D Done) (entries : List Entry) : Type 0 where
-  pub returned : IsReturned stands turns probes faults h why tag grip
+pub record CameHome {D : Type 0} (shows : D → Shown) (h t : Inside D) (why : Purpose) (grip : Gripped D Done) (entries : List Entry) : Type 0 where
+  pub returned : IsReturned shows h why grip
   pub parts : IsHome h t grip
   pub gives : returned_entries (open_of h) grip why ≡ entries
   pub history_is : t.history ≡ with_more h.history grip.slip.maker entries
 
 -- the hub shows it
-came_shows : {D : Type 0} {stands turns probes faults : D → ℕ} (h t : Inside D) (why : KeptPurpose) (tag : ℕ) (grip : Gripped D Done) (entries : List Entry) → CameHome stands turns probes faults h t why tag grip entries → open_of t ≡ back (open_of h) grip entries t.moment
-came_shows {D = D} h t why tag grip entries came =
+came_shows : {D : Type 0} {shows : D → Shown} (h t : Inside D) (why : Purpose) (grip : Gripped D Done) (entries : List Entry) → CameHome shows h t why grip entries → open_of t ≡ back (open_of h) grip entries t.moment
+came_shows {D = D} h t why grip entries came =
     ap (λ (x : Inside D). open_of x) came.parts.new ∙ λ i. record {
       setting = (came.history_is i).setting;
       rounds = h.rounds;
@@ -421,29 +420,29 @@ came_shows {D = D} h t why tag grip entries came =
       tickets = came.parts.home.tickets i;
     }
 
-came_within : {D : Type 0} {stands turns probes faults : D → ℕ} (h t : Inside D) (why : KeptPurpose) (tag : ℕ) (grip : Gripped D Done) (entries : List Entry)
-    → CameHome stands turns probes faults h t why tag grip entries → IsWhole stands turns probes faults h
+came_within : {D : Type 0} {shows : D → Shown} (h t : Inside D) (why : Purpose) (grip : Gripped D Done) (entries : List Entry)
+    → CameHome shows h t why grip entries → IsWhole shows h
     → (grip.slip.device.0 < length h.away.gate.places) × (grip.slip.device.0 < length h.away.known.items)
-came_within h t why tag grip entries came k =
-    let for = returned_for h why tag grip came.returned k in
+came_within h t why grip entries came k =
+    let for = returned_for h why grip came.returned k in
     (omega (arith, for.below, k.shown.places_size), omega (arith, for.below, k.shown.devices_size))
 
 -- the grips then
-came_grips : {D : Type 0} {stands turns probes faults : D → ℕ} (h t : Inside D) (why : KeptPurpose) (tag : ℕ) (grip : Gripped D Done) (entries : List Entry) → CameHome stands turns probes faults h t why tag grip entries → IsWhole stands turns probes faults h
+came_grips : {D : Type 0} {shows : D → Shown} (h t : Inside D) (why : Purpose) (grip : Gripped D Done) (entries : List Entry) → CameHome shows h t why grip entries → IsWhole shows h
     → ◌≡◌ {A = Grips} (configuration_of (open_of t)).grips (put (configuration_of (open_of h)).grips grip.slip.device.0 None)
-came_grips {D = D} h t why tag grip entries came k =
-    let within = came_within h t why tag grip entries came k in
-    ap (λ (x : OpenHub D). (configuration_of x).grips) (came_shows h t why tag grip entries came)
+came_grips {D = D} h t why grip entries came k =
+    let within = came_within h t why grip entries came k in
+    ap (λ (x : OpenHub D). (configuration_of x).grips) (came_shows h t why grip entries came)
     ∙ ap (λ (c : Configuration). c.grips) (back_configuration (open_of h) grip entries t.moment within.0 within.1)
 
 -- what is kept is kept then, where line and table are
-pub came_whole : {D : Type 0} {stands turns probes faults : D → ℕ} (h t : Inside D) (why : KeptPurpose) (tag : ℕ) (grip : Gripped D Done) (entries : List Entry) → CameHome stands turns probes faults h t why tag grip entries
+pub came_whole : {D : Type 0} {shows : D → Shown} (h t : Inside D) (why : Purpose) (grip : Gripped D Done) (entries : List Entry) → CameHome shows h t why grip entries
     → (IsWellFormed t.history.setting (entries_of t.history.history) → (configuration_of (open_of t)).grips ≡ put (configuration_of (open_of h)).grips
     grip.slip.device.0 None → OrderIsBeside h.rounds t.history (configuration_of (open_of t)).grips t.order.line t.order.table)
-    → IsWhole stands turns probes faults h → IsWhole stands turns probes faults t
-came_whole {D = D} {stands = stands} {turns = turns} {probes = probes} {faults = faults} h t why tag grip entries came order k =
-    subst (λ (x : Inside D). IsWhole stands turns probes faults x) (sym came.parts.new) (record {
-      shown = subst (λ (x : Inside D). HubIsKept stands turns probes faults (open_of x)) came.parts.new shown;
+    → IsWhole shows h → IsWhole shows t
+came_whole {D = D} {shows = shows} h t why grip entries came order k =
+    subst (λ (x : Inside D). IsWhole shows x) (sym came.parts.new) (record {
+      shown = subst (λ (x : Inside D). HubIsKept shows (open_of x)) came.parts.new shown;
       room = room;
       order = subst (λ (x : Inside D). OrderIsBeside h.rounds t.history (configuration_of (open_of x)).grips t.order.line t.order.table) came.parts.new (order shown.configuration.history.well_formed grips);
       hands = subst (λ (x : Inside D). HandsAre t.history.setting (configuration_of (open_of x)).grips t.away.hands.items) came.parts.new
@@ -454,26 +453,26 @@ came_whole {D = D} {stands = stands} {turns = turns} {probes = probes} {faults =
     d : ℕ
     d = grip.slip.device.0
 
-    for : IsFor (open_of h) grip.slip grip.task (purpose_of why)
-    for = returned_for h why tag grip came.returned k
+    for : IsFor (open_of h) grip.slip grip.task why
+    for = returned_for h why grip came.returned k
 
     grips : ◌≡◌ {A = Grips} (configuration_of (open_of t)).grips (put (configuration_of (open_of h)).grips d None)
-    grips = came_grips h t why tag grip entries came k
+    grips = came_grips h t why grip entries came k
 
-    comes : ComesBack stands turns probes faults (open_of h) grip entries t.moment
-    comes = subst (λ es. ComesBack stands turns probes faults (open_of h) grip es t.moment) came.gives (returned_comes h t.moment why tag grip came.returned came.parts.later k)
+    comes : ComesBack shows (open_of h) grip entries t.moment
+    comes = subst (λ es. ComesBack shows (open_of h) grip es t.moment) came.gives (returned_comes h t.moment why grip came.returned came.parts.later k)
 
-    shown : HubIsKept stands turns probes faults (open_of t)
-    shown = subst (λ (x : OpenHub D). HubIsKept stands turns probes faults x) (sym (came_shows h t why tag grip entries came))
-        (back_kept stands turns probes faults (open_of h) grip entries t.moment came.returned.there (came_within h t why tag grip entries came k).1 comes k.shown)
+    shown : HubIsKept shows (open_of t)
+    shown = subst (λ (x : OpenHub D). HubIsKept shows x) (sym (came_shows h t why grip entries came))
+        (back_kept shows (open_of h) grip entries t.moment came.returned.there (came_within h t why grip entries came k).1 comes k.shown)
 
     hands : HandsAre h.history.setting (put (configuration_of (open_of h)).grips d None) (with_hand h.away.hands.items grip.slip.maker None)
-    hands = hands_come h.history.setting (read_in h.history) (configuration_of (open_of h)).grips grip.slip.maker d (purpose_of why) h.away.hands.items (λ some. for.run (for.maker ∙ some)) for.grip k.shown.configuration.grips k.hands
+    hands = hands_come h.history.setting (read_in h.history) (configuration_of (open_of h)).grips grip.slip.maker d why h.away.hands.items (λ some. for.run (for.maker ∙ some)) for.grip k.shown.configuration.grips k.hands
 
     room : HasRoomLeft h.rounds t.history h.closing
     room = subst (λ x. HasRoomLeft h.rounds x h.closing) (sym came.history_is) (record {
       history =
-          let fits : length entries ≤ h.history.spare = subst (λ es. length es ≤ h.history.spare) came.gives (returned_places h why tag grip came.returned k) in
+          let fits : length entries ≤ h.history.spare = subst (λ es. length es ≤ h.history.spare) came.gives (returned_places h why grip came.returned k) in
           let long = length_with h.history.history grip.slip.maker entries in
           omega (arith, long, k.room.history, fits);
       order = k.room.order;
@@ -491,23 +490,23 @@ taken_in : (s : HubState) (c : Configuration) (told : Carried) (grip : Grip) (re
 taken_in s c told grip result out = rw out refl
 
 -- what the hub answers, and what it shows then
-came_gives : {D : Type 0} {stands turns probes faults : D → ℕ} (h t : Inside D) (why : KeptPurpose) (tag : ℕ) (grip : Gripped D Done) (entries : List Entry) → CameHome stands turns probes faults h t why tag grip entries → IsWhole stands turns probes faults h
+came_gives : {D : Type 0} {shows : D → Shown} (h t : Inside D) (why : Purpose) (grip : Gripped D Done) (entries : List Entry) → CameHome shows h t why grip entries → IsWhole shows h
     → give_if true (hub_state_of (open_of h)) (record (configuration_of (open_of h)) { moment = t.moment }) (carried_by grip) grip.stage.told ≡ record { answer = Gave entries; next = hub_state_of (open_of t) }
-came_gives {D = D} h t why tag grip entries came k =
+came_gives {D = D} h t why grip entries came k =
     let s = open_of h in
-    let within = came_within h t why tag grip entries came k in
-    taken_in (hub_state_of s) (record (configuration_of s) { moment = t.moment }) (carried_by grip) (record { maker = grip.slip.maker; purpose = purpose_of why }) grip.stage.told (returned_for h why tag grip came.returned k).grip
+    let within = came_within h t why grip entries came k in
+    taken_in (hub_state_of s) (record (configuration_of s) { moment = t.moment }) (carried_by grip) (record { maker = grip.slip.maker; purpose = why }) grip.stage.told (returned_for h why grip came.returned k).grip
     ∙ (λ i. record { answer = Gave (came.gives i); next = record { configuration = after_back s grip.slip (came.gives i) t.moment; carried = put (hub_state_of s).carried grip.slip.device.0 None } })
-    ∙ ap (λ x. record { answer = Gave entries; next = x }) (sym (ap (λ (x : OpenHub D). hub_state_of x) (came_shows h t why tag grip entries came) ∙ back_state s grip entries t.moment within.0 within.1))
+    ∙ ap (λ x. record { answer = Gave entries; next = x }) (sym (ap (λ (x : OpenHub D). hub_state_of x) (came_shows h t why grip entries came) ∙ back_state s grip entries t.moment within.0 within.1))
 
 -- in the same window
-came_window : {D : Type 0} {stands turns probes faults : D → ℕ} (h t : Inside D) (why : KeptPurpose) (tag : ℕ) (grip : Gripped D Done) (entries : List Entry) → CameHome stands turns probes faults h t why tag grip entries → IsWhole stands turns probes faults h → SameWindow (open_of h) (open_of t)
-came_window {D = D} h t why tag grip entries came k =
-    subst (λ (x : OpenHub D). SameWindow (open_of h) x) (sym (came_shows h t why tag grip entries came)) (record {
+came_window : {D : Type 0} {shows : D → Shown} (h t : Inside D) (why : Purpose) (grip : Gripped D Done) (entries : List Entry) → CameHome shows h t why grip entries → IsWhole shows h → SameWindow (open_of h) (open_of t)
+came_window {D = D} h t why grip entries came k =
+    subst (λ (x : OpenHub D). SameWindow (open_of h) x) (sym (came_shows h t why grip entries came)) (record {
       setting = refl;
       rounds = refl;
       opened = refl;
-      at_opening = known_same (λ (p : DeviceProgress). p.at_opening) h.away.known.items grip.slip.device.0 (known_after grip.task grip.stage.told (progress_at h.away.known.items grip.slip.device.0)) (came_within h t why tag grip entries came k).1 refl;
+      at_opening = known_same (λ (p : DeviceProgress). p.at_opening) h.away.known.items grip.slip.device.0 (known_after grip.task grip.stage.told (progress_at h.away.known.items grip.slip.device.0)) (came_within h t why grip entries came k).1 refl;
     })
 
 -- the grip of a run is given
@@ -515,11 +514,11 @@ pub record CameBack {D : Type 0} (s t : OpenHub D) (grip : Gripped D Done) (m : 
   pub given : IsGiven s grip m (Ok made) t
   pub window : SameWindow s t
 
-pub back_given : {D : Type 0} {stands turns probes faults : D → ℕ} (h t : Inside D) (s₀ : OpenHub D) (m : ℕ) (why : KeptPurpose) (tag : ℕ)
+pub back_given : {D : Type 0} {shows : D → Shown} (h t : Inside D) (s₀ : OpenHub D) (m : ℕ) (why : Purpose)
     (grip : Gripped D Done) (entries : List Entry) (made : Made) → open_of h ≡ s₀ → 0 < grip.slip.maker → t.moment ≡ max h.moment m
-    → CameHome stands turns probes faults h t why tag grip entries → entries_made made ≡ entries → IsPacked made
-    → IsWhole stands turns probes faults h → CameBack s₀ (open_of t) grip m made
-back_given {D = D} h t s₀ m why tag grip entries made seen maker moment_is came made_is packed k =
+    → CameHome shows h t why grip entries → entries_made made ≡ entries → IsPacked made
+    → IsWhole shows h → CameBack s₀ (open_of t) grip m made
+back_given {D = D} h t s₀ m why grip entries made seen maker moment_is came made_is packed k =
     subst (λ (x : OpenHub D). CameBack x (open_of t) grip m made) seen (record {
       given = (
         (ap (λ x. Returned (Gave x)) made_is ∙ ap (λ (x : RunGiven). Returned x.answer) (sym gives), ap (λ (x : RunGiven). x.next) (sym gives)),
@@ -527,7 +526,7 @@ back_given {D = D} h t s₀ m why tag grip entries made seen maker moment_is cam
         came.parts.home.tickets,
         packed,
       );
-      window = came_window h t why tag grip entries came k;
+      window = came_window h t why grip entries came k;
     })
   where
     s : OpenHub D
@@ -538,18 +537,18 @@ back_given {D = D} h t s₀ m why tag grip entries made seen maker moment_is cam
         ap (λ b. give_if (b && nat_lt 0 grip.slip.maker) (hub_state_of s) (at_moment (configuration_of s) m) (carried_by grip) grip.stage.told) (kept_is s grip.slip grip.task came.returned.there)
         ∙ ap (λ b. give_if (true && b) (hub_state_of s) (at_moment (configuration_of s) m) (carried_by grip) grip.stage.told) (lt-ltb 0 grip.slip.maker maker)
         ∙ ap (λ x. give_if true (hub_state_of s) (record (configuration_of s) { moment = x }) (carried_by grip) grip.stage.told) (sym moment_is)
-        ∙ came_gives h t why tag grip entries came k
+        ∙ came_gives h t why grip entries came k
 
 -- the grip of the detector is given
 pub record ProbeBack {D : Type 0} (s t : OpenHub D) (grip : Gripped D Done) (made : Made) : Type 0 where
   pub given : IsProbeGiven s grip (Ok made) t
   pub window : SameWindow s t
 
-pub probe_given : {D : Type 0} {stands turns probes faults : D → ℕ} (h t : Inside D) (s₀ : OpenHub D) (why : KeptPurpose) (tag : ℕ) (grip : Gripped D Done)
+pub probe_given : {D : Type 0} {shows : D → Shown} (h t : Inside D) (s₀ : OpenHub D) (why : Purpose) (grip : Gripped D Done)
     (entries : List Entry) (made : Made) → open_of h ≡ s₀ → grip.slip.maker ≡ 0 → t.moment ≡ h.moment
-    → CameHome stands turns probes faults h t why tag grip entries → entries_made made ≡ entries → IsPacked made
-    → IsWhole stands turns probes faults h → ProbeBack s₀ (open_of t) grip made
-probe_given {D = D} h t s₀ why tag grip entries made seen maker moment_is came made_is packed k =
+    → CameHome shows h t why grip entries → entries_made made ≡ entries → IsPacked made
+    → IsWhole shows h → ProbeBack s₀ (open_of t) grip made
+probe_given {D = D} h t s₀ why grip entries made seen maker moment_is came made_is packed k =
     subst (λ (x : OpenHub D). ProbeBack x (open_of t) grip made) seen (record {
       given = (
         (ap (λ x. Returned (Gave x)) made_is ∙ ap (λ (x : RunGiven). Returned x.answer) (sym gives), ap (λ (x : RunGiven). x.next) (sym gives)),
@@ -557,7 +556,7 @@ probe_given {D = D} h t s₀ why tag grip entries made seen maker moment_is came
         came.parts.home.tickets,
         packed,
       );
-      window = came_window h t why tag grip entries came k;
+      window = came_window h t why grip entries came k;
     })
   where
     s : OpenHub D
@@ -568,4 +567,4 @@ probe_given {D = D} h t s₀ why tag grip entries made seen maker moment_is came
         ap (λ b. give_if (b && (grip.slip.maker == 0)) (hub_state_of s) (configuration_of s) (carried_by grip) grip.stage.told) (kept_is s grip.slip grip.task came.returned.there)
         ∙ ap (λ b. give_if (true && b) (hub_state_of s) (configuration_of s) (carried_by grip) grip.stage.told) (eq-eqb grip.slip.maker 0 maker)
         ∙ ap (λ x. give_if true (hub_state_of s) (record (configuration_of s) { moment = x }) (carried_by grip) grip.stage.told) (sym moment_is)
-        ∙ came_gives h t why tag grip entries came k
+        ∙ came_gives h t why grip entries came k

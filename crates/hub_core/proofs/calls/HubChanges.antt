@@ -1,4 +1,5 @@
 -- A step of a run in which no device goes out keeps what the type of a hub keeps, and is the step that it says.
+use Rattle.device_states.specs.Devices.{Shown}
 use Rattle.hub_core.proofs.kept.KeptByModel.{later_kept, taken_kept}
 use Rattle.history_book.proofs.Counts.{fell_is}
 use Rattle.history_book.proofs.HistoryReads.{MayTake, takes_first, takes_rest}
@@ -29,14 +30,15 @@ use Rattle.hub_core.specs.HubSteps.{Chose, HubStep, SlipFits, Take, carried_afte
 use Rattle.hub_core.specs.HubsKept.{HasRoomLeft, HubIsKept, IsWhole, all_probes_taken, is_away, open_of}
 use Rattle.hub_core.specs.KeptOrders.{OrderIsBeside}
 use Rattle.hub_core.specs.OpenHubs.{OpenHub, configuration_of, events_in, held_in, hub_state_of, progress_at}
-use Rattle.window_order.specs.KeptOrders.{purpose_of}
+use Rattle.lock_leasing.specs.declared.purposes.Purpose.TheVariants.{Commands, Probes, Undoes}
+use Rattle.lock_leasing.specs.declared.purposes.Purpose.{Purpose}
 use Rattle.history_book.specs.ReadHistories.{HistoryState, read_in, with_doom, with_entry, with_more}
 use Rattle.hub_core.specs.Steps.{Choice, Moves, Over, after_choice, after_take, at_moment, choice_of}
 use Rattle.hub_core.specs.declared.decisions.Chosen.{Chosen}
 use Rattle.hub_core.specs.declared.open_windows.ClosingLists.{ClosingLists}
 use Rattle.hub_core.specs.declared.open_windows.OpenWindow.TheInside.{Inside}
 use Rattle.window_order.specs.declared.kept_orders.KeptOrder.{KeptOrder}
-use Rattle.lock_leasing.specs.Configurations.{Commands, Configuration, Probes, Purpose, Undoes, read_of}
+use Rattle.lock_leasing.specs.Configurations.{Configuration, read_of}
 use Rattle.std.proofs.Common.{ap, append_assoc, ap₂, arith, length-append, refl, subst, sym, ◌∙◌}
 use Rattle.std.proofs.lemmas.List.{length-map}
 use Rattle.std.proofs.lemmas.Nat.{mul-le}
@@ -57,7 +59,7 @@ events_same w h x d falls rises =
 
 -- Nothing goes out, and nothing comes home
 
-still_kept : {D : Type 0} (stands turns probes faults : D → ℕ) (s : OpenHub D) (x : List Kept) (m : ℕ)
+still_kept : {D : Type 0} (shows : D → Shown) (s : OpenHub D) (x : List Kept) (m : ℕ)
     → IsKeptByModel (configuration_of (record s { history = x; moment = m })) s.rounds s.opened (held_in s)
     → ((d : ℕ) → told_calls s.setting.runs (entries_of x) d ≡ told_calls s.setting.runs (entries_of s.history) d)
     → ((d : ℕ) → told_falls (entries_of x) d ≡ told_falls (entries_of s.history) d)
@@ -65,8 +67,8 @@ still_kept : {D : Type 0} (stands turns probes faults : D → ℕ) (s : OpenHub 
     → ((d : ℕ) → (reading s.setting (entries_of x)).up d ≡ (read_of (configuration_of s)).up d)
     → ((q : ℕ) → ((reading s.setting (entries_of x)).run q).register ≡ ((read_of (configuration_of s)).run q).register)
     → length s.history ≤ length x
-    → HubIsKept stands turns probes faults s → HubIsKept stands turns probes faults (record s { history = x; moment = m })
-still_kept stands turns probes faults s x m now told falls rises counted registers more k =
+    → HubIsKept shows s → HubIsKept shows (record s { history = x; moment = m })
+still_kept shows s x m now told falls rises counted registers more k =
     record {
       configuration = now;
       devices_size = k.devices_size;
@@ -85,7 +87,7 @@ still_kept stands turns probes faults s x m now told falls rises counted registe
         probes_are = fits.probes_are;
         falls_told = omega (arith, fits.falls_told, falls d);
         few_faults = omega (arith, fits.few_faults, falls d);
-        does = fits.does ∙ task_same (configuration_of s) (configuration_of (record s { history = x; moment = m })) slip.maker (purpose_of (progress_at s.devices d).purpose) refl (sym (registers slip.maker));
+        does = fits.does ∙ task_same (configuration_of s) (configuration_of (record s { history = x; moment = m })) slip.maker (progress_at s.devices d).purpose refl (sym (registers slip.maker));
       };
       low = k.low;
       values = k.values;
@@ -94,9 +96,9 @@ still_kept stands turns probes faults s x m now told falls rises counted registe
     }
 
 -- the moment alone
-pub reached : {D : Type 0} (stands turns probes faults : D → ℕ) (s : OpenHub D) (m : ℕ) → HubIsKept stands turns probes faults s → HubIsKept stands turns probes faults (record s { moment = max s.moment m })
-reached stands turns probes faults s m k =
-    still_kept stands turns probes faults s s.history (max s.moment m) (later_kept (configuration_of s) s.rounds s.opened m (held_in s) k.configuration) (λ d. refl) (λ d. refl) (λ d. refl) (λ d. refl) (λ q. refl) (omega arith) k
+pub reached : {D : Type 0} (shows : D → Shown) (s : OpenHub D) (m : ℕ) → HubIsKept shows s → HubIsKept shows (record s { moment = max s.moment m })
+reached shows s m k =
+    still_kept shows s s.history (max s.moment m) (later_kept (configuration_of s) s.rounds s.opened m (held_in s) k.configuration) (λ d. refl) (λ d. refl) (λ d. refl) (λ d. refl) (λ q. refl) (omega arith) k
 
 -- a step that makes entries: the run moves on, or ends
 pub data Making : Type 0 where
@@ -117,10 +119,10 @@ added_entries s r m es (Ending end) is = ap (after_choice (at_moment (configurat
 pub length_with : (h : List Kept) (r : ℕ) (es : List Entry) → length (h ++ kept_by r es) ≡ length h + length es
 length_with h r es = length-append h (kept_by r es) ∙ ap (λ n. length h + n) (length-map es _)
 
-pub entries_kept : {D : Type 0} (stands turns probes faults : D → ℕ) (s : OpenHub D) (r m : ℕ) (es : List Entry) (c : Making) → choice_of (configuration_of s) r m ≡ making c es
-    → HubIsKept stands turns probes faults s → HubIsKept stands turns probes faults (record s { history = s.history ++ kept_by r es; moment = max s.moment m })
-entries_kept {D = D} stands turns probes faults s r m es c is k =
-    still_kept stands turns probes faults s (s.history ++ kept_by r es) (max s.moment m)
+pub entries_kept : {D : Type 0} (shows : D → Shown) (s : OpenHub D) (r m : ℕ) (es : List Entry) (c : Making) → choice_of (configuration_of s) r m ≡ making c es
+    → HubIsKept shows s → HubIsKept shows (record s { history = s.history ++ kept_by r es; moment = max s.moment m })
+entries_kept {D = D} shows s r m es c is k =
+    still_kept shows s (s.history ++ kept_by r es) (max s.moment m)
     (subst (λ x. IsKeptByModel x s.rounds s.opened (held_in s)) step (taken_kept (configuration_of s) s.rounds s.opened (held_in s) r m k.configuration))
     (λ d. ap (λ (x : Configuration). told_calls s.setting.runs (entries_of x.history) d) (sym step) ∙ take_calls (configuration_of s) r m d)
     (λ d. ap (λ (x : Configuration). told_falls (entries_of x.history) d) (sym step) ∙ take_falls (configuration_of s) r m d)
@@ -139,8 +141,8 @@ entries_kept {D = D} stands turns probes faults s r m es c is k =
 abbrev pub reached_at : {D : Type 0} → Inside D → ℕ → Inside D
 reached_at h m = record h { moment = max h.moment m }
 
-pub reached_whole : {D : Type 0} {stands turns probes faults : D → ℕ} (h : Inside D) (m : ℕ) → IsWhole stands turns probes faults h → IsWhole stands turns probes faults (reached_at h m)
-reached_whole h m k = record { shown = reached _ _ _ _ (open_of h) m k.shown; room = k.room; order = k.order; hands = k.hands }
+pub reached_whole : {D : Type 0} {shows : D → Shown} (h : Inside D) (m : ℕ) → IsWhole shows h → IsWhole shows (reached_at h m)
+reached_whole h m k = record { shown = reached _ (open_of h) m k.shown; room = k.room; order = k.order; hands = k.hands }
 
 -- it has these entries more then, and this line and table
 abbrev pub entered : {D : Type 0} → Inside D → ℕ → ℕ → List Entry → KeptOrder → Inside D
@@ -164,23 +166,23 @@ pub record IsEntered {D : Type 0} (h t : Inside D) (r m : ℕ) (es : List Entry)
   pub new : t ≡ entered h r m es t.order
 
 -- the history has a place for each, ..
-pub has_places : {D : Type 0} {stands turns probes faults : D → ℕ} (h : Inside D) (r m : ℕ) (es : List Entry) (c : Making) → choice_of (configuration_of (open_of h)) r m ≡ making c es → IsWhole stands turns probes faults h → length es ≤ h.history.spare
+pub has_places : {D : Type 0} {shows : D → Shown} (h : Inside D) (r m : ℕ) (es : List Entry) (c : Making) → choice_of (configuration_of (open_of h)) r m ≡ making c es → IsWhole shows h → length es ≤ h.history.spare
 has_places h r m es c is k =
-    let made = entries_kept _ _ _ _ (open_of h) r m es c is k.shown in
+    let made = entries_kept _ (open_of h) r m es c is k.shown in
     let fits = history_fits _ h.rounds h.opened _ made.configuration in
     let long = length_with h.history.history r es in
     omega (arith, fits, long, k.room.history)
 
 -- .. also where it is one
-pub has_place : {D : Type 0} {stands turns probes faults : D → ℕ} (h : Inside D) (r m : ℕ) (e : Entry) (c : Making) → choice_of (configuration_of (open_of h)) r m ≡ making c (e ∷ []) → IsWhole stands turns probes faults h → 0 < h.history.spare
+pub has_place : {D : Type 0} {shows : D → Shown} (h : Inside D) (r m : ℕ) (e : Entry) (c : Making) → choice_of (configuration_of (open_of h)) r m ≡ making c (e ∷ []) → IsWhole shows h → 0 < h.history.spare
 has_place h r m e c is k = let places : 1 ≤ h.history.spare = has_places h r m (e ∷ []) c is k in omega (arith, places)
 
 -- these entries may be appended, ..
-pub takes_here : {D : Type 0} {stands turns probes faults : D → ℕ} (h : Inside D) (r m : ℕ) (es : List Entry) (c : Making) → choice_of (configuration_of (open_of h)) r m ≡ making c es → IsWhole stands turns probes faults h → MayTake h.history r es
-takes_here h r m es c is k = (entries_kept _ _ _ _ (open_of h) r m es c is k.shown).configuration.history.well_formed
+pub takes_here : {D : Type 0} {shows : D → Shown} (h : Inside D) (r m : ℕ) (es : List Entry) (c : Making) → choice_of (configuration_of (open_of h)) r m ≡ making c es → IsWhole shows h → MayTake h.history r es
+takes_here h r m es c is k = (entries_kept _ (open_of h) r m es c is k.shown).configuration.history.well_formed
 
 -- .. also where it is one
-pub follows_here : {D : Type 0} {stands turns probes faults : D → ℕ} (h : Inside D) (r m : ℕ) (e : Entry) (c : Making) → choice_of (configuration_of (open_of h)) r m ≡ making c (e ∷ []) → IsWhole stands turns probes faults h → IsTrue (may_follow h.history.setting (read_in h.history) e)
+pub follows_here : {D : Type 0} {shows : D → Shown} (h : Inside D) (r m : ℕ) (e : Entry) (c : Making) → choice_of (configuration_of (open_of h)) r m ≡ making c (e ∷ []) → IsWhole shows h → IsTrue (may_follow h.history.setting (read_in h.history) e)
 follows_here h r m e c is k = takes_first h.history r e [] (takes_here h r m (e ∷ []) c is k)
 
 room_with : (rounds : ℕ) (h : HistoryState) (r : ℕ) (es : List Entry) (closing : ClosingLists) → length es ≤ h.spare → HasRoomLeft rounds h closing → HasRoomLeft rounds (with_more h r es) closing
@@ -195,18 +197,18 @@ room_with rounds h r es closing some room =
     }
 
 -- what is kept is kept with them, where line and table are
-pub entered_whole : {D : Type 0} {stands turns probes faults : D → ℕ} (h t : Inside D) (r m : ℕ) (es : List Entry) (c : Making) → IsEntered h t r m es c
-    → (IsWellFormed h.history.setting (entries_of (h.history.history ++ kept_by r es)) → OrderIsBeside h.rounds (with_more h.history r es) (configuration_of (open_of h)).grips t.order.line t.order.table) → IsWhole stands turns probes faults h → IsWhole stands turns probes faults t
-entered_whole {D = D} {stands = stands} {turns = turns} {probes = probes} {faults = faults} h t r m es c enters order k =
-    subst (λ (x : Inside D). IsWhole stands turns probes faults x) (sym enters.new) (record {
+pub entered_whole : {D : Type 0} {shows : D → Shown} (h t : Inside D) (r m : ℕ) (es : List Entry) (c : Making) → IsEntered h t r m es c
+    → (IsWellFormed h.history.setting (entries_of (h.history.history ++ kept_by r es)) → OrderIsBeside h.rounds (with_more h.history r es) (configuration_of (open_of h)).grips t.order.line t.order.table) → IsWhole shows h → IsWhole shows t
+entered_whole {D = D} {shows = shows} h t r m es c enters order k =
+    subst (λ (x : Inside D). IsWhole shows x) (sym enters.new) (record {
       shown = made;
       room = room_with h.rounds h.history r es h.closing (has_places h r m es c enters.chosen k) k.room;
       order = order made.configuration.history.well_formed;
       hands = k.hands;
     })
   where
-    made : HubIsKept stands turns probes faults (open_of (entered h r m es t.order))
-    made = entries_kept stands turns probes faults (open_of h) r m es c enters.chosen k.shown
+    made : HubIsKept shows (open_of (entered h r m es t.order))
+    made = entries_kept shows (open_of h) r m es c enters.chosen k.shown
 
 -- An answer, and the doom of its run where there is a cause
 
@@ -248,8 +250,8 @@ entered_answers {D = D} h t s r m es made seen enters is =
     (record { step = λ slip. step_is (open_of h) (open_of (entered h r m es t.order)) r m (Moves es) slip enters.chosen refl tt; places = refl; tickets = refl })))
 
 -- a history that is kept has few entries
-pub few_entries : {D : Type 0} (stands turns probes faults : D → ℕ) (s : OpenHub D) → HubIsKept stands turns probes faults s → length s.history ≤ most_entries most_runs most_devices most_probes
-few_entries stands turns probes faults s k =
+pub few_entries : {D : Type 0} (shows : D → Shown) (s : OpenHub D) → HubIsKept shows s → length s.history ≤ most_entries most_runs most_devices most_probes
+few_entries shows s k =
     let fits = history_fits (configuration_of s) s.rounds s.opened (held_in s) k.configuration in
     let probed : s.rounds * length s.setting.first ≤ 100 * 256 = mul-le s.rounds (length s.setting.first) 100 256 k.configuration.opens.few_rounds k.configuration.opens.few_devices in
     omega (arith, fits, probed, k.configuration.opens.few_runs, k.configuration.opens.few_devices)

@@ -1,4 +1,5 @@
 -- A window that closes: its devices are home, its record is legal, and the home that is left is as every home is kept.
+use Rattle.device_states.specs.Devices.{Shown}
 use Rattle.legal_days.proofs.Lists.{at_place}
 use Rattle.lock_leasing.specs.Words.{standing_value}
 use Rattle.history_book.specs.ReadHistories.{read_in}
@@ -36,7 +37,7 @@ use Rattle.hub_core.specs.OpenHubs.{OpenHub, configuration_of, grip_in, held_in,
 use Rattle.legal_days.specs.LegalWindows.{IsLegalWindow}
 use Rattle.hub_core.specs.Steps.{not_quiet}
 use Rattle.hub_core.specs.declared.open_windows.OpenWindow.TheInside.{Inside}
-use Rattle.lock_leasing.specs.Configurations.{Configuration, read_of}
+use Rattle.lock_leasing.specs.Configurations.{Configuration, point, point_of, read_of}
 use Rattle.serial_line.specs.Marks.{Mark}
 use Rattle.std.proofs.Common.{ap, arith, length-append, refl, subst, sym, ◌∙◌}
 use Rattle.std.proofs.lemmas.Grind.{common_steps}
@@ -50,8 +51,8 @@ home_when_quiet : (s : Configuration) (rounds opened : ℕ) (held : ℕ → ℕ)
 home_when_quiet s rounds opened held d kept quiet = by_model (s.grips d ≡ None) s rounds opened held kept (λ c. none_out s rounds opened held d c quiet) (λ c. weak_none_out s rounds opened held d c quiet)
 
 -- .. and every device is home
-pub all_are_home : {D : Type 0} (stands turns probes faults : D → ℕ) (s : OpenHub D) → HubIsKept stands turns probes faults s → not_quiet (configuration_of s) ≡ None → AllHome s.places
-all_are_home {D = D} stands turns probes faults s kept quiet d lt = by (at_place s.places d lt)
+pub all_are_home : {D : Type 0} (shows : D → Shown) (s : OpenHub D) → HubIsKept shows s → not_quiet (configuration_of s) ≡ None → AllHome s.places
+all_are_home {D = D} shows s kept quiet d lt = by (at_place s.places d lt)
   where
     away : grip_in (slice_get s.places d) (progress_at s.devices d).purpose ≡ None
     away = home_when_quiet (configuration_of s) s.rounds s.opened (held_in s) d kept.configuration (quiet_is (configuration_of s) quiet)
@@ -73,35 +74,35 @@ stand_behind (y ∷ xs) x zero size = absurd (omega (arith, size))
 stand_behind (y ∷ xs) x (suc n) size = stand_behind xs x n (omega (arith, size))
 
 -- what a window that closes has: nothing is left to do, and these are its devices, each of its number
-pub record Closes {D : Type 0} (tag stands turns probes faults : D → ℕ) (s : OpenHub D) (devices : List D) : Type 0 where
-  pub kept : HubIsKept stands turns probes faults s
+pub record Closes {D : Type 0} (shows : D → Shown) (s : OpenHub D) (devices : List D) : Type 0 where
+  pub kept : HubIsKept shows s
   pub quiet : not_quiet (configuration_of s) ≡ None
   pub places : all_home devices ≡ s.places
-  pub numbered : AreNumbered tag devices
+  pub numbered : AreNumbered shows devices
 
-fits_at_home : {D : Type 0} (tag stands turns probes faults : D → ℕ) (s : OpenHub D) (devices : List D) (d : ℕ) (device : D) → Closes tag stands turns probes faults s devices → slice_get devices d ≡ Some device → FitsAtHome stands turns probes faults s d device
-fits_at_home tag stands turns probes faults s devices d device c at =
+fits_at_home : {D : Type 0} (shows : D → Shown) (s : OpenHub D) (devices : List D) (d : ℕ) (device : D) → Closes shows s devices → slice_get devices d ≡ Some device → FitsAtHome shows s d device
+fits_at_home shows s devices d device c at =
     c.kept.home d device (ap (λ l. slice_get l d) (sym c.places) ∙ slice_get-map (λ x. Home x) devices d ∙ ap (option_map (λ x. Home x)) at)
 
-sizes : {D : Type 0} (tag stands turns probes faults : D → ℕ) (s : OpenHub D) (devices : List D) → Closes tag stands turns probes faults s devices → length devices ≡ length s.setting.first
-sizes tag stands turns probes faults s devices c = sym (length-map devices (λ x. Home x)) ∙ ap (λ l. length l) c.places ∙ c.kept.places_size
+sizes : {D : Type 0} (shows : D → Shown) (s : OpenHub D) (devices : List D) → Closes shows s devices → length devices ≡ length s.setting.first
+sizes shows s devices c = sym (length-map devices (λ x. Home x)) ∙ ap (λ l. length l) c.places ∙ c.kept.places_size
 
-pub turns_fell : {D : Type 0} (tag stands turns probes faults : D → ℕ) (s : OpenHub D) (devices : List D) → Closes tag stands turns probes faults s devices → NoneFell turns (λ k. k.at_opening.turns) s.devices devices
-turns_fell tag stands turns probes faults s devices c = record {
-  size = sizes tag stands turns probes faults s devices c ∙ sym c.kept.devices_size;
-  each = λ d device at. (let is = (fits_at_home tag stands turns probes faults s devices d device c at).turns_are in omega (arith, is));
+pub turns_fell : {D : Type 0} (shows : D → Shown) (s : OpenHub D) (devices : List D) → Closes shows s devices → NoneFell (λ device. (shows device).turns) (λ k. k.at_opening.turns) s.devices devices
+turns_fell shows s devices c = record {
+  size = sizes shows s devices c ∙ sym c.kept.devices_size;
+  each = λ d device at. (let is = (fits_at_home shows s devices d device c at).turns_are in omega (arith, is));
 }
 
-pub faults_fell : {D : Type 0} (tag stands turns probes faults : D → ℕ) (s : OpenHub D) (devices : List D) → Closes tag stands turns probes faults s devices → NoneFell faults (λ k. k.at_opening.faults) s.devices devices
-faults_fell tag stands turns probes faults s devices c = record {
-  size = sizes tag stands turns probes faults s devices c ∙ sym c.kept.devices_size;
-  each = λ d device at. (let is = (fits_at_home tag stands turns probes faults s devices d device c at).falls_told in omega (arith, is));
+pub faults_fell : {D : Type 0} (shows : D → Shown) (s : OpenHub D) (devices : List D) → Closes shows s devices → NoneFell (λ device. (shows device).faults) (λ k. k.at_opening.faults) s.devices devices
+faults_fell shows s devices c = record {
+  size = sizes shows s devices c ∙ sym c.kept.devices_size;
+  each = λ d device at. (let is = (fits_at_home shows s devices d device c at).falls_told in omega (arith, is));
 }
 
 -- a window makes few calls
-few_calls : {D : Type 0} (stands turns probes faults : D → ℕ) (s : OpenHub D) (told : Entry → Bool) → HubIsKept stands turns probes faults s → count_by told (entries_of s.history) ≤ 59904
-few_calls stands turns probes faults s told kept =
-    let few = few_entries stands turns probes faults s kept in
+few_calls : {D : Type 0} (shows : D → Shown) (s : OpenHub D) (told : Entry → Bool) → HubIsKept shows s → count_by told (entries_of s.history) ≤ 59904
+few_calls shows s told kept =
+    let few = few_entries shows s kept in
     let counted : count_by told (entries_of s.history) ≤ length (entries_of s.history) = count_by-le-length told (entries_of s.history) in
     let same : length (entries_of s.history) ≡ length s.history = length-map s.history (λ k. k.entry) in
     omega (arith, few, counted, same)
@@ -111,7 +112,7 @@ still_low : (opened count then rise : ℕ) → then ≤ opened * 2 ^ 17 + 1 → 
 still_low opened count then rise low is few = omega arith
 
 -- the lineage table leaves each device as the last state has it, and under the weak model what is known of each
-pub hub_leaves : {D : Type 0} {stands turns probes faults : D → ℕ} (h : Inside D) (last : List Stand) → IsWhole stands turns probes faults h → not_quiet (configuration_of (open_of h)) ≡ None → (is_weak h.history.setting.mode ≡ false → last ≡ map stand_left h.order.table)
+pub hub_leaves : {D : Type 0} {shows : D → Shown} (h : Inside D) (last : List Stand) → IsWhole shows h → not_quiet (configuration_of (open_of h)) ≡ None → (is_weak h.history.setting.mode ≡ false → last ≡ map stand_left h.order.table)
     → (is_weak h.history.setting.mode ≡ true → last ≡ all_known_left h.away.known.items h.order.table (length h.order.table)) → IsLastState (configuration_of (open_of h)) last
 hub_leaves h last k quiet are known = either_model (IsLastState (configuration_of (open_of h)) last) h.history.setting
     (λ weak. record {
@@ -122,7 +123,7 @@ hub_leaves h last k quiet are known = either_model (IsLastState (configuration_o
             value =
                 ((k.shown.configuration.weakly weak).held_is d below
                 ∙ sym (weak_standing (configuration_of (open_of h)) h.rounds h.opened (held_in (open_of h)) d (k.shown.configuration.weakly weak))) i;
-            up = counted_told h.history.setting (read_in h.history) (configuration_of (open_of h)).grips h.order.table d below k.order.table_is i;
+            up = counted_told (point h.history.setting (read_in h.history) (configuration_of (open_of h)).grips) h.order.table d below k.order.table_is i;
           });
     })
     (λ strong. table_leaves (configuration_of (open_of h)) h.rounds h.opened (held_in (open_of h)) h.order.table last (k.shown.configuration.ordered strong) (quiet_is (configuration_of (open_of h)) quiet) (k.order.table_is.ordered strong) (are strong))
@@ -144,23 +145,23 @@ hub_leaves h last k quiet are known = either_model (IsLastState (configuration_o
     ] refl
 
 -- the home that is left is as every home is kept
-pub home_left : {D : Type 0} (tag stands turns probes faults : D → ℕ) (s : OpenHub D) (devices : List D) (kinds : List Kind) (world : List Stand) → Closes tag stands turns probes faults s devices → kinds ≡ s.setting.kinds → IsLastState (configuration_of s) world
-    → HomeIsKept tag stands turns probes faults (record { kinds = kinds; world = world; devices = devices; opened = s.opened + 1 })
-home_left {D = D} tag stands turns probes faults s devices kinds world c kinds_are left =
+pub home_left : {D : Type 0} (shows : D → Shown) (s : OpenHub D) (devices : List D) (kinds : List Kind) (world : List Stand) → Closes shows s devices → kinds ≡ s.setting.kinds → IsLastState (configuration_of s) world
+    → HomeIsKept shows (record { kinds = kinds; world = world; devices = devices; opened = s.opened + 1 })
+home_left {D = D} shows s devices kinds world c kinds_are left =
     record {
       numbered = c.numbered;
       kinds = ap (λ l. length l) kinds_are ∙ c.kept.configuration.kinds ∙ sym left.size;
-      size = sizes tag stands turns probes faults s devices c ∙ sym left.size;
+      size = sizes shows s devices c ∙ sym left.size;
       few = rw left.size c.kept.configuration.opens.few_devices;
       opened = let few = c.kept.configuration.opens.few_windows in omega (arith, few);
       values = value_at;
       stand = stand;
-      counts = λ d device at. counts d device (fits_at_home tag stands turns probes faults s devices d device c at);
+      counts = λ d device at. counts d device (fits_at_home shows s devices d device c at);
     }
   where
-    standing_value_fits : (d : ℕ) → d < length s.setting.first → IsTrue (has_value (kind_at s.setting.kinds d) (standing_value s.setting (read_of (configuration_of s)) (configuration_of s).grips d))
-    standing_value_fits d within = by_model (IsTrue (has_value (kind_at s.setting.kinds d) (standing_value s.setting (read_of (configuration_of s)) (configuration_of s).grips d))) (configuration_of s) s.rounds s.opened (held_in s) c.kept.configuration
-        (λ k. standing_fits s.setting (read_of (configuration_of s)) (configuration_of s).grips d k.strong (writes_fit s.setting (entries_of s.history) (values_fit (configuration_of s) s.rounds s.opened (held_in s) k) k.history.well_formed) (k.values d within))
+    standing_value_fits : (d : ℕ) → d < length s.setting.first → IsTrue (has_value (kind_at s.setting.kinds d) (standing_value (point_of (configuration_of s)) d))
+    standing_value_fits d within = by_model (IsTrue (has_value (kind_at s.setting.kinds d) (standing_value (point_of (configuration_of s)) d))) (configuration_of s) s.rounds s.opened (held_in s) c.kept.configuration
+        (λ k. standing_fits (point_of (configuration_of s)) d k.strong (writes_fit s.setting (entries_of s.history) (values_fit (configuration_of s) s.rounds s.opened (held_in s) k) k.history.well_formed) (k.values d within))
         (λ k. subst (λ v. IsTrue (has_value (kind_at s.setting.kinds d) v)) (k.held_is d within ∙ sym (weak_standing (configuration_of s) s.rounds s.opened (held_in s) d k)) (c.kept.values d within))
 
     value_at : (d : ℕ) → d < length world → IsTrue (has_value (kind_at kinds d) (stand_at world d).value)
@@ -168,74 +169,71 @@ home_left {D = D} tag stands turns probes faults s devices kinds world c kinds_a
         let within : d < length s.setting.first = omega (arith, lt, left.size) in
         rw (kinds_are, left.each d within) (standing_value_fits d within)
 
-    stand : UpDevicesStand stands devices world
+    stand : UpDevicesStand shows devices world
     stand d device at up =
-        let within : d < length s.setting.first = (let there = slice_get_within devices d device at in let same = sizes tag stands turns probes faults s devices c in omega (arith, there, same)) in
+        let within : d < length s.setting.first = (let there = slice_get_within devices d device at in let same = sizes shows s devices c in omega (arith, there, same)) in
         let here : is_device s.setting d ≡ true = is_below d (length s.setting.first) within in
         let counted : (read_of (configuration_of s)).up d ≡ true = sym (ap (λ (x : Stand). x.up) (left.each d within)) ∙ up in
-        (fits_at_home tag stands turns probes faults s devices d device c at).stand counted
+        (fits_at_home shows s devices d device c at).stand counted
         ∙ stands_at_home (configuration_of s) s.rounds s.opened (held_in s) d c.kept.configuration here (home_when_quiet (configuration_of s) s.rounds s.opened (held_in s) d c.kept.configuration (quiet_is (configuration_of s) c.quiet)) counted
         ∙ sym (ap (λ (x : Stand). x.value) (left.each d within))
       where
         is_below : (a b : ℕ) → a < b → nat_lt a b ≡ true
         is_below a b lt = grind (arith, common_steps)
 
-    counts : (d : ℕ) (device : D) → FitsAtHome stands turns probes faults s d device → CountsAreLow (s.opened + 1) (turns device) (probes device) (faults device)
+    counts : (d : ℕ) (device : D) → FitsAtHome shows s d device → CountsAreLow (s.opened + 1) (shows device).turns (shows device).probes (shows device).faults
     counts d device fits = record {
       few_turns =
-          still_low s.opened (turns device) (progress_at s.devices d).at_opening.turns (told_calls s.setting.runs (entries_of s.history) d)
+          still_low s.opened (shows device).turns (progress_at s.devices d).at_opening.turns (told_calls s.setting.runs (entries_of s.history) d)
           (c.kept.low d).few_turns (omega (arith, fits.turns_are))
-          (let few = few_calls stands turns probes faults s (tells_call s.setting.runs d) c.kept in omega (arith, few));
-      few_probes = still_low s.opened (probes device) (progress_at s.devices d).at_opening.probes (probes_taken s d) (c.kept.low d).few_probes (omega (arith, fits.probes_are)) (let few = c.kept.configuration.opens.few_rounds in omega (arith, few));
-      few_faults = still_low s.opened (faults device) (progress_at s.devices d).at_opening.faults (told_falls (entries_of s.history) d + probes_taken s d) (c.kept.low d).few_faults (omega (arith, fits.few_faults))
-          (let few = c.kept.configuration.opens.few_rounds in let falls = few_calls stands turns probes faults s (is_fall_of d) c.kept in omega (arith, few, falls));
+          (let few = few_calls shows s (tells_call s.setting.runs d) c.kept in omega (arith, few));
+      few_probes = still_low s.opened (shows device).probes (progress_at s.devices d).at_opening.probes (probes_taken s d) (c.kept.low d).few_probes (omega (arith, fits.probes_are)) (let few = c.kept.configuration.opens.few_rounds in omega (arith, few));
+      few_faults = still_low s.opened (shows device).faults (progress_at s.devices d).at_opening.faults (told_falls (entries_of s.history) d + probes_taken s d) (c.kept.low d).few_faults (omega (arith, fits.few_faults))
+          (let few = c.kept.configuration.opens.few_rounds in let falls = few_calls shows s (is_fall_of d) c.kept in omega (arith, few, falls));
     }
 
 -- what the record tells
-pub record Tells {D : Type 0} (turns faults : D → ℕ) (s : OpenHub D) (devices : List D) (closed : WindowRecord) : Type 0 where
+pub record Tells {D : Type 0} (shows : D → Shown) (s : OpenHub D) (devices : List D) (closed : WindowRecord) : Type 0 where
   pub mode : closed.mode ≡ s.setting.mode
   pub first : closed.first.devices.items ≡ s.setting.first
   pub history : closed.history.items ≡ s.history
   pub order : is_weak s.setting.mode ≡ false → closed.order.items ≡ (read_of (configuration_of s)).line
   pub unclaimed : is_weak s.setting.mode ≡ true → closed.order.items ≡ []
   pub last : IsLastState (configuration_of s) closed.last.devices.items
-  pub turns_rose : HaveRisen turns (λ k. k.at_opening.turns) s.devices devices (length s.devices) closed.turns.items
-  pub faults_rose : HaveRisen faults (λ k. k.at_opening.faults) s.devices devices (length s.devices) closed.faults.items
+  pub turns_rose : HaveRisen (λ device. (shows device).turns) (λ k. k.at_opening.turns) s.devices devices (length s.devices) closed.turns.items
+  pub faults_rose : HaveRisen (λ device. (shows device).faults) (λ k. k.at_opening.faults) s.devices devices (length s.devices) closed.faults.items
 
 -- it accounts for the calls
-accounted : {D : Type 0} (tag stands turns probes faults : D → ℕ) (s : OpenHub D) (devices : List D) (closed : WindowRecord) → Closes tag stands turns probes faults s devices → Tells turns faults s devices closed
+accounted : {D : Type 0} (shows : D → Shown) (s : OpenHub D) (devices : List D) (closed : WindowRecord) → Closes shows s devices → Tells shows s devices closed
     → CallsAreAccounted s.setting (entries_of s.history) closed.turns.items closed.faults.items
-accounted {D = D} tag stands turns probes faults s devices closed c tells =
+accounted {D = D} shows s devices closed c tells =
     record {
       turns_size = tells.turns_rose.size ∙ c.kept.devices_size;
       faults_size = tells.faults_rose.size ∙ c.kept.devices_size;
-      turns_of = λ d lt. turns_of d lt (at_place devices d (let same = sizes tag stands turns probes faults s devices c in omega (arith, lt, same)));
-      faults_of = λ d lt. falls_of d lt (at_place devices d (let same = sizes tag stands turns probes faults s devices c in omega (arith, lt, same)));
+      turns_of = λ d lt. turns_of d lt (at_place devices d (let same = sizes shows s devices c in omega (arith, lt, same)));
+      faults_of = λ d lt. falls_of d lt (at_place devices d (let same = sizes shows s devices c in omega (arith, lt, same)));
     }
   where
     falls_of : (d : ℕ) → d < length s.setting.first → (device : D) × (slice_get devices d ≡ Some device) → told_falls (entries_of s.history) d ≤ slice_index_or closed.faults.items d 0
     falls_of d lt (device, at) =
         let rose = tells.faults_rose.each d device (let known = c.kept.devices_size in omega (arith, lt, known)) at in
-        let told = (fits_at_home tag stands turns probes faults s devices d device c at).falls_told in
+        let told = (fits_at_home shows s devices d device c at).falls_told in
         omega (arith, rose, told)
 
     turns_of : (d : ℕ) → d < length s.setting.first → (device : D) × (slice_get devices d ≡ Some device) → slice_index_or closed.turns.items d 0 ≡ told_calls s.setting.runs (entries_of s.history) d
     turns_of d lt (device, at) =
         let rose = tells.turns_rose.each d device (let known = c.kept.devices_size in omega (arith, lt, known)) at in
-        let told = (fits_at_home tag stands turns probes faults s devices d device c at).turns_are in
+        let told = (fits_at_home shows s devices d device c at).turns_are in
         omega (arith, rose, told)
 
 -- the window was closed with this record
-pub window_closed : {D : Type 0} (tag stands turns probes faults : D → ℕ) (s : OpenHub D) (devices : List D) (kinds : List Kind) (world : List Stand) (closed : WindowRecord) → Closes tag stands turns probes faults s devices → Tells turns faults s devices closed
+pub window_closed : {D : Type 0} (shows : D → Shown) (s : OpenHub D) (devices : List D) (kinds : List Kind) (world : List Stand) (closed : WindowRecord) → Closes shows s devices → Tells shows s devices closed
     → kinds ≡ s.setting.kinds → world ≡ closed.last.devices.items
-    → WindowIsClosed turns probes faults s (record { kinds = kinds; world = world; devices = devices; opened = s.opened + 1 }) closed
-window_closed {D = D} tag stands turns probes faults s devices kinds world closed c tells kinds_are world_is =
+    → WindowIsClosed shows s (record { kinds = kinds; world = world; devices = devices; opened = s.opened + 1 }) closed
+window_closed {D = D} shows s devices kinds world closed c tells kinds_are world_is =
     record {
       legal = legal;
       history = tells.history;
-      kinds = kinds_are;
-      last = world_is;
-      opened = refl;
       ends = record {
         ended = each_has_ended s.setting closed legal;
         commits = λ first none_fails r run none. ap (λ h. ((reading s.setting (entries_of h)).run r).ended) tells.history ∙ by_model (((read_of (configuration_of s)).run r).ended ≡ Some Committed) (configuration_of s) s.rounds s.opened (held_in s) c.kept.configuration
@@ -243,14 +241,19 @@ window_closed {D = D} tag stands turns probes faults s devices kinds world close
             (λ k. (weak_ends (configuration_of s) s.rounds s.opened (held_in s) k (quiet_is (configuration_of s) c.quiet) (none_failed none_fails)).commits r run none);
       };
       places = sym c.places;
-      up = λ none_fails d lt. up_at_end none_fails d (let same = ap (λ l. length l) world_is in let size = tells.last.size in omega (arith, lt, same, size));
-      turns_rose = λ d device at. tells.turns_rose.each d device (known d device at) at;
-      probes_rose = λ d device at. (fits_at_home tag stands turns probes faults s devices d device c at).probes_are;
-      faults_rose = λ d device at. tells.faults_rose.each d device (known d device at) at;
+      after = record {
+        kinds = kinds_are;
+        last = world_is;
+        opened = refl;
+        up = λ none_fails d lt. up_at_end none_fails d (let same = ap (λ l. length l) world_is in let size = tells.last.size in omega (arith, lt, same, size));
+        turns_rose = λ d device at. tells.turns_rose.each d device (known d device at) at;
+        probes_rose = λ d device at. (fits_at_home shows s devices d device c at).probes_are;
+        faults_rose = λ d device at. tells.faults_rose.each d device (known d device at) at;
+      };
     }
   where
     calls : CallsAreAccounted s.setting (entries_of s.history) closed.turns.items closed.faults.items
-    calls = accounted tag stands turns probes faults s devices closed c tells
+    calls = accounted shows s devices closed c tells
 
     legal : IsLegalWindow s.setting closed
     legal = by_model (IsLegalWindow s.setting closed) (configuration_of s) s.rounds s.opened (held_in s) c.kept.configuration
@@ -281,7 +284,7 @@ window_closed {D = D} tag stands turns probes faults s devices kinds world close
     up_at_end none_fails d lt = ap (λ l. (stand_at l d).up) world_is ∙ ap (λ (x : Stand). x.up) (tells.last.each d lt) ∙ stays_up (configuration_of s) s.rounds s.opened d (held_in s) c.kept.configuration (none_fails.up d lt) ((none_failed none_fails).steady d lt)
 
     known : (d : ℕ) (device : D) → slice_get devices d ≡ Some device → d < length s.devices
-    known d device at = (let there = slice_get_within devices d device at in let same = sizes tag stands turns probes faults s devices c in let all = c.kept.devices_size in omega (arith, there, same, all))
+    known d device at = (let there = slice_get_within devices d device at in let same = sizes shows s devices c in let all = c.kept.devices_size in omega (arith, there, same, all))
 
 -- one item more of a list
 pub took_next : {A : Type 0} (xs : List A) (i : ℕ) (x : A) → slice_get xs i ≡ Some x → take (i + 1) xs ≡ take i xs ++ x ∷ []
@@ -290,7 +293,7 @@ took_next (y ∷ xs) zero x at = let same : y ≡ x = cc in ap (λ z. z ∷ []) 
 took_next (y ∷ xs) (suc i) x at = let more : suc i + 1 ≡ suc (i + 1) = omega arith in ap (λ k. take k (y ∷ xs)) more ∙ ap (λ zs. y ∷ zs) (took_next xs i x at)
 
 -- the line of a window that closes has a place in the record's list for each item
-pub items_fit : {D : Type 0} {stands turns probes faults : D → ℕ} (h : Inside D) → IsWhole stands turns probes faults h → IsEmptyFor h.closing.order (length h.order.line.marks)
+pub items_fit : {D : Type 0} {shows : D → Shown} (h : Inside D) → IsWhole shows h → IsEmptyFor h.closing.order (length h.order.line.marks)
 items_fit h k =
     let fits = line_fits _ h.rounds h.opened _ k.shown.configuration in
     let size = sym (length-map h.order.line.marks (λ (x : Mark). x.item)) ∙ ap length k.order.line_is.items in

@@ -1,4 +1,5 @@
 -- What holds of every hub, from what its type keeps.
+use Rattle.device_states.specs.Devices.{Shown}
 use Rattle.hub_core.proofs.weak.WeakChoices.{weak_moves}
 use Rattle.hub_core.proofs.kept.KeptByModel.{by_model, stands_at_home}
 use Rattle.command_rules.specs.Rosters.{commands_of, device_no, is_run, run_no}
@@ -24,13 +25,12 @@ use Rattle.hub_core.specs.Bounds.{IsBounded}
 use Rattle.hub_core.specs.HubCalls.{HubStands, SomeRunMoves}
 use Rattle.hub_core.specs.HubsKept.{HubIsKept}
 use Rattle.hub_core.specs.OpenHubs.{OpenHub, configuration_of, grip_in, held_in, progress_at}
-use Rattle.window_order.specs.KeptOrders.{purpose_of}
+use Rattle.lock_leasing.specs.declared.purposes.Purpose.TheVariants.{Commands}
+use Rattle.lock_leasing.specs.declared.purposes.Purpose.{Purpose}
 use Rattle.hub_core.specs.Steps.{Waits, not_quiet, opened}
 use Rattle.hub_core.specs.declared.known.DeviceProgress.{DeviceProgress}
-use Rattle.window_order.specs.declared.purposes.Purpose.TheVariants.{Command}
-use Rattle.window_order.specs.declared.purposes.Purpose.{Purpose as KeptPurpose}
 use Rattle.hub_core.specs.declared.refusals.NotQuiet.TheVariants.{StillLive, StillOut}
-use Rattle.lock_leasing.specs.Configurations.{Commands, Configuration, is_out, read_of}
+use Rattle.lock_leasing.specs.Configurations.{Configuration, is_out, read_of}
 use Rattle.std.proofs.Common.{ap, arith, refl, subst, sym, ◌∙◌}
 use Rattle.std.proofs.lemmas.Grind.{common_steps}
 use Rattle.std.proofs.lemmas.Option.{same_Some, slice_get_within}
@@ -39,20 +39,20 @@ use Rattle.std.specs.Prelude.{Bool, IfNone, IfSome, IsTrue, List, None, Option, 
 use Rattle.window_order.proofs.Promises.{order_stands}
 use Rattle.window_order.proofs.ReadFacts.{read_facts}
 
-pub kept_at : {D : Type 0} (stands turns probes faults : D → ℕ) (s t : OpenHub D) → s ≡ t → HubIsKept stands turns probes faults s → HubIsKept stands turns probes faults t
-kept_at {D = D} stands turns probes faults s t same k = subst (λ (x : OpenHub D). HubIsKept stands turns probes faults x) same k
+pub kept_at : {D : Type 0} (shows : D → Shown) (s t : OpenHub D) → s ≡ t → HubIsKept shows s → HubIsKept shows t
+kept_at {D = D} shows s t same k = subst (λ (x : OpenHub D). HubIsKept shows x) same k
 
-pub bounded_hub : {D : Type 0} (stands turns probes faults : D → ℕ) (s : OpenHub D) → HubIsKept stands turns probes faults s → IsBounded s
-bounded_hub stands turns probes faults s k = record {
+pub bounded_hub : {D : Type 0} (shows : D → Shown) (s : OpenHub D) → HubIsKept shows s → IsBounded s
+bounded_hub shows s k = record {
   history = history_fits (configuration_of s) s.rounds s.opened (held_in s) k.configuration;
-  few_entries = few_entries stands turns probes faults s k;
+  few_entries = few_entries shows s k;
   ends = ends_fit s.setting (entries_of s.history) k.configuration.history.well_formed;
   dooms = dooms_fit s.setting (entries_of s.history) k.configuration.history.well_formed;
   line = line_fits (configuration_of s) s.rounds s.opened (held_in s) k.configuration;
 }
 
-pub moves_hub : {D : Type 0} (stands turns probes faults : D → ℕ) (s : OpenHub D) → HubIsKept stands turns probes faults s → SomeRunMoves (configuration_of s)
-moves_hub stands turns probes faults s k = by_model (SomeRunMoves (configuration_of s)) (configuration_of s) s.rounds s.opened (held_in s) k.configuration
+pub moves_hub : {D : Type 0} (shows : D → Shown) (s : OpenHub D) → HubIsKept shows s → SomeRunMoves (configuration_of s)
+moves_hub shows s k = by_model (SomeRunMoves (configuration_of s)) (configuration_of s) s.rounds s.opened (held_in s) k.configuration
     (λ c r run going home.
     let moves = some_run_moves (configuration_of s) s.rounds s.opened (held_in s) r c home run going in
     (moves.0, moves.1, moves.2, λ m why waits. absurd (let wait : is_wait (Waits why) ≡ false = ap is_wait (sym waits) ∙ moves.3 m in cc)))
@@ -62,8 +62,8 @@ moves_hub stands turns probes faults s k = by_model (SomeRunMoves (configuration
 device_has : {D : Type 0} (s : OpenHub D) (d : ℕ) (place : Place D) → length s.places ≡ length s.setting.first → slice_get s.places d ≡ Some place → is_device s.setting d ≡ true
 device_has s d place size at = let within : d < length s.setting.first = omega (arith, slice_get_within s.places d place at, size) in grind (arith, common_steps, within)
 
-pub stands_hub : {D : Type 0} (tag stands turns probes faults : D → ℕ) (s : OpenHub D) → ((d : ℕ) (device : D) → slice_get s.places d ≡ Some (Home device) → tag device ≡ d) → HubIsKept stands turns probes faults s → HubStands tag stands turns probes faults s
-stands_hub {D = D} tag stands turns probes faults s numbered k =
+pub stands_hub : {D : Type 0} (shows : D → Shown) (s : OpenHub D) → ((d : ℕ) (device : D) → slice_get s.places d ≡ Some (Home device) → (shows device).tag ≡ d) → HubIsKept shows s → HubStands shows s
+stands_hub {D = D} shows s numbered k =
     let c = k.configuration in
     let read = read_facts s.setting (entries_of s.history) c.history.well_formed in
     record {
@@ -119,10 +119,10 @@ first_out_is {D = D} s (Some d) size some none =
     home y at = ap (λ o. is_some (grip_in o (progress_at s.devices y).purpose)) at.1
 
 -- .. as the code finds it
-pub quiet_hub : {D : Type 0} (stands turns probes faults : D → ℕ) (s t : OpenHub D) (o : Option DeviceNo) → s ≡ t → HubIsKept stands turns probes faults s
+pub quiet_hub : {D : Type 0} (shows : D → Shown) (s t : OpenHub D) (o : Option DeviceNo) → s ≡ t → HubIsKept shows s
     → None ≡ find (λ q. is_none ((read_of (configuration_of s)).run q).ended) (run_numbers s.setting) → IfSome o (λ d. IsFirstOut s.places d.0) → IfNone o (AllHome s.places)
     → option_map (λ d. StillOut d) o ≡ not_quiet (configuration_of t)
-quiet_hub {D = D} stands turns probes faults s t o same k ended some none =
+quiet_hub {D = D} shows s t o same k ended some none =
     quiet_out (configuration_of s) o ended (first_out_is s o k.places_size some none) ∙ ap (λ (x : OpenHub D). not_quiet (configuration_of x)) same
 
 -- Fresh hubs
@@ -135,8 +135,8 @@ no_length : {A : Type 0} (xs : List A) → length xs ≡ 0 → xs ≡ []
 no_length [] e = refl
 no_length (x ∷ xs) e = absurd (omega (arith, e))
 
-pub fresh_is : {D : Type 0} (stands turns probes faults : D → ℕ) (s : OpenHub D) → HubIsKept stands turns probes faults s → length s.history ≡ 0 → s.moment ≡ 0 → AllHome s.places → AllProbesLeft s → configuration_of s ≡ opened s.setting s.rounds
-fresh_is {D = D} stands turns probes faults s k none start home left =
+pub fresh_is : {D : Type 0} (shows : D → Shown) (s : OpenHub D) → HubIsKept shows s → length s.history ≡ 0 → s.moment ≡ 0 → AllHome s.places → AllProbesLeft s → configuration_of s ≡ opened s.setting s.rounds
+fresh_is {D = D} shows s k none start home left =
     let empty : s.history ≡ [] = no_length s.history none in
     λ i. record { setting = s.setting; history = empty i; moment = start i; probes = λ d. untaken d i; grips = λ d. unheld d i }
   where
@@ -183,11 +183,11 @@ fresh_out {D = D} s t o same some there = subst (λ (x : OpenHub D). configurati
     by_device (Some d) some there = λ fresh. fresh_home s d.0 fresh some
 
 -- else it is where no probe was taken
-pub fresh_hub : {D : Type 0} (stands turns probes faults : D → ℕ) (s t : OpenHub D) (o : Option DeviceNo) (b : Bool) → s ≡ t → HubIsKept stands turns probes faults s → length s.history ≡ 0 → s.moment ≡ 0
+pub fresh_hub : {D : Type 0} (shows : D → Shown) (s t : OpenHub D) (o : Option DeviceNo) (b : Bool) → s ≡ t → HubIsKept shows s → length s.history ≡ 0 → s.moment ≡ 0
     → IfNone o (AllHome s.places) → is_some o ≡ false → IsTrue b ↔ AllProbesLeft t → IsTrue b ↔ (configuration_of t ≡ opened t.setting t.rounds)
-fresh_hub {D = D} stands turns probes faults s t o b same k none start home away is =
+fresh_hub {D = D} shows s t o b same k none start home away is =
     subst (λ (x : OpenHub D). IsTrue b ↔ AllProbesLeft x → IsTrue b ↔ (configuration_of x ≡ opened x.setting x.rounds)) same
-    (λ left. (λ test. fresh_is stands turns probes faults s k none start (all_home o home away) (left.0 test), λ fresh. left.1 (fresh_probes s k.devices_size fresh))) is
+    (λ left. (λ test. fresh_is shows s k none start (all_home o home away) (left.0 test), λ fresh. left.1 (fresh_probes s k.devices_size fresh))) is
   where
     all_home : (x : Option DeviceNo) → IfNone x (AllHome s.places) → is_some x ≡ false → AllHome s.places
     all_home None home away = home
@@ -196,20 +196,20 @@ fresh_hub {D = D} stands turns probes faults s t o b same k none start home away
 -- What a hub tells
 
 -- the grip of a device that is out
-pub grip_by_slip : {D : Type 0} (s : OpenHub D) (d : ℕ) (slip : Slip) → Some slip ≡ slip_of (slice_get s.places d) → (configuration_of s).grips d ≡ Some (record { maker = slip.maker; purpose = purpose_of (progress_at s.devices d).purpose })
+pub grip_by_slip : {D : Type 0} (s : OpenHub D) (d : ℕ) (slip : Slip) → Some slip ≡ slip_of (slice_get s.places d) → (configuration_of s).grips d ≡ Some (record { maker = slip.maker; purpose = (progress_at s.devices d).purpose })
 grip_by_slip {D = D} s d slip some = by_place (slice_get s.places d) some
   where
-    by_place : (o : Option (Place D)) → Some slip ≡ slip_of o → grip_in o (progress_at s.devices d).purpose ≡ Some (record { maker = slip.maker; purpose = purpose_of (progress_at s.devices d).purpose })
+    by_place : (o : Option (Place D)) → Some slip ≡ slip_of o → grip_in o (progress_at s.devices d).purpose ≡ Some (record { maker = slip.maker; purpose = (progress_at s.devices d).purpose })
     by_place None e = absurd (cc)
     by_place (Some (Home device)) e = absurd (cc)
-    by_place (Some (Out other task)) e = ap (λ (x : Slip). Some (record { maker = x.maker; purpose = purpose_of (progress_at s.devices d).purpose })) (sym (same_Some slip other e))
+    by_place (Some (Out other task)) e = ap (λ (x : Slip). Some (record { maker = x.maker; purpose = (progress_at s.devices d).purpose })) (sym (same_Some slip other e))
 
 -- the run of a command that is out, and its number
-pub command_out : {D : Type 0} (stands turns probes faults : D → ℕ) (s : OpenHub D) (d : ℕ) (slip : Slip) (k : ℕ) → HubIsKept stands turns probes faults s → Some slip ≡ slip_of (slice_get s.places d)
-    → (progress_at s.devices d).purpose ≡ Command k → IsTrue (is_run s.setting.runs slip.maker) × (k < length (commands_of s.setting.runs slip.maker))
-command_out {D = D} stands turns probes faults s d slip k kept some purpose =
+pub command_out : {D : Type 0} (shows : D → Shown) (s : OpenHub D) (d : ℕ) (slip : Slip) (k : ℕ) → HubIsKept shows s → Some slip ≡ slip_of (slice_get s.places d)
+    → (progress_at s.devices d).purpose ≡ Commands k → IsTrue (is_run s.setting.runs slip.maker) × (k < length (commands_of s.setting.runs slip.maker))
+command_out {D = D} shows s d slip k kept some purpose =
     let n = read_of (configuration_of s) in
-    let grip : (configuration_of s).grips d ≡ Some (record { maker = slip.maker; purpose = Commands k }) = grip_by_slip s d slip some ∙ ap (λ (q : KeptPurpose). Some (record { maker = slip.maker; purpose = purpose_of q })) purpose in
+    let grip : (configuration_of s).grips d ≡ Some (record { maker = slip.maker; purpose = Commands k }) = grip_by_slip s d slip some ∙ ap (λ (q : Purpose). Some (record { maker = slip.maker; purpose = q })) purpose in
     let out = out_is s.setting n (configuration_of s).grips slip.maker k d kept.configuration.grips.runs grip in
     let shaped = shapes s.setting (entries_of s.history) kept.configuration.history.well_formed in
     let next : slice_get (commands_of s.setting.runs slip.maker) (next_of n slip.maker) ≡ Some out.0 = out.1.next in

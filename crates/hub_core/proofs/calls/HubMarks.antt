@@ -1,4 +1,5 @@
 -- The runs that a hub has marked as blocked are blocked after each of its calls.
+use Rattle.device_states.specs.Devices.{Shown}
 use Rattle.hub_core.specs.declared.turns.Turn.TheVariants.{Absent as TurnAbsent, Go, Moved, Over as TurnOver, Wait}
 use Rattle.hub_core.specs.declared.turns.Turn.{Turn}
 use Rattle.history_book.specs.Settings.{Setting, is_weak}
@@ -18,24 +19,24 @@ use Rattle.history_book.specs.declared.entries.Entry.{Entry}
 use Rattle.history_book.specs.Readings.{put}
 use Rattle.hub_core.proofs.steps.HubAnswers.{gave_back, gave_probe_back, took_after, took_choice, took_probe}
 use Rattle.hub_core.proofs.waiting.BlockedSteps.{IsKept, back, goes, left_stay, may_mark, moved, probed, reached, waits}
-use Rattle.hub_core.specs.BlockedMarks.{AreBlocked, AreFreedWeakly, AreLeft, BlockedState, MayBeMarked, NoneMarked, is_waiting}
+use Rattle.hub_core.specs.BlockedMarks.{AreBlocked, AreFreedWeakly, MayBeMarked, is_waiting}
+use Rattle.blocked_runs.specs.Marks.{AreLeft, BlockedState, NoneMarked}
 use Rattle.hub_core.specs.BlockedRuns.{EndNoWait, is_quiet}
 use Rattle.hub_core.specs.HubCalls.{Answers, DeviceGoesOut, IsGiven, IsProbeGiven, IsProbed, IsTurn, SameWindow, carried_by}
 use Rattle.hub_core.specs.HubSteps.{Carried, Gave, HubState, Returned, give_if, is_kept as is_kept_grip, same_carried}
 use Rattle.hub_core.specs.HubsKept.{HubIsKept}
 use Rattle.hub_core.specs.MarkedRuns.{IsAnsweredStill, is_out_for_command}
 use Rattle.hub_core.specs.OpenHubs.{OpenHub, carried_in, configuration_of, grip_in, held_in, hub_state_of, progress_at}
-use Rattle.window_order.specs.KeptOrders.{purpose_of}
 use Rattle.hub_core.specs.Steps.{Absent, Choice, HandsOut, Moves, Over, Waits, after_choice, after_give, after_take, at_moment, choice_of, decide, give_entries, probe_grip, with_entries, with_grip}
 use Rattle.hub_core.specs.declared.waits.Why.{Why}
-use Rattle.lock_leasing.specs.Configurations.{Configuration, Grip, read_of}
+use Rattle.lock_leasing.specs.Configurations.{Configuration, Grip, point_of, read_of}
 use Rattle.std.proofs.Common.{ap, arith, refl, subst, sym, ◌∙◌}
 use Rattle.std.specs.List.{list_all}
 use Rattle.std.specs.Prelude.{Bool, List, None, Ok, Option, Some, false, max, option_map, slice_get, true, unwrap_or, ℕ, ◌&&◌, ◌-◌, ◌≡◌, ◌≢◌, ◌≤◌, ◌⊎◌}
 
 -- a hub whose parts are kept stands for a configuration that is kept
-pub is_kept : {D : Type 0} (stands turns probes faults : D → ℕ) (s : OpenHub D) → is_weak s.setting.mode ≡ false → HubIsKept stands turns probes faults s → IsKept (configuration_of s)
-is_kept stands turns probes faults s strong kept = record { rounds = s.rounds; opened = s.opened; held = held_in s; kept = kept.configuration.ordered strong }
+pub is_kept : {D : Type 0} (shows : D → Shown) (s : OpenHub D) → is_weak s.setting.mode ≡ false → HubIsKept shows s → IsKept (configuration_of s)
+is_kept shows s strong kept = record { rounds = s.rounds; opened = s.opened; held = held_in s; kept = kept.configuration.ordered strong }
 
 some_slip : Slip
 some_slip = record { ticket = 0; device = record { 0 = 0 }; maker = 0; stood = 0; turns = 0; probes = 0; faults = 0 }
@@ -65,63 +66,63 @@ made_marks s u r m entries b after was now is are left =
     subst (λ x. AreBlocked x after) (sym is) (moved s r m entries b after was (subst IsKept is now) are (subst (λ (x : Configuration). AreLeft b after (λ d. EndNoWait x.setting (read_of x) d entries)) is left))
 
 -- which makes entries
-pub marks_moved : {D : Type 0} (stands turns probes faults : D → ℕ) (s t : OpenHub D) (r m : ℕ) (made : Made) (b after : BlockedState) → is_weak s.setting.mode
-    ≡ false → is_weak t.setting.mode ≡ false → HubIsKept stands turns probes faults s → HubIsKept stands turns probes faults t
+pub marks_moved : {D : Type 0} (shows : D → Shown) (s t : OpenHub D) (r m : ℕ) (made : Made) (b after : BlockedState) → is_weak s.setting.mode
+    ≡ false → is_weak t.setting.mode ≡ false → HubIsKept shows s → HubIsKept shows t
     → Answers s r m (Moves (entries_made made)) t → AreBlocked (configuration_of s) b
     → AreLeft b after (λ d. EndNoWait t.setting (read_of (configuration_of t)) d (entries_made made)) → AreBlocked (configuration_of t) after
-marks_moved stands turns probes faults s t r m made b after before then' was now answers are left =
-    made_marks (configuration_of s) (configuration_of t) r m (entries_made made) b after (is_kept stands turns probes faults s before was) (is_kept stands turns probes faults t then' now) (after_answer s t r m (Moves (entries_made made)) answers) are left
+marks_moved shows s t r m made b after before then' was now answers are left =
+    made_marks (configuration_of s) (configuration_of t) r m (entries_made made) b after (is_kept shows s before was) (is_kept shows t then' now) (after_answer s t r m (Moves (entries_made made)) answers) are left
 
 -- or ends its run
-pub marks_over : {D : Type 0} (stands turns probes faults : D → ℕ) (s t : OpenHub D) (r m : ℕ) (end : End) (made : Made) (b after : BlockedState)
-    → is_weak s.setting.mode ≡ false → is_weak t.setting.mode ≡ false → HubIsKept stands turns probes faults s → HubIsKept stands turns probes faults t
+pub marks_over : {D : Type 0} (shows : D → Shown) (s t : OpenHub D) (r m : ℕ) (end : End) (made : Made) (b after : BlockedState)
+    → is_weak s.setting.mode ≡ false → is_weak t.setting.mode ≡ false → HubIsKept shows s → HubIsKept shows t
     → Answers s r m (Over end (entries_made made)) t → AreBlocked (configuration_of s) b
     → AreLeft b after (λ d. EndNoWait t.setting (read_of (configuration_of t)) d (entries_made made)) → AreBlocked (configuration_of t) after
-marks_over stands turns probes faults s t r m end made b after before then' was now answers are left =
-    made_marks (configuration_of s) (configuration_of t) r m (entries_made made) b after (is_kept stands turns probes faults s before was) (is_kept stands turns probes faults t then' now) (after_answer s t r m (Over end (entries_made made)) answers) are left
+marks_over shows s t r m end made b after before then' was now answers are left =
+    made_marks (configuration_of s) (configuration_of t) r m (entries_made made) b after (is_kept shows s before was) (is_kept shows t then' now) (after_answer s t r m (Over end (entries_made made)) answers) are left
 
 -- or waits, and the run may be marked
-pub marks_wait : {D : Type 0} (stands turns probes faults : D → ℕ) (s t : OpenHub D) (r m : ℕ) (why : Why) (b after : BlockedState) → is_weak s.setting.mode
-    ≡ false → is_weak t.setting.mode ≡ false → HubIsKept stands turns probes faults s → HubIsKept stands turns probes faults t → Answers s r m (Waits why) t
+pub marks_wait : {D : Type 0} (shows : D → Shown) (s t : OpenHub D) (r m : ℕ) (why : Why) (b after : BlockedState) → is_weak s.setting.mode
+    ≡ false → is_weak t.setting.mode ≡ false → HubIsKept shows s → HubIsKept shows t → Answers s r m (Waits why) t
     → AreBlocked (configuration_of s) b
     → MayBeMarked (configuration_of t) b r after → AreBlocked (configuration_of t) after
-marks_wait stands turns probes faults s t r m why b after before then' was now answers are may =
+marks_wait shows s t r m why b after before then' was now answers are may =
     let is : configuration_of t ≡ at_moment (configuration_of s) m = after_answer s t r m (Waits why) answers in
-    subst (λ x. AreBlocked x after) (sym is) (waits (configuration_of s) r m why b after (is_kept stands turns probes faults s before was) (subst IsKept is (is_kept stands turns probes faults t then' now)) (sym (chosen s t r m (Waits why) answers)) are (subst (λ x. MayBeMarked x b r after) is may))
+    subst (λ x. AreBlocked x after) (sym is) (waits (configuration_of s) r m why b after (is_kept shows s before was) (subst IsKept is (is_kept shows t then' now)) (sym (chosen s t r m (Waits why) answers)) are (subst (λ x. MayBeMarked x b r after) is may))
 
 -- or is of no run
-pub marks_absent : {D : Type 0} (stands turns probes faults : D → ℕ) (s t : OpenHub D) (r m : ℕ) (b : BlockedState) → is_weak s.setting.mode ≡ false
-    → is_weak t.setting.mode ≡ false → HubIsKept stands turns probes faults s → HubIsKept stands turns probes faults t → Answers s r m Absent t
+pub marks_absent : {D : Type 0} (shows : D → Shown) (s t : OpenHub D) (r m : ℕ) (b : BlockedState) → is_weak s.setting.mode ≡ false
+    → is_weak t.setting.mode ≡ false → HubIsKept shows s → HubIsKept shows t → Answers s r m Absent t
     → AreBlocked (configuration_of s) b → AreBlocked (configuration_of t) b
-marks_absent stands turns probes faults s t r m b before then' was now answers are =
+marks_absent shows s t r m b before then' was now answers are =
     let is : configuration_of t ≡ at_moment (configuration_of s) m = after_answer s t r m Absent answers in
-    subst (λ x. AreBlocked x b) (sym is) (reached (configuration_of s) m b (is_kept stands turns probes faults s before was) (subst IsKept is (is_kept stands turns probes faults t then' now)) are)
+    subst (λ x. AreBlocked x b) (sym is) (reached (configuration_of s) m b (is_kept shows s before was) (subst IsKept is (is_kept shows t then' now)) are)
 
 -- or hands its device out
-pub marks_goes : {D : Type 0} (stands turns probes faults : D → ℕ) (s t : OpenHub D) (r m : ℕ) (grip : Gripped D Ready) (b after : BlockedState)
-    → is_weak s.setting.mode ≡ false → is_weak t.setting.mode ≡ false → HubIsKept stands turns probes faults s → HubIsKept stands turns probes faults t
+pub marks_goes : {D : Type 0} (shows : D → Shown) (s t : OpenHub D) (r m : ℕ) (grip : Gripped D Ready) (b after : BlockedState)
+    → is_weak s.setting.mode ≡ false → is_weak t.setting.mode ≡ false → HubIsKept shows s → HubIsKept shows t
     → DeviceGoesOut s r m grip t → AreBlocked (configuration_of s) b
     → AreLeft b after (λ e. is_out_for_command (configuration_of t) grip.slip.device.0 ≡ false → e ≢ grip.slip.device.0) → AreBlocked (configuration_of t) after
-marks_goes stands turns probes faults s t r m grip b after before then' was now out are left =
+marks_goes shows s t r m grip b after before then' was now out are left =
     let d : ℕ = grip.slip.device.0 in
     let choice : HandsOut d out.purpose ≡ choice_of (configuration_of s) r m = took_choice (hub_state_of s) (hub_state_of t) r m grip.slip (HandsOut d out.purpose) out.step in
     let is : configuration_of t ≡ with_grip (at_moment (configuration_of s) m) d (Some (record { maker = r; purpose = out.purpose })) =
     same_window s t r m (HandsOut d out.purpose) choice (took_after (hub_state_of s) (hub_state_of t) r m grip.slip (HandsOut d out.purpose) out.step) in
-    subst (λ x. AreBlocked x after) (sym is) (goes (configuration_of s) r m d out.purpose b after (home_grip s d grip.device out.home) (is_kept stands turns probes faults s before was) (subst IsKept is (is_kept stands turns probes faults t then' now)) (sym choice) are
+    subst (λ x. AreBlocked x after) (sym is) (goes (configuration_of s) r m d out.purpose b after (home_grip s d grip.device out.home) (is_kept shows s before was) (subst IsKept is (is_kept shows t then' now)) (sym choice) are
     (subst (λ x. AreLeft b after (λ e. is_out_for_command x d ≡ false → e ≢ d)) is left))
 
 -- A probe goes out
 
-pub marks_probed : {D : Type 0} (stands turns probes faults : D → ℕ) (s t : OpenHub D) (d : ℕ) (probe : Option (Gripped D Ready)) (b after : BlockedState)
-    → is_weak s.setting.mode ≡ false → is_weak t.setting.mode ≡ false → HubIsKept stands turns probes faults s → HubIsKept stands turns probes faults t
+pub marks_probed : {D : Type 0} (shows : D → Shown) (s t : OpenHub D) (d : ℕ) (probe : Option (Gripped D Ready)) (b after : BlockedState)
+    → is_weak s.setting.mode ≡ false → is_weak t.setting.mode ≡ false → HubIsKept shows s → HubIsKept shows t
     → IsProbed s d probe t → AreBlocked (configuration_of s) b
     → AreLeft b after (λ e. e ≢ d) → AreBlocked (configuration_of t) after
-marks_probed stands turns probes faults s t d None b after before then' was now out are left =
+marks_probed shows s t d None b after before then' was now out are left =
     subst (λ x. AreBlocked (configuration_of x) after) (sym out.1) (left_stay (configuration_of s) (configuration_of s) b after (λ e. e ≢ d) are left (λ q e blocked next other. (blocked, next)))
-marks_probed stands turns probes faults s t d (Some grip) b after before then' was now out are left =
+marks_probed shows s t d (Some grip) b after before then' was now out are left =
     let took = took_probe (hub_state_of s) (hub_state_of t) d grip.slip grip.task out.0 in
     let is : configuration_of t ≡ record (configuration_of s) { probes = put (configuration_of s).probes d ((configuration_of s).probes d - 1); grips = put (configuration_of s).grips d (Some (probe_grip (configuration_of s) d)) } = took.1 ∙ rw took.0 refl in
-    subst (λ x. AreBlocked x after) (sym is) (probed (configuration_of s) d _ _ b after (home_grip s d grip.device out.1) (is_kept stands turns probes faults s before was) (subst IsKept is (is_kept stands turns probes faults t then' now)) are left)
+    subst (λ x. AreBlocked x after) (sym is) (probed (configuration_of s) d _ _ b after (home_grip s d grip.device out.1) (is_kept shows s before was) (subst IsKept is (is_kept shows t then' now)) are left)
 
 -- A device comes home
 
@@ -134,7 +135,7 @@ back_marks s v n d grip told entries b after was now later out made is are left 
     subst (λ x. AreBlocked x after) (sym is) (back s n d grip told b after later out was (subst IsKept is now) are left'')
 
 -- the grip with which the device in this place is out
-out_grip : {D : Type 0} (s : OpenHub D) (d : ℕ) (slip : Slip) (task : Task) → slice_get s.places d ≡ Some (Out slip task) → (configuration_of s).grips d ≡ Some (record { maker = slip.maker; purpose = purpose_of (progress_at s.devices d).purpose })
+out_grip : {D : Type 0} (s : OpenHub D) (d : ℕ) (slip : Slip) (task : Task) → slice_get s.places d ≡ Some (Out slip task) → (configuration_of s).grips d ≡ Some (record { maker = slip.maker; purpose = (progress_at s.devices d).purpose })
 out_grip s d slip task at = ap (λ o. grip_in o (progress_at s.devices d).purpose) at
 
 -- a grip is taken back of no device that is home
@@ -145,11 +146,11 @@ never_taken s c told result entries more none answer = refused (is_kept_grip s t
     refused true e answer = absurd (cc)
     refused false e answer = absurd (cc)
 
-pub marks_given : {D : Type 0} (stands turns probes faults : D → ℕ) (s t : OpenHub D) (m : ℕ) (grip : Gripped D Done) (made : Made) (b after : BlockedState)
-    → is_weak s.setting.mode ≡ false → is_weak t.setting.mode ≡ false → HubIsKept stands turns probes faults s → HubIsKept stands turns probes faults t
+pub marks_given : {D : Type 0} (shows : D → Shown) (s t : OpenHub D) (m : ℕ) (grip : Gripped D Done) (made : Made) (b after : BlockedState)
+    → is_weak s.setting.mode ≡ false → is_weak t.setting.mode ≡ false → HubIsKept shows s → HubIsKept shows t
     → IsGiven s grip m (Ok made) t → AreBlocked (configuration_of s) b
     → AreLeft b after (λ e. IsAnsweredStill (configuration_of t) grip.slip.device.0 (entries_made made) ⊎ ((e ≢ grip.slip.device.0) × (list_all (is_quiet t.setting e) (entries_made made) ≡ true))) → AreBlocked (configuration_of t) after
-marks_given {D} stands turns probes faults s t m grip made b after before then' was now given are left = by_place (slice_get s.places d) refl
+marks_given {D} shows s t m grip made b after before then' was now given are left = by_place (slice_get s.places d) refl
   where
     d : ℕ
     d = grip.slip.device.0
@@ -160,13 +161,13 @@ marks_given {D} stands turns probes faults s t m grip made b after before then' 
     by_place (Some (Out slip task)) at =
         let out = out_grip s d slip task at in
         let told = gave_back (hub_state_of s) (hub_state_of t) (carried_by grip) grip.stage.told m _ (entries_made made) out given.0 in
-        back_marks (configuration_of s) (configuration_of t) (max s.moment m) d _ grip.stage.told (entries_made made) b after (is_kept stands turns probes faults s before was) (is_kept stands turns probes faults t then' now) (omega (arith)) out told.0 told.1 are left
+        back_marks (configuration_of s) (configuration_of t) (max s.moment m) d _ grip.stage.told (entries_made made) b after (is_kept shows s before was) (is_kept shows t then' now) (omega (arith)) out told.0 told.1 are left
 
-pub marks_probe_given : {D : Type 0} (stands turns probes faults : D → ℕ) (s t : OpenHub D) (grip : Gripped D Done) (made : Made) (b after : BlockedState)
-    → is_weak s.setting.mode ≡ false → is_weak t.setting.mode ≡ false → HubIsKept stands turns probes faults s → HubIsKept stands turns probes faults t
+pub marks_probe_given : {D : Type 0} (shows : D → Shown) (s t : OpenHub D) (grip : Gripped D Done) (made : Made) (b after : BlockedState)
+    → is_weak s.setting.mode ≡ false → is_weak t.setting.mode ≡ false → HubIsKept shows s → HubIsKept shows t
     → IsProbeGiven s grip (Ok made) t → AreBlocked (configuration_of s) b
     → AreLeft b after (λ e. IsAnsweredStill (configuration_of t) grip.slip.device.0 (entries_made made) ⊎ ((e ≢ grip.slip.device.0) × (list_all (is_quiet t.setting e) (entries_made made) ≡ true))) → AreBlocked (configuration_of t) after
-marks_probe_given {D} stands turns probes faults s t grip made b after before then' was now given are left = by_place (slice_get s.places d) refl
+marks_probe_given {D} shows s t grip made b after before then' was now given are left = by_place (slice_get s.places d) refl
   where
     d : ℕ
     d = grip.slip.device.0
@@ -177,7 +178,7 @@ marks_probe_given {D} stands turns probes faults s t grip made b after before th
     by_place (Some (Out slip task)) at =
         let out = out_grip s d slip task at in
         let told = gave_probe_back (hub_state_of s) (hub_state_of t) (carried_by grip) grip.stage.told _ (entries_made made) out given.0 in
-        back_marks (configuration_of s) (configuration_of t) s.moment d _ grip.stage.told (entries_made made) b after (is_kept stands turns probes faults s before was) (is_kept stands turns probes faults t then' now) (omega (arith)) out told.0 told.1 are left
+        back_marks (configuration_of s) (configuration_of t) s.moment d _ grip.stage.told (entries_made made) b after (is_kept shows s before was) (is_kept shows t then' now) (omega (arith)) out told.0 told.1 are left
 
 -- the model is the same before a call
 pub model_before : {D : Type 0} (s t : OpenHub D) (b : Bool) → SameWindow s t → is_weak t.setting.mode ≡ b → is_weak s.setting.mode ≡ b
@@ -185,16 +186,16 @@ model_before s t b same model = ap (λ (w : Setting). is_weak w.mode) (sym same.
 
 -- Under the weak model
 
-pub marks_weakly : {D : Type 0} (stands turns probes faults : D → ℕ) (s t : OpenHub D) (r m : ℕ) (turn : Turn D) (after : BlockedState) → is_weak t.setting.mode
-    ≡ true → HubIsKept stands turns probes faults t → IsTurn s r m turn t → AreFreedWeakly (is_waiting turn) (configuration_of t) r after
+pub marks_weakly : {D : Type 0} (shows : D → Shown) (s t : OpenHub D) (r m : ℕ) (turn : Turn D) (after : BlockedState) → is_weak t.setting.mode
+    ≡ true → HubIsKept shows t → IsTurn s r m turn t → AreFreedWeakly (is_waiting turn) (configuration_of t) r after
     → AreBlocked (configuration_of t) after
-marks_weakly stands turns probes faults s t r m (Go grip) after weak kept is freed = none_blocked (configuration_of t) after (subst NoneMarked freed.marked freed.none)
-marks_weakly stands turns probes faults s t r m (Moved made) after weak kept is freed = none_blocked (configuration_of t) after (subst NoneMarked freed.marked freed.none)
-marks_weakly stands turns probes faults s t r m (TurnOver end made) after weak kept is freed = none_blocked (configuration_of t) after (subst NoneMarked freed.marked freed.none)
-marks_weakly stands turns probes faults s t r m TurnAbsent after weak kept is freed = none_blocked (configuration_of t) after (subst NoneMarked freed.marked freed.none)
-marks_weakly stands turns probes faults s t r m (Wait why) after weak kept is freed =
+marks_weakly shows s t r m (Go grip) after weak kept is freed = none_blocked (configuration_of t) after (subst NoneMarked freed.marked freed.none)
+marks_weakly shows s t r m (Moved made) after weak kept is freed = none_blocked (configuration_of t) after (subst NoneMarked freed.marked freed.none)
+marks_weakly shows s t r m (TurnOver end made) after weak kept is freed = none_blocked (configuration_of t) after (subst NoneMarked freed.marked freed.none)
+marks_weakly shows s t r m TurnAbsent after weak kept is freed = none_blocked (configuration_of t) after (subst NoneMarked freed.marked freed.none)
+marks_weakly shows s t r m (Wait why) after weak kept is freed =
     may_mark (configuration_of t) r 0 why freed.freed after kept.configuration.history.well_formed
-    (ap (λ (x : Configuration). choice_of x r 0) (after_answer s t r m (Waits why) is.0) ∙ ap (decide s.setting (read_of (configuration_of s)) (configuration_of s).grips r) same_moment ∙ sym (chosen s t r m (Waits why) is.0))
+    (ap (λ (x : Configuration). choice_of x r 0) (after_answer s t r m (Waits why) is.0) ∙ ap (decide (point_of (configuration_of s)) r) same_moment ∙ sym (chosen s t r m (Waits why) is.0))
     (none_blocked (configuration_of t) freed.freed freed.none) freed.marked
   where
     same_moment : max (max s.moment m) 0 ≡ max s.moment m

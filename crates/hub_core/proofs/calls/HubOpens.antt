@@ -5,6 +5,7 @@ use Rattle.device_gate.proofs.Places.{device_at as home_there, none_out as not_o
 use Rattle.device_gate.specs.Places.{all_home}
 use Rattle.device_gate.specs.declared.gates.Place.TheVariants.{Home}
 use Rattle.device_gate.specs.declared.gates.Place.{Place}
+use Rattle.device_states.specs.Devices.{Shown}
 use Rattle.history_book.specs.Settings.{Setting}
 use Rattle.home_types.specs.Kinds.{has_value, kind_at}
 use Rattle.home_types.specs.declared.kinds.Kind.{Kind}
@@ -20,7 +21,7 @@ use Rattle.hub_core.specs.HubsKept.{HandsAre, FitsAtHome, HasRoomLeft, HubIsKept
 use Rattle.hub_core.specs.OpenHubs.{OpenHub, configuration_of, grip_in, held_in, no_device, no_events, progress_at}
 use Rattle.hub_core.specs.Openings.{MayOpen}
 use Rattle.hub_core.specs.Steps.{opened}
-use Rattle.window_order.specs.declared.purposes.Purpose.{Purpose}
+use Rattle.lock_leasing.specs.declared.purposes.Purpose.{Purpose}
 use Rattle.hub_core.specs.Homes.{CountsAreLow, HomeIsKept, HomeState, setting_for}
 use Rattle.hub_core.specs.OpeningRooms.{AreKnown, IsClosingRoom, IsOrderRoom, IsScratchFor, known_first}
 use Rattle.hub_core.specs.PlannedPlaces.{IsForHome}
@@ -55,19 +56,19 @@ get_last [] x = refl
 get_last (y ∷ ys) x = get_last ys x
 
 -- one device more is known
-pub known_more : {D : Type 0} (turns probes faults : D → ℕ) (home : HomeState D) (rounds n : ℕ) (known after : List DeviceProgress) (progress : DeviceProgress)
-    → AreKnown turns probes faults home rounds n known → after ≡ known ++ progress ∷ []
-    → ((device : D) → slice_get home.devices n ≡ Some device → progress ≡ known_first rounds (stand_at home.world n).value (turns device) (probes device) (faults device))
-    → AreKnown turns probes faults home rounds (n + 1) after
-known_more {D = D} turns probes faults home rounds n known after progress are more is = rw more (record {
+pub known_more : {D : Type 0} (shows : D → Shown) (home : HomeState D) (rounds n : ℕ) (known after : List DeviceProgress) (progress : DeviceProgress)
+    → AreKnown shows home rounds n known → after ≡ known ++ progress ∷ []
+    → ((device : D) → slice_get home.devices n ≡ Some device → progress ≡ known_first rounds (stand_at home.world n).value (shows device).turns (shows device).probes (shows device).faults)
+    → AreKnown shows home rounds (n + 1) after
+known_more {D = D} shows home rounds n known after progress are more is = rw more (record {
   size = omega (arith, length-append known (progress ∷ []), are.size);
   each = each;
 })
   where
-    each : (d : ℕ) (device : D) → d < n + 1 → slice_get home.devices d ≡ Some device → slice_get (known ++ progress ∷ []) d ≡ Some (known_first rounds (stand_at home.world d).value (turns device) (probes device) (faults device))
+    each : (d : ℕ) (device : D) → d < n + 1 → slice_get home.devices d ≡ Some device → slice_get (known ++ progress ∷ []) d ≡ Some (known_first rounds (stand_at home.world d).value (shows device).turns (shows device).probes (shows device).faults)
     each d device lt at = elim (split d n lt) [
       | inl before ↦ get_front known progress d (omega (arith, before, are.size)) ∙ are.each d device before at
-      | inr here ↦ (let P : ℕ → Type 0 = λ k. slice_get home.devices k ≡ Some device → slice_get (known ++ progress ∷ []) k ≡ Some (known_first rounds (stand_at home.world k).value (turns device) (probes device) (faults device)) in
+      | inr here ↦ (let P : ℕ → Type 0 = λ k. slice_get home.devices k ≡ Some device → slice_get (known ++ progress ∷ []) k ≡ Some (known_first rounds (stand_at home.world k).value (shows device).turns (shows device).probes (shows device).faults) in
           subst P (sym here) (λ there. ap (λ k. slice_get (known ++ progress ∷ []) k) (sym are.size) ∙ get_last known progress ∙ ap Some (is device there)) at)
     ]
       where
@@ -96,33 +97,33 @@ first_hub home roster mode rounds known = record {
 }
 
 -- what a window needs of a home to open
-pub record Opens {D : Type 0} (tag stands turns probes faults : D → ℕ) (home : HomeState D) (roster : Roster) (mode : Mode) (rounds : ℕ) (known : List DeviceProgress) : Type 0 where
-  pub kept : HomeIsKept tag stands turns probes faults home
+pub record Opens {D : Type 0} (shows : D → Shown) (home : HomeState D) (roster : Roster) (mode : Mode) (rounds : ℕ) (known : List DeviceProgress) : Type 0 where
+  pub kept : HomeIsKept shows home
   pub may : MayOpen (setting_for home roster mode) rounds home.opened
-  pub knows : AreKnown turns probes faults home rounds (length home.devices) known
+  pub knows : AreKnown shows home rounds (length home.devices) known
 
 -- a device of the home, and what is known of it
-known_there : {D : Type 0} (turns probes faults : D → ℕ) (home : HomeState D) (rounds : ℕ) (known : List DeviceProgress) (d : ℕ) (device : D)
-    → AreKnown turns probes faults home rounds (length home.devices) known → slice_get home.devices d ≡ Some device
-    → progress_at known d ≡ known_first rounds (stand_at home.world d).value (turns device) (probes device) (faults device)
-known_there turns probes faults home rounds known d device are at =
+known_there : {D : Type 0} (shows : D → Shown) (home : HomeState D) (rounds : ℕ) (known : List DeviceProgress) (d : ℕ) (device : D)
+    → AreKnown shows home rounds (length home.devices) known → slice_get home.devices d ≡ Some device
+    → progress_at known d ≡ known_first rounds (stand_at home.world d).value (shows device).turns (shows device).probes (shows device).faults
+known_there shows home rounds known d device are at =
     get_or_from_slice_get known d _ no_device (are.each d device (slice_get_within home.devices d device at) at)
 
 -- no device of the home
-unknown_there : {D : Type 0} (turns probes faults : D → ℕ) (home : HomeState D) (rounds : ℕ) (known : List DeviceProgress) (d : ℕ)
-    → AreKnown turns probes faults home rounds (length home.devices) known → length home.devices ≤ d → progress_at known d ≡ no_device
-unknown_there turns probes faults home rounds known d are past = past_end known d no_device (omega (arith, are.size, past))
+unknown_there : {D : Type 0} (shows : D → Shown) (home : HomeState D) (rounds : ℕ) (known : List DeviceProgress) (d : ℕ)
+    → AreKnown shows home rounds (length home.devices) known → length home.devices ≤ d → progress_at known d ≡ no_device
+unknown_there shows home rounds known d are past = past_end known d no_device (omega (arith, are.size, past))
 
 -- each device of the home, or none
-data There {D : Type 0} (turns probes faults : D → ℕ) (home : HomeState D) (rounds : ℕ) (known : List DeviceProgress) (d : ℕ) : Type 0 where
-  known_as : (device : D) → slice_get home.devices d ≡ Some device → d < length home.world → progress_at known d ≡ known_first rounds (stand_at home.world d).value (turns device) (probes device) (faults device) → There turns probes faults home rounds known d
-  unknown : length home.world ≤ d → progress_at known d ≡ no_device → There turns probes faults home rounds known d
+data There {D : Type 0} (shows : D → Shown) (home : HomeState D) (rounds : ℕ) (known : List DeviceProgress) (d : ℕ) : Type 0 where
+  known_as : (device : D) → slice_get home.devices d ≡ Some device → d < length home.world → progress_at known d ≡ known_first rounds (stand_at home.world d).value (shows device).turns (shows device).probes (shows device).faults → There shows home rounds known d
+  unknown : length home.world ≤ d → progress_at known d ≡ no_device → There shows home rounds known d
 
-there : {D : Type 0} (turns probes faults : D → ℕ) (home : HomeState D) (rounds : ℕ) (known : List DeviceProgress) (d : ℕ) → length home.devices ≡ length home.world
-    → AreKnown turns probes faults home rounds (length home.devices) known → There turns probes faults home rounds known d
-there turns probes faults home rounds known d size are = elim (slice_get_cases home.devices d).1 [
-  | inl p ↦ known_as p.0 p.2 (let lt = p.1 in omega (arith, lt, size)) (known_there turns probes faults home rounds known d p.0 are p.2)
-  | inr p ↦ unknown (let le = p.0 in omega (arith, le, size)) (unknown_there turns probes faults home rounds known d are p.0)
+there : {D : Type 0} (shows : D → Shown) (home : HomeState D) (rounds : ℕ) (known : List DeviceProgress) (d : ℕ) → length home.devices ≡ length home.world
+    → AreKnown shows home rounds (length home.devices) known → There shows home rounds known d
+there shows home rounds known d size are = elim (slice_get_cases home.devices d).1 [
+  | inl p ↦ known_as p.0 p.2 (let lt = p.1 in omega (arith, lt, size)) (known_there shows home rounds known d p.0 are p.2)
+  | inr p ↦ unknown (let le = p.0 in omega (arith, le, size)) (unknown_there shows home rounds known d are p.0)
 ]
 
 -- every place holds a device that is home
@@ -132,9 +133,9 @@ none_out (x ∷ xs) zero purpose = refl
 none_out (x ∷ xs) (suc d) purpose = none_out xs d purpose
 
 -- the configuration of a window that opens
-pub first_configuration : {D : Type 0} (tag stands turns probes faults : D → ℕ) (home : HomeState D) (roster : Roster) (mode : Mode) (rounds : ℕ) (known : List DeviceProgress)
-    → Opens tag stands turns probes faults home roster mode rounds known → configuration_of (first_hub home roster mode rounds known) ≡ opened (setting_for home roster mode) rounds
-first_configuration tag stands turns probes faults home roster mode rounds known opens = λ i. record {
+pub first_configuration : {D : Type 0} (shows : D → Shown) (home : HomeState D) (roster : Roster) (mode : Mode) (rounds : ℕ) (known : List DeviceProgress)
+    → Opens shows home roster mode rounds known → configuration_of (first_hub home roster mode rounds known) ≡ opened (setting_for home roster mode) rounds
+first_configuration shows home roster mode rounds known opens = λ i. record {
   setting = setting_for home roster mode;
   history = [];
   moment = 0;
@@ -150,34 +151,34 @@ first_configuration tag stands turns probes faults home roster mode rounds known
     out_home false lt e = refl
     out_home true lt e = absurd (cc)
 
-    left_by : (d : ℕ) → There turns probes faults home rounds known d → (progress_at known d).probes_left ≡ (if nat_lt d (length home.world) then rounds else 0)
+    left_by : (d : ℕ) → There shows home rounds known d → (progress_at known d).probes_left ≡ (if nat_lt d (length home.world) then rounds else 0)
     left_by d (known_as device at lt is) = ap (λ (k : DeviceProgress). k.probes_left) is ∙ sym (in_home (nat_lt d (length home.world)) rounds (lt-ltb d (length home.world) lt))
     left_by d (unknown le is) = ap (λ (k : DeviceProgress). k.probes_left) is ∙ sym (out_home (nat_lt d (length home.world)) rounds (le-ltb d (length home.world) le))
 
     left : (d : ℕ) → (progress_at known d).probes_left ≡ (if nat_lt d (length home.world) then rounds else 0)
-    left d = left_by d (there turns probes faults home rounds known d opens.kept.size opens.knows)
+    left d = left_by d (there shows home rounds known d opens.kept.size opens.knows)
 
 -- where the devices stand as the window opens
-pub first_held : {D : Type 0} (tag stands turns probes faults : D → ℕ) (home : HomeState D) (roster : Roster) (mode : Mode) (rounds : ℕ) (known : List DeviceProgress) (d : ℕ)
-    → Opens tag stands turns probes faults home roster mode rounds known → (stand_at home.world d).value ≡ held_in (first_hub home roster mode rounds known) d
-first_held tag stands turns probes faults home roster mode rounds known d opens = by (there turns probes faults home rounds known d opens.kept.size opens.knows)
+pub first_held : {D : Type 0} (shows : D → Shown) (home : HomeState D) (roster : Roster) (mode : Mode) (rounds : ℕ) (known : List DeviceProgress) (d : ℕ)
+    → Opens shows home roster mode rounds known → (stand_at home.world d).value ≡ held_in (first_hub home roster mode rounds known) d
+first_held shows home roster mode rounds known d opens = by (there shows home rounds known d opens.kept.size opens.knows)
   where
-    by : There turns probes faults home rounds known d → (stand_at home.world d).value ≡ (progress_at known d).held
+    by : There shows home rounds known d → (stand_at home.world d).value ≡ (progress_at known d).held
     by (known_as device at lt is) = sym (ap (λ (k : DeviceProgress). k.held) is)
     by (unknown le is) = ap (λ (s : Stand). s.value) (past_end home.world d nowhere le) ∙ sym (ap (λ (k : DeviceProgress). k.held) is)
 
 -- a hub is kept as its window opens
-pub first_kept : {D : Type 0} (tag stands turns probes faults : D → ℕ) (home : HomeState D) (roster : Roster) (mode : Mode) (rounds : ℕ) (known : List DeviceProgress)
-    → Opens tag stands turns probes faults home roster mode rounds known → HubIsKept stands turns probes faults (first_hub home roster mode rounds known)
-first_kept {D = D} tag stands turns probes faults home roster mode rounds known opens = record {
+pub first_kept : {D : Type 0} (shows : D → Shown) (home : HomeState D) (roster : Roster) (mode : Mode) (rounds : ℕ) (known : List DeviceProgress)
+    → Opens shows home roster mode rounds known → HubIsKept shows (first_hub home roster mode rounds known)
+first_kept {D = D} shows home roster mode rounds known opens = record {
   configuration = configuration;
   devices_size = opens.knows.size ∙ opens.kept.size;
   places_size = length-map home.devices (λ device. Home device) ∙ opens.kept.size;
   home = λ d device at. at_home d device (home_there home.devices d device at);
   out = λ d slip task at. absurd (not_out home.devices d slip task at);
-  low = λ d. low d (there turns probes faults home rounds known d opens.kept.size opens.knows);
+  low = λ d. low d (there shows home rounds known d opens.kept.size opens.knows);
   values = λ d lt. subst (λ v. IsTrue (has_value (kind_at home.kinds d) v)) (held d) (opens.kept.values d lt);
-  events = λ d lt. none_yet d (there turns probes faults home rounds known d opens.kept.size opens.knows);
+  events = λ d lt. none_yet d (there shows home rounds known d opens.kept.size opens.knows);
   few_tickets = omega arith;
 }
   where
@@ -188,7 +189,7 @@ first_kept {D = D} tag stands turns probes faults home roster mode rounds known 
     w = setting_for home roster mode
 
     held : (d : ℕ) → (stand_at home.world d).value ≡ held_in s d
-    held d = first_held tag stands turns probes faults home roster mode rounds known d opens
+    held d = first_held shows home roster mode rounds known d opens
 
     all_held : (λ d. (stand_at w.first d).value) ≡ held_in s
     all_held i d = held d i
@@ -196,27 +197,27 @@ first_kept {D = D} tag stands turns probes faults home roster mode rounds known 
     configuration : IsKeptByModel (configuration_of s) rounds home.opened (held_in s)
     configuration =
         subst (λ h. IsKeptByModel (configuration_of s) rounds home.opened h) all_held
-        (subst (λ c. IsKeptByModel c rounds home.opened (λ d. (stand_at w.first d).value)) (sym (first_configuration tag stands turns probes faults home roster mode rounds known opens))
+        (subst (λ c. IsKeptByModel c rounds home.opened (λ d. (stand_at w.first d).value)) (sym (first_configuration shows home roster mode rounds known opens))
         (starts_kept w rounds home.opened opens.may opens.kept.kinds opens.kept.values))
 
-    at_home : (d : ℕ) (device : D) → slice_get home.devices d ≡ Some device → FitsAtHome stands turns probes faults s d device
+    at_home : (d : ℕ) (device : D) → slice_get home.devices d ≡ Some device → FitsAtHome shows s d device
     at_home d device at =
-        let is = known_there turns probes faults home rounds known d device opens.knows at in
+        let is = known_there shows home rounds known d device opens.knows at in
         record {
           stand = λ up. opens.kept.stand d device at up ∙ held d;
-          turns_are = let same : (progress_at known d).at_opening.turns ≡ turns device = ap (λ (k : DeviceProgress). k.at_opening.turns) is in omega (arith, same);
+          turns_are = let same : (progress_at known d).at_opening.turns ≡ (shows device).turns = ap (λ (k : DeviceProgress). k.at_opening.turns) is in omega (arith, same);
           probes_are =
-              let same : (progress_at known d).at_opening.probes ≡ probes device = ap (λ (k : DeviceProgress). k.at_opening.probes) is in
+              let same : (progress_at known d).at_opening.probes ≡ (shows device).probes = ap (λ (k : DeviceProgress). k.at_opening.probes) is in
               let left : (progress_at known d).probes_left ≡ rounds = ap (λ (k : DeviceProgress). k.probes_left) is in omega (arith, same, left);
-          falls_told = let same : (progress_at known d).at_opening.faults ≡ faults device = ap (λ (k : DeviceProgress). k.at_opening.faults) is in omega (arith, same);
-          few_faults = let same : (progress_at known d).at_opening.faults ≡ faults device = ap (λ (k : DeviceProgress). k.at_opening.faults) is in omega (arith, same);
+          falls_told = let same : (progress_at known d).at_opening.faults ≡ (shows device).faults = ap (λ (k : DeviceProgress). k.at_opening.faults) is in omega (arith, same);
+          few_faults = let same : (progress_at known d).at_opening.faults ≡ (shows device).faults = ap (λ (k : DeviceProgress). k.at_opening.faults) is in omega (arith, same);
         }
 
-    none_yet : (d : ℕ) → There turns probes faults home rounds known d → (progress_at known d).events ≡ no_events
+    none_yet : (d : ℕ) → There shows home rounds known d → (progress_at known d).events ≡ no_events
     none_yet d (known_as device at lt is) = ap (λ (k : DeviceProgress). k.events) is
     none_yet d (unknown le is) = ap (λ (k : DeviceProgress). k.events) is
 
-    low : (d : ℕ) → There turns probes faults home rounds known d → CountsAreLow home.opened (progress_at known d).at_opening.turns (progress_at known d).at_opening.probes (progress_at known d).at_opening.faults
+    low : (d : ℕ) → There shows home rounds known d → CountsAreLow home.opened (progress_at known d).at_opening.turns (progress_at known d).at_opening.probes (progress_at known d).at_opening.faults
     low d (known_as device at lt is) = rw is (opens.kept.counts d device at)
     low d (unknown le is) = rw is (record { few_turns = omega arith; few_probes = omega arith; few_faults = omega arith })
 
@@ -234,17 +235,17 @@ first_room home roster mode rounds spare closing size enough room = record {
 }
 
 -- the window was opened on the home
-pub first_opened : {D : Type 0} (tag stands turns probes faults : D → ℕ) (home : HomeState D) (roster : Roster) (mode : Mode) (rounds : ℕ) (known : List DeviceProgress)
-    → Opens tag stands turns probes faults home roster mode rounds known → IsOpened turns probes faults (setting_for home roster mode) rounds home (first_hub home roster mode rounds known)
-first_opened tag stands turns probes faults home roster mode rounds known opens = record {
-  configuration = first_configuration tag stands turns probes faults home roster mode rounds known opens;
+pub first_opened : {D : Type 0} (shows : D → Shown) (home : HomeState D) (roster : Roster) (mode : Mode) (rounds : ℕ) (known : List DeviceProgress)
+    → Opens shows home roster mode rounds known → IsOpened shows (setting_for home roster mode) rounds home (first_hub home roster mode rounds known)
+first_opened shows home roster mode rounds known opens = record {
+  configuration = first_configuration shows home roster mode rounds known opens;
   places = refl;
   rounds_are = refl;
   windows = refl;
   tickets = refl;
-  turns_then = λ d device at. ap (λ (k : DeviceProgress). k.at_opening.turns) (known_there turns probes faults home rounds known d device opens.knows at);
-  probes_then = λ d device at. ap (λ (k : DeviceProgress). k.at_opening.probes) (known_there turns probes faults home rounds known d device opens.knows at);
-  faults_then = λ d device at. ap (λ (k : DeviceProgress). k.at_opening.faults) (known_there turns probes faults home rounds known d device opens.knows at);
+  turns_then = λ d device at. ap (λ (k : DeviceProgress). k.at_opening.turns) (known_there shows home rounds known d device opens.knows at);
+  probes_then = λ d device at. ap (λ (k : DeviceProgress). k.at_opening.probes) (known_there shows home rounds known d device opens.knows at);
+  faults_then = λ d device at. ap (λ (k : DeviceProgress). k.at_opening.faults) (known_there shows home rounds known d device opens.knows at);
 }
 
 -- a setting with the roster that was indexed
@@ -284,13 +285,13 @@ is_first_hub {D = D} home roster mode rounds known kinds world devices opened' s
     all_places = at_home ∙ ap (λ (h : HomeState D). all_home h.devices) seen
 
 -- the line and the table of a window that opens
-pub first_order : {D : Type 0} (tag stands turns probes faults : D → ℕ) (home : HomeState D) (roster : Roster) (mode : Mode) (rounds spare : ℕ) (known : List DeviceProgress) (line : Marked) (table : List LineageState)
-    → Opens tag stands turns probes faults home roster mode rounds known
+pub first_order : {D : Type 0} (shows : D → Shown) (home : HomeState D) (roster : Roster) (mode : Mode) (rounds spare : ℕ) (known : List DeviceProgress) (line : Marked) (table : List LineageState)
+    → Opens shows home roster mode rounds known
     → IsOrderRoom (most_items (length roster.runs.items) (length home.world) rounds) (runs_of roster) home.world line table
     → OrderIsBeside rounds (record { setting = setting_for home roster mode; history = []; spare = spare })
     (configuration_of (first_hub home roster mode rounds known)).grips line table
-first_order tag stands turns probes faults home roster mode rounds spare known line table opens room =
-    subst (λ (g : Grips). OrderIsBeside rounds (record { setting = setting_for home roster mode; history = []; spare = spare }) g line table) (sym (ap (λ (c : Configuration). c.grips) (first_configuration tag stands turns probes faults home roster mode rounds known opens)))
+first_order shows home roster mode rounds spare known line table opens room =
+    subst (λ (g : Grips). OrderIsBeside rounds (record { setting = setting_for home roster mode; history = []; spare = spare }) g line table) (sym (ap (λ (c : Configuration). c.grips) (first_configuration shows home roster mode rounds known opens)))
     (order_begins rounds (setting_for home roster mode) line table room.no_item room.none_sealed room.runs_kept (let same : length (runs_of roster) ≡ length roster.runs.items = length-map roster.runs.items plain_run in rw same (omega (arith, room.room))) room.opened)
 
 -- the scratch of a window that opens is for its home
@@ -305,8 +306,8 @@ first_scratch {D = D} home roster mode rounds kinds world devices opened' settin
     })
 
 -- no run holds a grip
-pub first_hands : {D : Type 0} (tag stands turns probes faults : D → ℕ) (home : HomeState D) (roster : Roster) (mode : Mode) (rounds : ℕ) (known : List DeviceProgress) (hands : List (Option DeviceNo))
-    → Opens tag stands turns probes faults home roster mode rounds known → hands ≡ replicate (length roster.runs.items) None → HandsAre (setting_for home roster mode) (configuration_of (first_hub home roster mode rounds known)).grips hands
-first_hands tag stands turns probes faults home roster mode rounds known hands opens none =
+pub first_hands : {D : Type 0} (shows : D → Shown) (home : HomeState D) (roster : Roster) (mode : Mode) (rounds : ℕ) (known : List DeviceProgress) (hands : List (Option DeviceNo))
+    → Opens shows home roster mode rounds known → hands ≡ replicate (length roster.runs.items) None → HandsAre (setting_for home roster mode) (configuration_of (first_hub home roster mode rounds known)).grips hands
+first_hands shows home roster mode rounds known hands opens none =
     subst (λ (x : List (Option DeviceNo)). HandsAre (setting_for home roster mode) (configuration_of (first_hub home roster mode rounds known)).grips x) (sym (none ∙ ap (λ n. replicate n None) (sym (length-map roster.runs.items plain_run))))
-    (no_hands (setting_for home roster mode) _ (λ d. ap (λ (c : Configuration). c.grips d) (first_configuration tag stands turns probes faults home roster mode rounds known opens)))
+    (no_hands (setting_for home roster mode) _ (λ d. ap (λ (c : Configuration). c.grips d) (first_configuration shows home roster mode rounds known opens)))

@@ -6,6 +6,7 @@ use Rattle.command_rules.specs.Rosters.{Run, command_at, commands_of, device_no,
 use Rattle.device_gate.specs.Grips.{Gripped}
 use Rattle.device_gate.specs.declared.grips.Ready.{Ready}
 use Rattle.device_gate.specs.declared.slips.Task.{Task}
+use Rattle.device_states.specs.Devices.{Shown}
 use Rattle.history_book.proofs.HistoryReads.{MayTake}
 use Rattle.history_book.proofs.Snoc.{put_other}
 use Rattle.history_book.proofs.Splits.{line_length}
@@ -50,7 +51,7 @@ use Rattle.hub_core.proofs.kept.OrderSteps.{done_after, last_follows, may_note_d
 use Rattle.hub_core.proofs.kept.SealedOrders.{sealed_is}
 use Rattle.hub_core.proofs.kept.Sizes.{line_fits}
 use Rattle.hub_core.proofs.kept.TableFits.{counted_told, either_model}
-use Rattle.hub_core.proofs.steps.Choices.{decide_is}
+use Rattle.hub_core.proofs.steps.Choices.{known_by}
 use Rattle.hub_core.proofs.steps.Takes.{live_run}
 use Rattle.hub_core.proofs.windows.StrongChoices.{IsPlacing}
 use Rattle.hub_core.specs.Bounds.{most_items}
@@ -58,7 +59,9 @@ use Rattle.hub_core.specs.HubKept.{ConfigurationIsKept}
 use Rattle.hub_core.specs.HubsKept.{HandsAre, IsWhole, open_of}
 use Rattle.hub_core.specs.KeptByModel.{IsKeptByModel}
 use Rattle.hub_core.specs.KeptOrders.{OrderIsBeside}
-use Rattle.window_order.specs.KeptOrders.{IsSealed, MayArrange, MayNote, arranged, is_first, noted_first, purpose_of, scheduled_with}
+use Rattle.window_order.specs.KeptOrders.{IsSealed, MayArrange, MayNote, arranged, is_first, noted_first, scheduled_with}
+use Rattle.lock_leasing.specs.declared.purposes.Purpose.TheVariants.{Commands, Probes, Undoes}
+use Rattle.lock_leasing.specs.declared.purposes.Purpose.{Purpose}
 use Rattle.hub_core.specs.OpenHubs.{OpenHub, configuration_of, held_in, progress_at}
 use Rattle.hub_core.specs.Openings.{MayOpen, names_values_of}
 use Rattle.hub_core.specs.PlannedPlaces.{AreUsesOf, HoldsPlan, IsForHome}
@@ -68,11 +71,10 @@ use Rattle.window_order.specs.declared.kept_orders.KeptOrder.{KeptOrder}
 use Rattle.hub_core.specs.declared.known.DeviceProgress.{DeviceProgress}
 use Rattle.hub_core.specs.declared.open_windows.OpenWindow.TheInside.{Inside}
 use Rattle.window_order.specs.declared.planned_uses.PlannedUse.{PlannedUse}
-use Rattle.window_order.specs.declared.purposes.Purpose.{Purpose as KeptPurpose}
 use Rattle.lineage_table.specs.Accesses.{IsDisciplined, effective_writer}
 use Rattle.lineage_table.specs.Lineages.{LineageState, accesses_at, committed_lineage, lineage_at, removed, undone, with_lineage}
 use Rattle.lock_leasing.proofs.Facts.{next_is_left}
-use Rattle.lock_leasing.specs.Configurations.{Commands, Configuration, Grips, Probes, Purpose, Undoes, is_command, is_out, is_undo, read_of}
+use Rattle.lock_leasing.specs.Configurations.{Configuration, Grips, is_command, is_out, is_undo, point, point_of, read_of}
 use Rattle.lock_leasing.specs.Places.{GripsFit, IsClear, MayBeOut, in_order}
 use Rattle.lock_leasing.specs.Standings.{IsRosterFor, IsStandingOf}
 use Rattle.serial_line.specs.Marks.{Mark, Marked, items_of, marks_without, settling, stands, touching, with_item}
@@ -144,11 +146,11 @@ hub_standing s rounds opened held spare line table disciplined k order = record 
 
 -- What is kept of the parts of a hub
 
-pub read_whole : {D : Type 0} {stands turns probes faults : D → ℕ} (h : Inside D) → IsWhole stands turns probes faults h → IsRead h.history.setting (read_in h.history)
+pub read_whole : {D : Type 0} {shows : D → Shown} (h : Inside D) → IsWhole shows h → IsRead h.history.setting (read_in h.history)
 read_whole h k = read_kept _ h.rounds h.opened _ k.shown.configuration
 
-pub standing_whole : {D : Type 0} {stands turns probes faults : D → ℕ} (h : Inside D) → ((d : ℕ) → IsDisciplined (accesses_at h.order.table d))
-    → is_weak h.history.setting.mode ≡ false → IsWhole stands turns probes faults h
+pub standing_whole : {D : Type 0} {shows : D → Shown} (h : Inside D) → ((d : ℕ) → IsDisciplined (accesses_at h.order.table d))
+    → is_weak h.history.setting.mode ≡ false → IsWhole shows h
     → IsStandingOf (configuration_of (open_of h)) h.order.table h.order.line.marks h.history.history h.history.setting.runs
 standing_whole h disciplined strong k = hub_standing _ h.rounds h.opened _ h.history.spare h.order.line h.order.table disciplined (k.shown.configuration.ordered strong) k.order
 
@@ -159,7 +161,7 @@ none_beyond (s ∷ table) zero past = absurd (omega (arith, past))
 none_beyond (s ∷ table) (suc e) past = none_beyond table e (omega (arith, past))
 
 -- a device has at most one access for each run
-pub few_whole : {D : Type 0} {stands turns probes faults : D → ℕ} (h : Inside D) → ((d : ℕ) → IsDisciplined (accesses_at h.order.table d)) → IsWhole stands turns probes faults h → (d : ℕ) → length (accesses_at h.order.table d) ≤ length h.history.setting.runs
+pub few_whole : {D : Type 0} {shows : D → Shown} (h : Inside D) → ((d : ℕ) → IsDisciplined (accesses_at h.order.table d)) → IsWhole shows h → (d : ℕ) → length (accesses_at h.order.table d) ≤ length h.history.setting.runs
 few_whole h disciplined k d = by_place (nat_lt d (length h.history.setting.first)) refl
   where
     few_here : d < length h.history.setting.first → length (accesses_at h.order.table d) ≤ length h.history.setting.runs
@@ -173,7 +175,7 @@ few_whole h disciplined k d = by_place (nat_lt d (length h.history.setting.first
     by_place false beyond = let none = ap length (none_beyond h.order.table d (let size = k.order.table_is.devices in let past : length h.history.setting.first ≤ d = grind (arith, common_steps) in omega (arith, size, past))) in omega (arith, none)
 
 -- under the weak model it has none
-pub bare_whole : {D : Type 0} {stands turns probes faults : D → ℕ} (h : Inside D) → IsWhole stands turns probes faults h → is_weak h.history.setting.mode ≡ true → (d : ℕ) → accesses_at h.order.table d ≡ []
+pub bare_whole : {D : Type 0} {shows : D → Shown} (h : Inside D) → IsWhole shows h → is_weak h.history.setting.mode ≡ true → (d : ℕ) → accesses_at h.order.table d ≡ []
 bare_whole h k weak d = by_place (nat_lt d (length h.history.setting.first)) refl
   where
     by_place : (b : Bool) → nat_lt d (length h.history.setting.first) ≡ b → accesses_at h.order.table d ≡ []
@@ -182,52 +184,35 @@ bare_whole h k weak d = by_place (nat_lt d (length h.history.setting.first)) ref
 
 -- A run arrives
 
-pub arrives_whole : {D : Type 0} {stands turns probes faults : D → ℕ} (h t : Inside D) (r m : ℕ) → IsEntered h t r m (Arrived (run_no r) (max h.moment m) ∷ []) Going → t.order ≡ h.order → IsWhole stands turns probes faults h → IsWhole stands turns probes faults t
+pub arrives_whole : {D : Type 0} {shows : D → Shown} (h t : Inside D) (r m : ℕ) → IsEntered h t r m (Arrived (run_no r) (max h.moment m) ∷ []) Going → t.order ≡ h.order → IsWhole shows h → IsWhole shows t
 arrives_whole h t r m enters same k = entered_whole h t r m _ Going enters (λ formed.
     subst (λ (o : KeptOrder). OrderIsBeside h.rounds (with_entry h.history r (Arrived (run_no r) (max h.moment m))) (configuration_of (open_of h)).grips o.line o.table) (sym same) (order_arrived h.history _ _ r (max h.moment m) _ _ refl k.order)) k
 
 -- A run is placed
 
 -- the place of a run that the step of the hub places
-joining : (s : Configuration) (r at m : ℕ) → MayBeOut s.setting (read_of s) s.grips → choice_of s r m ≡ Moves (Placed (run_no r) at (max s.moment m) ∷ []) → IsPlacing s.setting (read_of s) s.grips r at (max s.moment m)
-joining s r at m out =
-    decide_is (λ c. c ≡ Moves (Placed (run_no r) at (max s.moment m) ∷ []) → IsPlacing s.setting (read_of s) s.grips r at (max s.moment m)) s.setting (read_of s) s.grips r (max s.moment m) (record {
-      absent = λ none is. absurd (cc);
-      over = λ e at is. absurd (cc);
-      waits = λ why is. absurd (cc);
-      arrives = λ run none is. absurd (cc);
-      enters = λ x enters is. subst (λ k. IsPlacing s.setting (read_of s) s.grips r k (max s.moment m)) (same_place (length x.front) is) (enters_place s.setting (read_of s) s.grips r (max s.moment m) x out enters);
-      aborted = λ cause act doomed over is. absurd (cc);
-      drops = λ cause d undoing down is. absurd (cc);
-      undoes = λ cause d undoing up is. absurd (cc);
-      revokes = λ c x run strong at is. absurd (cc);
-      skips = λ c skip is. absurd (cc);
-      downs = λ c run next home down is. absurd (cc);
-      goes = λ c run next home up is. absurd (cc);
-      fails_at_end = λ d all at is. absurd (cc);
-      commits = λ all up is. absurd (cc);
-    })
-  where
-    same_place : (a : ℕ) → Moves (Placed (run_no r) a (max s.moment m) ∷ []) ≡ Moves (Placed (run_no r) at (max s.moment m) ∷ []) → a ≡ at
-    same_place a e = cc
+joining : (s : Configuration) (r at m : ℕ) → MayBeOut (point_of s) → choice_of s r m ≡ Moves (Placed (run_no r) at (max s.moment m) ∷ []) → IsPlacing (point_of s) r at (max s.moment m)
+joining s r at m out is =
+    let known = known_by s r m (Moves (Placed (run_no r) at (max s.moment m) ∷ [])) is in
+    subst (λ k. IsPlacing (point_of s) r k (max s.moment m)) (sym known.2) (enters_place (point_of s) r (max s.moment m) known.0 out known.1)
 
-pub joins_at : {D : Type 0} {stands turns probes faults : D → ℕ} (h : Inside D) (r at m : ℕ) → choice_of (configuration_of (open_of h)) r m
-    ≡ Moves (Placed (run_no r) at (max h.moment m) ∷ []) → IsWhole stands turns probes faults h
-    → IsPlacing h.history.setting (read_in h.history) (configuration_of (open_of h)).grips r at (max h.moment m)
+pub joins_at : {D : Type 0} {shows : D → Shown} (h : Inside D) (r at m : ℕ) → choice_of (configuration_of (open_of h)) r m
+    ≡ Moves (Placed (run_no r) at (max h.moment m) ∷ []) → IsWhole shows h
+    → IsPlacing (point h.history.setting (read_in h.history) (configuration_of (open_of h)).grips) r at (max h.moment m)
 joins_at h r at m is k = joining (configuration_of (open_of h)) r at m k.shown.configuration.grips.runs is
 
 -- .. is one of the line
-pub joins_within : {D : Type 0} {stands turns probes faults : D → ℕ} (h : Inside D) (r at m : ℕ) → choice_of (configuration_of (open_of h)) r m ≡ Moves (Placed (run_no r) at (max h.moment m) ∷ []) → IsWhole stands turns probes faults h → at ≤ length h.order.line.marks
+pub joins_within : {D : Type 0} {shows : D → Shown} (h : Inside D) (r at m : ℕ) → choice_of (configuration_of (open_of h)) r m ≡ Moves (Placed (run_no r) at (max h.moment m) ∷ []) → IsWhole shows h → at ≤ length h.order.line.marks
 joins_within h r at m is k =
     let within = (joins_at h r at m is k).within in
     let size = sym (length-map h.order.line.marks (λ (x : Mark). x.item)) ∙ ap length k.order.line_is.items in
     omega (arith, within, size)
 
 -- .. behind what is sealed
-pub joins_behind : {D : Type 0} {stands turns probes faults : D → ℕ} (h : Inside D) (r at m : ℕ) → choice_of (configuration_of (open_of h)) r m ≡ Moves (Placed (run_no r) at (max h.moment m) ∷ []) → IsWhole stands turns probes faults h → h.order.line.sealed ≤ at
+pub joins_behind : {D : Type 0} {shows : D → Shown} (h : Inside D) (r at m : ℕ) → choice_of (configuration_of (open_of h)) r m ≡ Moves (Placed (run_no r) at (max h.moment m) ∷ []) → IsWhole shows h → h.order.line.sealed ≤ at
 joins_behind h r at m is k =
     let behind = (joins_at h r at m is k).sealed in
-    let sealed = sealed_is h.history.setting (read_in h.history) (configuration_of (open_of h)).grips h.order.line (read_whole h k) k.order.line_is k.order.sealed in
+    let sealed = sealed_is (point h.history.setting (read_in h.history) (configuration_of (open_of h)).grips) h.order.line (read_whole h k) k.order.line_is k.order.sealed in
     omega (arith, behind, sealed)
 
 -- the line has one item more
@@ -243,10 +228,10 @@ placed_size w n r at m =
     line = line_for w n r m
 
 -- the line has room for the run
-pub line_place : {D : Type 0} {stands turns probes faults : D → ℕ} (h : Inside D) (r at m : ℕ) → choice_of (configuration_of (open_of h)) r m ≡ Moves (Placed (run_no r) at (max h.moment m) ∷ []) → IsWhole stands turns probes faults h → 0 < h.order.line.spare
+pub line_place : {D : Type 0} {shows : D → Shown} (h : Inside D) (r at m : ℕ) → choice_of (configuration_of (open_of h)) r m ≡ Moves (Placed (run_no r) at (max h.moment m) ∷ []) → IsWhole shows h → 0 < h.order.line.spare
 line_place h r at m is k =
     let n = read_in h.history in
-    let fits = line_fits _ h.rounds h.opened _ (entries_kept _ _ _ _ (open_of h) r m _ Going is k.shown).configuration in
+    let fits = line_fits _ h.rounds h.opened _ (entries_kept _ (open_of h) r m _ Going is k.shown).configuration in
     let longer = ap (λ (x : Reading). length x.line) (read_more h.history.setting h.history.history r (Placed (run_no r) at (max h.moment m))) ∙ placed_size h.history.setting n r at (max h.moment m) in
     let size = sym (length-map h.order.line.marks (λ (x : Mark). x.item)) ∙ ap length k.order.line_is.items in
     omega (arith, fits, longer, size, k.order.room)
@@ -260,8 +245,8 @@ pub joins_set : {D : Type 0} (h : Inside D) (s : OpenHub D) (r at m : ℕ) (room
 joins_set {D = D} h s r at m room seen holds timed = (subst (λ (x : OpenHub D). HoldsPlan room (configuration_of x) r (max x.moment m) at) (sym seen) holds timed).set
 
 -- .. which may be brought to the front
-pub hub_arranges : {D : Type 0} {stands turns probes faults : D → ℕ} (h : Inside D) (s : OpenHub D) (r at m : ℕ) (room : ScratchRoom) → open_of h ≡ s
-    → HoldsPlan room (configuration_of s) r (max s.moment m) at → scheduler_of h.history.setting.mode ≡ Timeline → IsWhole stands turns probes faults h
+pub hub_arranges : {D : Type 0} {shows : D → Shown} (h : Inside D) (s : OpenHub D) (r at m : ℕ) (room : ScratchRoom) → open_of h ≡ s
+    → HoldsPlan room (configuration_of s) r (max s.moment m) at → scheduler_of h.history.setting.mode ≡ Timeline → IsWhole shows h
     → MayArrange room.before h.order.line
 hub_arranges h s r at m room seen holds timed k = may_arrange h.history.setting (read_in h.history) (configuration_of (open_of h)).grips r (max h.moment m) room.before h.order.line h.order.table (read_whole h k) (joins_set h s r at m room seen holds timed) k.order
 
@@ -272,9 +257,9 @@ hub_arranged h s r at m room scheduler flags marks seen holds by same are =
     are ∙ (λ i. arranged (by i) (same i) h.order.line.marks) ∙ arranged_same (scheduler_of h.history.setting.mode) room.before (gap_set h.history.setting (read_in h.history) r (max h.moment m)) h.order.line.marks (joins_set h s r at m room seen holds)
 
 -- the line keeps the run as one of the window
-pub hub_known : {D : Type 0} {stands turns probes faults : D → ℕ} (h : Inside D) (r at m : ℕ) → choice_of (configuration_of (open_of h)) r m ≡ Moves (Placed (run_no r) at (max h.moment m) ∷ []) → IsWhole stands turns probes faults h → is_run h.order.line.runs r ≡ true
+pub hub_known : {D : Type 0} {shows : D → Shown} (h : Inside D) (r at m : ℕ) → choice_of (configuration_of (open_of h)) r m ≡ Moves (Placed (run_no r) at (max h.moment m) ∷ []) → IsWhole shows h → is_run h.order.line.runs r ≡ true
 hub_known h r at m is k =
-    let may : may_follow h.history.setting (read_in h.history) (Placed (run_no r) at (max h.moment m)) ≡ true = last_follows h.history.setting h.history.history r (Placed (run_no r) at (max h.moment m)) (entries_kept _ _ _ _ (open_of h) r m _ Going is k.shown).configuration.history.well_formed in
+    let may : may_follow h.history.setting (read_in h.history) (Placed (run_no r) at (max h.moment m)) ≡ true = last_follows h.history.setting h.history.history r (Placed (run_no r) at (max h.moment m)) (entries_kept _ (open_of h) r m _ Going is k.shown).configuration.history.well_formed in
     let run : is_run h.history.setting.runs r ≡ true = grind (arith, common_steps) in
     k.order.runs.there r ∙ run
 
@@ -287,8 +272,8 @@ pub record MayJoin (w : Setting) (r at : ℕ) (marks : List Mark) (table : List 
 
 -- .. as it may at a place behind which nothing must stand before it, as the line stands then
 pub may_join : (w : Setting) (n : Reading) (g : Grips) (r at m : ℕ) (marks : List Mark) (table : List LineageState) → IsRead w n
-    → IsRosterFor (length w.first) w.runs → may_follow w n (Placed (run_no r) at m) ≡ true → IsClear w (in_order n (line_for w n r m)) g r at
-    → MarksAreKept n g marks → TableIsKept w n g table → MayJoin w r at (marks_for w n r m marks) table
+    → IsRosterFor (length w.first) w.runs → may_follow w n (Placed (run_no r) at m) ≡ true → IsClear (point w (in_order n (line_for w n r m)) g) r at
+    → MarksAreKept n g marks → TableIsKept (point w n g) table → MayJoin w r at (marks_for w n r m marks) table
 may_join w n g r at m marks table read allowed may clear line_is table_is = record {
   few = subst (λ k. k ≤ 256) (sym table_is.devices) allowed.few_devices;
   homed = λ k c within. subst (λ x. (get_or (commands_of w.runs r) k c).device.0 < x) (sym table_is.devices) (allowed.homed r k (get_or (commands_of w.runs r) k c) (slice_get-get_or (commands_of w.runs r) k c within));
@@ -312,11 +297,11 @@ may_join w n g r at m marks table read allowed may clear line_is table_is = reco
     none = grind (arith, common_steps)
 
 -- .. as the step of the hub does
-pub hub_joins : {D : Type 0} {stands turns probes faults : D → ℕ} (h : Inside D) (r at m : ℕ) → choice_of (configuration_of (open_of h)) r m ≡ Moves (Placed (run_no r) at (max h.moment m) ∷ [])
-    → is_weak h.history.setting.mode ≡ false → IsWhole stands turns probes faults h → MayJoin h.history.setting r at (marks_then h r m) h.order.table
+pub hub_joins : {D : Type 0} {shows : D → Shown} (h : Inside D) (r at m : ℕ) → choice_of (configuration_of (open_of h)) r m ≡ Moves (Placed (run_no r) at (max h.moment m) ∷ [])
+    → is_weak h.history.setting.mode ≡ false → IsWhole shows h → MayJoin h.history.setting r at (marks_then h r m) h.order.table
 hub_joins h r at m is strong k =
     may_join h.history.setting (read_in h.history) _ r at (max h.moment m) h.order.line.marks h.order.table (read_whole h k) (roster_allowed h.history.setting h.rounds h.opened k.shown.configuration.opens)
-    (last_follows h.history.setting h.history.history r (Placed (run_no r) at (max h.moment m)) (entries_kept _ _ _ _ (open_of h) r m _ Going is k.shown).configuration.history.well_formed) (joins_at h r at m is k).clear k.order.line_is (k.order.table_is.ordered strong)
+    (last_follows h.history.setting h.history.history r (Placed (run_no r) at (max h.moment m)) (entries_kept _ (open_of h) r m _ Going is k.shown).configuration.history.well_formed) (joins_at h r at m is k).clear k.order.line_is (k.order.table_is.ordered strong)
 
 -- the run stands at its place in the line as it stood then, and is scheduled on its devices
 pub record IsJoined {D : Type 0} (h t : Inside D) (r at m : ℕ) : Type 0 where
@@ -353,17 +338,17 @@ joins_planned {D = D} h s r at m now room uses runs back later seen holds is pla
     are : AreUsesOf uses (times (max h.moment m))
     are = subst (λ t. AreUsesOf uses (times t)) is (planned front (subst (λ t. scheduler_of w.mode ≡ Timeline → HoldsTimes room.slots (times t)) (sym is) holds_here))
 
-pub joins_whole : {D : Type 0} {stands turns probes faults : D → ℕ} (h t : Inside D) (r at m : ℕ)
+pub joins_whole : {D : Type 0} {shows : D → Shown} (h t : Inside D) (r at m : ℕ)
     → IsEntered h t r m (Placed (run_no r) at (max h.moment m) ∷ []) Going → IsJoined h t r at m → is_weak h.history.setting.mode ≡ false
-    → IsWhole stands turns probes faults h → IsWhole stands turns probes faults t
+    → IsWhole shows h → IsWhole shows t
 joins_whole h t r at m enters joined strong k = entered_whole h t r m _ Going enters (λ formed.
     order_placed h.history _ _ r at (max h.moment m) h.order.line t.order.line h.order.table t.order.table (read_whole h k) k.shown.configuration.grips strong (joins_at h r at m enters.chosen k).clear refl formed joined.marks joined.spare joined.runs joined.sealed joined.table k.order) k
 
 -- .. under the weak model it is scheduled on none
-pub enters_whole : {D : Type 0} {stands turns probes faults : D → ℕ} (h t : Inside D) (r at m : ℕ) → IsEntered h t r m
+pub enters_whole : {D : Type 0} {shows : D → Shown} (h t : Inside D) (r at m : ℕ) → IsEntered h t r m
     (Placed (run_no r) at (max h.moment m) ∷ []) Going → t.order.line.marks ≡ with_item at (Ran (run_no r)) h.order.line.marks → t.order.line.spare + 1
     ≡ h.order.line.spare → t.order.line.runs ≡ h.order.line.runs → t.order.line.sealed ≡ h.order.line.sealed → t.order.table ≡ h.order.table
-    → is_weak h.history.setting.mode ≡ true → IsWhole stands turns probes faults h → IsWhole stands turns probes faults t
+    → is_weak h.history.setting.mode ≡ true → IsWhole shows h → IsWhole shows t
 enters_whole h t r at m enters marks spare runs sealed same weak k = entered_whole h t r m _ Going enters (λ formed.
     subst (OrderIsBeside h.rounds (with_entry h.history r (Placed (run_no r) at (max h.moment m))) (configuration_of (open_of h)).grips t.order.line) (sym same)
     (order_joined h.history _ _ r at (max h.moment m) h.order.line t.order.line h.order.table weak (read_whole h k) k.shown.configuration.grips (joins_at h r at m enters.chosen k).sealed refl formed marks spare runs sealed k.order)) k
@@ -372,41 +357,41 @@ enters_whole h t r at m enters marks spare runs sealed same weak k = entered_who
 abbrev pub IsAbsent : ℕ → List Mark → Type 0
 IsAbsent r marks = stands (Ran (run_no r)) marks ≡ false
 
-pub hub_absent : {D : Type 0} {stands turns probes faults : D → ℕ} (h : Inside D) (r at m : ℕ) → choice_of (configuration_of (open_of h)) r m ≡ Moves (Placed (run_no r) at (max h.moment m) ∷ [])
-    → IsWhole stands turns probes faults h → IsAbsent r h.order.line.marks
+pub hub_absent : {D : Type 0} {shows : D → Shown} (h : Inside D) (r at m : ℕ) → choice_of (configuration_of (open_of h)) r m ≡ Moves (Placed (run_no r) at (max h.moment m) ∷ [])
+    → IsWhole shows h → IsAbsent r h.order.line.marks
 hub_absent h r at m is k =
-    let may : may_follow h.history.setting (read_in h.history) (Placed (run_no r) at (max h.moment m)) ≡ true = last_follows h.history.setting h.history.history r (Placed (run_no r) at (max h.moment m)) (entries_kept _ _ _ _ (open_of h) r m _ Going is k.shown).configuration.history.well_formed in
+    let may : may_follow h.history.setting (read_in h.history) (Placed (run_no r) at (max h.moment m)) ≡ true = last_follows h.history.setting h.history.history r (Placed (run_no r) at (max h.moment m)) (entries_kept _ (open_of h) r m _ Going is k.shown).configuration.history.well_formed in
     let none : is_none ((read_in h.history).run r).placed ≡ true = grind (arith, common_steps) in
     unplaced_absent h.history.setting (read_in h.history) _ r h.order.line.marks (read_whole h k) none k.order.line_is
 
 -- Under the weak model
 
 -- the device of a next command is one of those that the table has
-pub next_home : {D : Type 0} {stands turns probes faults : D → ℕ} (h : Inside D) (r : ℕ) (c : Command) → Some c ≡ next_command h.history.setting (read_in h.history) r → IsWhole stands turns probes faults h → c.device.0 < length h.order.table
+pub next_home : {D : Type 0} {shows : D → Shown} (h : Inside D) (r : ℕ) (c : Command) → Some c ≡ next_command h.history.setting (read_in h.history) r → IsWhole shows h → c.device.0 < length h.order.table
 next_home h r c next k =
     let home : IsTrue (is_device h.history.setting c.device.0 && names_values_of (kind_at h.history.setting.kinds c.device.0) c.job) = k.shown.configuration.opens.homed r (next_of (read_in h.history) r) c (sym next) in
     let within = below_home h.history.setting c.device.0 (and_parts (is_device h.history.setting c.device.0) (names_values_of (kind_at h.history.setting.kinds c.device.0) c.job) home).0 in
     omega (arith, within, k.order.table_is.devices)
 
 -- the run is told Down where its device, which is home, is counted down
-pub hub_downs : {D : Type 0} {stands turns probes faults : D → ℕ} (h : Inside D) (s : OpenHub D) (r k v : ℕ) (p : RunProgress) (c : Command) → open_of h ≡ s → p ≡ progress_of ((read_of (configuration_of s)).run r) → p.doomed ≡ None → Some c ≡ next_command h.history.setting (read_in h.history) r
-    → k ≡ next_of (read_in h.history) r → v ≡ ((read_in h.history).run r).register → holds c.when v ≡ true → is_out (configuration_of s).grips c.device.0 ≡ false → false ≡ (lineage_at h.order.table c.device.0).up → IsWhole stands turns probes faults h
-    → Moves (Did (run_no r) k Down ∷ (if c.must then Doomed (run_no r) (MustDown k) ∷ [] else [])) ≡ weak_rest s.setting (read_of (configuration_of s)) (configuration_of s).grips r
+pub hub_downs : {D : Type 0} {shows : D → Shown} (h : Inside D) (s : OpenHub D) (r k v : ℕ) (p : RunProgress) (c : Command) → open_of h ≡ s → p ≡ progress_of ((read_of (configuration_of s)).run r) → p.doomed ≡ None → Some c ≡ next_command h.history.setting (read_in h.history) r
+    → k ≡ next_of (read_in h.history) r → v ≡ ((read_in h.history).run r).register → holds c.when v ≡ true → is_out (configuration_of s).grips c.device.0 ≡ false → false ≡ (lineage_at h.order.table c.device.0).up → IsWhole shows h
+    → Moves (Did (run_no r) k Down ∷ (if c.must then Doomed (run_no r) (MustDown k) ∷ [] else [])) ≡ weak_rest (point_of (configuration_of s)) r
 hub_downs {D = D} h s r k v p c seen known sound next number value guard home down whole =
     ap (λ x. Moves (Did (run_no r) x Down ∷ (if c.must then Doomed (run_no r) (MustDown x) ∷ [] else []))) (number ∙ ap (λ (x : OpenHub D). next_of (read_of (configuration_of x)) r) seen)
-    ∙ rest_downs s.setting (read_of (configuration_of s)) (configuration_of s).grips r c (ap (λ (x : RunProgress). x.doomed) (sym known) ∙ sound)
+    ∙ rest_downs (point_of (configuration_of s)) r c (ap (λ (x : RunProgress). x.doomed) (sym known) ∙ sound)
     (ap (λ (x : OpenHub D). next_command x.setting (read_of (configuration_of x)) r) (sym seen) ∙ sym next) (ap (holds c.when) (sym (value ∙ ap (λ (x : OpenHub D). ((read_of (configuration_of x)).run r).register) seen)) ∙ guard) home
-    (ap (λ (x : OpenHub D). (read_of (configuration_of x)).up c.device.0) (sym seen) ∙ sym (counted_told h.history.setting (read_in h.history) (configuration_of (open_of h)).grips h.order.table c.device.0 below whole.order.table_is) ∙ sym down)
+    (ap (λ (x : OpenHub D). (read_of (configuration_of x)).up c.device.0) (sym seen) ∙ sym (counted_told (point h.history.setting (read_in h.history) (configuration_of (open_of h)).grips) h.order.table c.device.0 below whole.order.table_is) ∙ sym down)
   where
     below : c.device.0 < length h.history.setting.first
     below = let within = next_home h r c next whole in omega (arith, within, whole.order.table_is.devices)
 
 -- A run ends
 
-pub commits_whole : {D : Type 0} {stands turns probes faults : D → ℕ} (h t : Inside D) (r m : ℕ) → IsEntered h t r m (Ended (run_no r) Committed ∷ [])
+pub commits_whole : {D : Type 0} {shows : D → Shown} (h t : Inside D) (r m : ℕ) → IsEntered h t r m (Ended (run_no r) Committed ∷ [])
     (Ending Committed) → t.order.line.marks ≡ settling r h.order.line.marks → t.order.line.spare ≡ h.order.line.spare → t.order.line.runs ≡ h.order.line.runs
     → IsSealed t.order.line → ChangesEach (λ d. committed_lineage r) h.order.table t.order.table
-    → IsWhole stands turns probes faults h → IsWhole stands turns probes faults t
+    → IsWhole shows h → IsWhole shows t
 commits_whole h t r m enters marks spare runs sealed table k = entered_whole h t r m _ (Ending Committed) enters (λ formed.
     order_committed h.history _ _ r h.order.line t.order.line h.order.table t.order.table (read_whole h k) k.shown.configuration.grips refl formed marks spare runs sealed table k.order) k
 
@@ -418,7 +403,7 @@ pub record IsWithdrawn {D : Type 0} (h t : Inside D) (r : ℕ) : Type 0 where
   pub sealed : IsSealed t.order.line
   pub table : ChangesEach (λ d. removed r) h.order.table t.order.table
 
-pub aborts_whole : {D : Type 0} {stands turns probes faults : D → ℕ} (h t : Inside D) (r m : ℕ) (cause : Cause) → IsEntered h t r m (Ended (run_no r) (Aborted cause) ∷ []) (Ending (Aborted cause)) → IsWithdrawn h t r → IsWhole stands turns probes faults h → IsWhole stands turns probes faults t
+pub aborts_whole : {D : Type 0} {shows : D → Shown} (h t : Inside D) (r m : ℕ) (cause : Cause) → IsEntered h t r m (Ended (run_no r) (Aborted cause) ∷ []) (Ending (Aborted cause)) → IsWithdrawn h t r → IsWhole shows h → IsWhole shows t
 aborts_whole h t r m cause enters left k = entered_whole h t r m _ (Ending (Aborted cause)) enters (λ formed.
     order_aborted h.history _ _ r cause h.order.line t.order.line h.order.table t.order.table (read_whole h k) refl formed left.marks left.spare left.runs left.sealed left.table k.order) k
 
@@ -435,7 +420,7 @@ bare_beyond table k d size bare = by_place (nat_lt d k) refl
     by_place true within = bare d (grind (arith, common_steps))
     by_place false beyond = past table d (let over : k ≤ d = grind (arith, common_steps) in omega (arith, over, size))
 
-pub hub_finished : {D : Type 0} {stands turns probes faults : D → ℕ} (h : Inside D) (r m : ℕ) (cause : Cause) → ((d : ℕ) → IsDisciplined (accesses_at h.order.table d)) → IsAborting (configuration_of (open_of h)) r cause → IsWhole stands turns probes faults h → next_undo h.order.table r ≡ Finished
+pub hub_finished : {D : Type 0} {shows : D → Shown} (h : Inside D) (r m : ℕ) (cause : Cause) → ((d : ℕ) → IsDisciplined (accesses_at h.order.table d)) → IsAborting (configuration_of (open_of h)) r cause → IsWhole shows h → next_undo h.order.table r ≡ Finished
 hub_finished h r m cause disciplined ends k = either_model (next_undo h.order.table r ≡ Finished) h.history.setting
     (λ weak. ap (λ o. unwrap_or (option_map (undo_on h.order.table r) o) Finished) (none_found (has_effective_write h.order.table r) (range_with_len 0 (length h.order.table))
     (λ d. ap (λ xs. unwrap_or (option_map (λ q. q.0 == r) (effective_writer xs)) false) (bare_beyond h.order.table (length h.history.setting.first) d k.order.table_is.devices (λ e below. (k.order.table_is.weakly weak e below).accesses)))))
@@ -444,21 +429,21 @@ hub_finished h r m cause disciplined ends k = either_model (next_undo h.order.ta
 -- The write of a run is dropped
 
 -- the device is one of those that the table has
-pub dropped_there : {D : Type 0} {stands turns probes faults : D → ℕ} (h : Inside D) (r m d : ℕ) → choice_of (configuration_of (open_of h)) r m ≡ Moves (Undid (run_no r) (device_no d) false ∷ []) → IsWhole stands turns probes faults h → d < length h.order.table
+pub dropped_there : {D : Type 0} {shows : D → Shown} (h : Inside D) (r m d : ℕ) → choice_of (configuration_of (open_of h)) r m ≡ Moves (Undid (run_no r) (device_no d) false ∷ []) → IsWhole shows h → d < length h.order.table
 dropped_there h r m d is k =
     let within = below_home h.history.setting d (dropping (configuration_of (open_of h)) h.rounds h.opened (held_in (open_of h)) r m d k.shown.configuration is).device in
     omega (arith, within, k.order.table_is.devices)
 
-pub drops_whole : {D : Type 0} {stands turns probes faults : D → ℕ} (h t : Inside D) (r m d : ℕ)
+pub drops_whole : {D : Type 0} {shows : D → Shown} (h t : Inside D) (r m d : ℕ)
     → IsEntered h t r m (Undid (run_no r) (device_no d) false ∷ []) Going → t.order.line ≡ h.order.line
-    → t.order.table ≡ with_lineage h.order.table d (undone r) → IsWhole stands turns probes faults h → IsWhole stands turns probes faults t
+    → t.order.table ≡ with_lineage h.order.table d (undone r) → IsWhole shows h → IsWhole shows t
 drops_whole h t r m d enters line table k = entered_whole h t r m _ Going enters (λ formed.
     order_dropped h.history _ _ r d h.order.line t.order.line h.order.table t.order.table (read_whole h k) (dropped_there h r m d enters.chosen k) refl line table k.order) k
 
 -- A run is doomed at its end
 
-pub fails_whole : {D : Type 0} {stands turns probes faults : D → ℕ} (h t : Inside D) (r m : ℕ) (d : DeviceNo) → IsEntered h t r m (Doomed (run_no r) (DownAtEnd d) ∷ []) Going → t.order.line ≡ h.order.line → ChangesEach (λ e. doomed_lineage r) h.order.table t.order.table
-    → IsWhole stands turns probes faults h → IsWhole stands turns probes faults t
+pub fails_whole : {D : Type 0} {shows : D → Shown} (h t : Inside D) (r m : ℕ) (d : DeviceNo) → IsEntered h t r m (Doomed (run_no r) (DownAtEnd d) ∷ []) Going → t.order.line ≡ h.order.line → ChangesEach (λ e. doomed_lineage r) h.order.table t.order.table
+    → IsWhole shows h → IsWhole shows t
 fails_whole h t r m d enters line table k = entered_whole h t r m _ Going enters (λ formed.
     order_doomed h.history _ _ r (DownAtEnd d) h.order.line t.order.line h.order.table t.order.table (read_whole h k) k.shown.configuration.grips (none_commands h.history.setting _ r none) refl formed line table k.order) k
   where
@@ -489,8 +474,8 @@ pub record MayTellDown {D : Type 0} (h : Inside D) (r k : ℕ) : Type 0 where
   pub homed : (command_at h.history.setting.runs r k).device.0 < length h.order.table
   pub turn : is_weak h.history.setting.mode ≡ false → MayNote r (lineage_at h.order.table (command_at h.history.setting.runs r k).device.0)
 
-pub may_tell_down : {D : Type 0} {stands turns probes faults : D → ℕ} (h : Inside D) (r m k : ℕ) (must : Bool) → choice_of (configuration_of (open_of h)) r m
-    ≡ Moves (Did (run_no r) k Down ∷ (if must then Doomed (run_no r) (MustDown k) ∷ [] else [])) → IsWhole stands turns probes faults h → MayTellDown h r k
+pub may_tell_down : {D : Type 0} {shows : D → Shown} (h : Inside D) (r m k : ℕ) (must : Bool) → choice_of (configuration_of (open_of h)) r m
+    ≡ Moves (Did (run_no r) k Down ∷ (if must then Doomed (run_no r) (MustDown k) ∷ [] else [])) → IsWhole shows h → MayTellDown h r k
 may_tell_down h r m k must is whole = record {
   run = live_run w (read_in h.history) r (read_whole h whole).shaped down.live;
   number = down.number;
@@ -529,8 +514,8 @@ pub record IsToldSo {D : Type 0} (h t : Inside D) (r k : ℕ) (must : Bool) (c :
   pub changed : IsSome cause → ChangesEach (λ d. doomed_lineage r) between.table t.order.table
 
 -- there is a place for the answer, ..
-pub down_place : {D : Type 0} {stands turns probes faults : D → ℕ} (h : Inside D) (r m k : ℕ) (must : Bool) → choice_of (configuration_of (open_of h)) r m
-    ≡ Moves (Did (run_no r) k Down ∷ (if must then Doomed (run_no r) (MustDown k) ∷ [] else [])) → IsWhole stands turns probes faults h → 0 < h.history.spare
+pub down_place : {D : Type 0} {shows : D → Shown} (h : Inside D) (r m k : ℕ) (must : Bool) → choice_of (configuration_of (open_of h)) r m
+    ≡ Moves (Did (run_no r) k Down ∷ (if must then Doomed (run_no r) (MustDown k) ∷ [] else [])) → IsWhole shows h → 0 < h.history.spare
 down_place h r m k must is whole = at must (has_places h r m _ Going is whole)
   where
     at : (b : Bool) → length (Did (run_no r) k Down ∷ (if b then Doomed (run_no r) (MustDown k) ∷ [] else [])) ≤ h.history.spare → 0 < h.history.spare
@@ -538,15 +523,15 @@ down_place h r m k must is whole = at must (has_places h r m _ Going is whole)
     at false places = let one : 1 ≤ h.history.spare = places in omega (arith, one)
 
 -- the answer and the doom may be appended
-pub told_takes : {D : Type 0} {stands turns probes faults : D → ℕ} (h : Inside D) (r m k : ℕ) (must : Bool) (cause : Option Cause)
+pub told_takes : {D : Type 0} {shows : D → Shown} (h : Inside D) (r m k : ℕ) (must : Bool) (cause : Option Cause)
     → choice_of (configuration_of (open_of h)) r m ≡ Moves (Did (run_no r) k Down ∷ (if must then Doomed (run_no r) (MustDown k) ∷ [] else []))
     → cause ≡ (if must then Some (MustDown k) else None)
-    → IsWhole stands turns probes faults h → MayTake h.history r (answer_entries r k Down cause)
+    → IsWhole shows h → MayTake h.history r (answer_entries r k Down cause)
 told_takes h r m k must cause is because whole = takes_here h r m (answer_entries r k Down cause) Going (is ∙ ap (λ es. Moves es) (told_entries r k must cause because)) whole
 
 -- behind the answer there is a place for the doom
-pub told_place : {D : Type 0} {stands turns probes faults : D → ℕ} (h : Inside D) (r m k : ℕ) (must : Bool) (cause : Option Cause) (mid : HistoryState) → choice_of (configuration_of (open_of h)) r m ≡ Moves (Did (run_no r) k Down ∷ (if must then Doomed (run_no r) (MustDown k) ∷ [] else []))
-    → cause ≡ (if must then Some (MustDown k) else None) → mid ≡ with_entry h.history r (Did (run_no r) k Down) → IsWhole stands turns probes faults h → IsSome cause → 0 < mid.spare
+pub told_place : {D : Type 0} {shows : D → Shown} (h : Inside D) (r m k : ℕ) (must : Bool) (cause : Option Cause) (mid : HistoryState) → choice_of (configuration_of (open_of h)) r m ≡ Moves (Did (run_no r) k Down ∷ (if must then Doomed (run_no r) (MustDown k) ∷ [] else []))
+    → cause ≡ (if must then Some (MustDown k) else None) → mid ≡ with_entry h.history r (Did (run_no r) k Down) → IsWhole shows h → IsSome cause → 0 < mid.spare
 told_place h r m k must cause mid is because answered whole some = at cause some (has_places h r m (answer_entries r k Down cause) Going (is ∙ ap (λ es. Moves es) (told_entries r k must cause because)) whole)
   where
     at : (c : Option Cause) → IsSome c → length (answer_entries r k Down c) ≤ h.history.spare → 0 < mid.spare
@@ -572,9 +557,9 @@ told_enters h t r m k must c cause mid last between is new told = record {
   new = new ∙ λ i. record h { history = (told.doomed ∙ ap (λ x. with_doom x r cause) told.answered ∙ answered_more h.history r k Down cause) i; moment = max h.moment m; order = t.order };
 }
 
-pub told_whole : {D : Type 0} {stands turns probes faults : D → ℕ} (h t : Inside D) (r m k : ℕ) (must : Bool) (c : Command) (cause : Option Cause) (mid : HistoryState) (last : Bool) (between : KeptOrder)
+pub told_whole : {D : Type 0} {shows : D → Shown} (h t : Inside D) (r m k : ℕ) (must : Bool) (c : Command) (cause : Option Cause) (mid : HistoryState) (last : Bool) (between : KeptOrder)
     → choice_of (configuration_of (open_of h)) r m ≡ Moves (Did (run_no r) k Down ∷ (if must then Doomed (run_no r) (MustDown k) ∷ [] else [])) → t ≡ record h { history = t.history; moment = max h.moment m; order = t.order } → IsToldSo h t r k must c cause mid last between
-    → IsWhole stands turns probes faults h → IsWhole stands turns probes faults t
+    → IsWhole shows h → IsWhole shows t
 told_whole {D = D} h t r m k must c cause mid last between is new told whole = entered_whole h t r m es Going enters (λ formed.
     order_doomed_if mid (with_more h.history r es) g r cause between.line t.order.line between.table t.order.table fit (none_commands w g r none) (sym history) formed told.line_after told.unchanged told.changed
     (either_model (OrderIsBeside h.rounds mid g between.line between.table) w
@@ -611,8 +596,8 @@ told_whole {D = D} h t r m k must c cause mid last between is new told whole = e
     reads : (mid.setting ≡ w) × (read_in mid ≡ entry w n (Did (run_no r) k Down))
     reads = (ap (λ (x : HistoryState). x.setting) told.answered, ap read_in told.answered ∙ read_more w h.history.history r (Did (run_no r) k Down))
 
-    fit : GripsFit mid.setting (read_in mid) g
-    fit = subst (λ x. GripsFit x (read_in mid) g) (sym reads.0) (subst (λ x. GripsFit w x g) (sym reads.1) (fits_other w n (entry w n (Did (run_no r) k Down)) g r (λ q ne. put_other n.run r _ q ne) none whole.shown.configuration.grips))
+    fit : GripsFit (point mid.setting (read_in mid) g)
+    fit = subst (λ x. GripsFit (point x (read_in mid) g)) (sym reads.0) (subst (λ x. GripsFit (point w x g)) (sym reads.1) (fits_other w n (entry w n (Did (run_no r) k Down)) g r (λ q ne. put_other n.run r _ q ne) none whole.shown.configuration.grips))
 
     last_is : last ≡ is_done_there w n r k
     last_is = told.last_is ∙ (λ i. is_doomed (reads.1 i) r || not (pends (reads.0 i) (reads.1 i) r (told.command i).device.0)) ∙ done_after w n r k Down (command_at w.runs r k).device.0 down.number refl
@@ -628,9 +613,9 @@ pub standing_size : (s : Configuration) (table : List LineageState) (line : List
 standing_size s table line history runs parts = sym (length-map line (λ (x : Mark). x.item)) ∙ ap length parts.its_line.items
 
 -- the line of a hub has no more items than the scratch has room for
-pub standing_fits : {D : Type 0} {stands turns probes faults : D → ℕ} (h : Inside D) (s : OpenHub D) (table : List LineageState) (line : List Mark)
+pub standing_fits : {D : Type 0} {shows : D → Shown} (h : Inside D) (s : OpenHub D) (table : List LineageState) (line : List Mark)
     (history : List Kept) (runs : List Run) (room : ScratchRoom) → open_of h ≡ s → IsStandingOf (configuration_of s) table line history runs
-    → IsForHome s.setting s.rounds room → IsWhole stands turns probes faults h → length line ≤ room.items
+    → IsForHome s.setting s.rounds room → IsWhole shows h → length line ≤ room.items
 standing_fits {D = D} h s table line history runs room seen parts home k =
     let size = standing_size (configuration_of s) table line history runs parts in
     let fits = subst (λ (x : OpenHub D). length (read_of (configuration_of x)).line ≤ most_items (length x.setting.runs) (length x.setting.first) x.rounds) seen (line_fits _ h.rounds h.opened _ k.shown.configuration) in
@@ -681,10 +666,10 @@ pub record IsTouched {D : Type 0} (h t : Inside D) (r d : ℕ) (purpose : Purpos
   pub sealed : t.order.line.sealed ≡ h.order.line.sealed
   pub table : t.order.table ≡ (if is_undo purpose then with_lineage h.order.table d (undone r) else h.order.table)
 
-order_went : {D : Type 0} {stands turns probes faults : D → ℕ} (h t : Inside D) (r m d : ℕ) (purpose : KeptPurpose) (known : DeviceProgress) (task : Task) (grip : Gripped D Ready) → IsHanded turns probes faults h t r m d purpose known task grip → IsTouched h t r d (purpose_of purpose)
-    → IsWhole stands turns probes faults h → OrderIsBeside h.rounds h.history (configuration_of (open_of t)).grips t.order.line t.order.table
+order_went : {D : Type 0} {shows : D → Shown} (h t : Inside D) (r m d : ℕ) (purpose : Purpose) (known : DeviceProgress) (task : Task) (grip : Gripped D Ready) → IsHanded shows h t r m d purpose known task grip → IsTouched h t r d purpose
+    → IsWhole shows h → OrderIsBeside h.rounds h.history (configuration_of (open_of t)).grips t.order.line t.order.table
 order_went {D = D} h t r m d purpose known task grip handed touched k =
-    went_for h.history s g (configuration_of (open_of t)).grips r d (purpose_of purpose) h.order.line t.order.line h.order.table t.order.table refl refl (read_whole h k) (none_there (g d) out.home)
+    went_for h.history s g (configuration_of (open_of t)).grips r d purpose h.order.line t.order.line h.order.table t.order.table refl refl (read_whole h k) (none_there (g d) out.home)
     (let first : d < length h.history.setting.first = below_home h.history.setting d out.device in
     let size : length h.order.table ≡ length h.history.setting.first = k.order.table_is.devices in omega (arith, first, size)) out.for gone touched.marks
     touched.spare touched.runs touched.sealed touched.table k.order
@@ -695,25 +680,25 @@ order_went {D = D} h t r m d purpose known task grip handed touched k =
     g : Grips
     g = s.grips
 
-    out : IsHandedOut s r d (purpose_of purpose)
-    out = handed_out s h.rounds h.opened (held_in (open_of h)) r m d (purpose_of purpose) k.shown.configuration handed.chosen
+    out : IsHandedOut s r d purpose
+    out = handed_out s h.rounds h.opened (held_in (open_of h)) r m d purpose k.shown.configuration handed.chosen
 
-    gone : ◌≡◌ {A = Grips} (configuration_of (open_of t)).grips (put g d (Some (record { maker = r; purpose = purpose_of purpose })))
+    gone : ◌≡◌ {A = Grips} (configuration_of (open_of t)).grips (put g d (Some (record { maker = r; purpose = purpose })))
     gone = gone_grips h t r d purpose (progress_at h.away.known.items d).probes_left task grip (handed_gone h t r m d purpose known task grip handed k) k
 
 -- its run's hand is one of those that are known
-hands_went : {D : Type 0} {stands turns probes faults : D → ℕ} (h t : Inside D) (r m d : ℕ) (purpose : KeptPurpose) (known : DeviceProgress) (task : Task) (grip : Gripped D Ready) → IsHanded turns probes faults h t r m d purpose known task grip
-    → IsWhole stands turns probes faults h → HandsAre h.history.setting (configuration_of (open_of t)).grips t.away.hands.items
+hands_went : {D : Type 0} {shows : D → Shown} (h t : Inside D) (r m d : ℕ) (purpose : Purpose) (known : DeviceProgress) (task : Task) (grip : Gripped D Ready) → IsHanded shows h t r m d purpose known task grip
+    → IsWhole shows h → HandsAre h.history.setting (configuration_of (open_of t)).grips t.away.hands.items
 hands_went h t r m d purpose known task grip handed k =
-    let out = handed_out (configuration_of (open_of h)) h.rounds h.opened (held_in (open_of h)) r m d (purpose_of purpose) k.shown.configuration handed.chosen in
+    let out = handed_out (configuration_of (open_of h)) h.rounds h.opened (held_in (open_of h)) r m d purpose k.shown.configuration handed.chosen in
     hand_goes h.history.setting (configuration_of (open_of h)).grips (configuration_of (open_of t)).grips r (device_no d)
-    (purpose_of purpose) h.away.hands.items t.away.hands.items out.run (below_home h.history.setting d out.device) out.free (none_there _ out.home)
+    purpose h.away.hands.items t.away.hands.items out.run (below_home h.history.setting d out.device) out.free (none_there _ out.home)
     (gone_grips h t r d purpose (progress_at h.away.known.items d).probes_left task grip (handed_gone h t r m d purpose known task grip handed k) k)
     (handed.sent.hands ∙ run_hand h.history.setting.runs h.away.hands.items r (Some (device_no d)) out.run) k.hands
 
 -- the device is handed out, and touched by its run
-pub handed_whole : {D : Type 0} {stands turns probes faults : D → ℕ} (h t : Inside D) (r m d : ℕ) (purpose : KeptPurpose) (known : DeviceProgress) (task : Task) (grip : Gripped D Ready) → IsHanded turns probes faults h t r m d purpose known task grip → IsTouched h t r d (purpose_of purpose)
-    → IsWhole stands turns probes faults h → IsWhole stands turns probes faults t
+pub handed_whole : {D : Type 0} {shows : D → Shown} (h t : Inside D) (r m d : ℕ) (purpose : Purpose) (known : DeviceProgress) (task : Task) (grip : Gripped D Ready) → IsHanded shows h t r m d purpose known task grip → IsTouched h t r d purpose
+    → IsWhole shows h → IsWhole shows t
 handed_whole h t r m d purpose known task grip handed touched k =
     gone_whole h t r d purpose (progress_at h.away.known.items d).probes_left task grip (handed_gone h t r m d purpose known task grip handed k) (handed_kept h t r m d purpose known task grip handed k)
     (order_went h t r m d purpose known task grip handed touched k) (hands_went h t r m d purpose known task grip handed k) k

@@ -8,6 +8,7 @@ use Rattle.device_gate.specs.declared.grips.Ready.{Ready}
 use Rattle.device_gate.specs.declared.slips.Slip.{Slip}
 use Rattle.device_gate.specs.declared.slips.Task.TheVariants.{Drive, Sense}
 use Rattle.device_gate.specs.declared.slips.Task.{Task}
+use Rattle.device_states.specs.Devices.{Shown}
 use Rattle.history_book.proofs.HistoryReads.{run_place}
 use Rattle.history_book.specs.Readings.{is_doomed, is_live, next_command, next_of, put, sees_down}
 use Rattle.history_book.specs.Settings.{is_device, is_weak}
@@ -20,21 +21,21 @@ use Rattle.hub_core.proofs.calls.HubChanges.{step_is}
 use Rattle.hub_core.proofs.calls.HubStates.{put_at}
 use Rattle.hub_core.proofs.kept.Hands.{run_above}
 use Rattle.hub_core.proofs.kept.KeptByModel.{taken_kept}
-use Rattle.hub_core.proofs.steps.Choices.{decide_is}
+use Rattle.hub_core.proofs.steps.Choices.{Commanding, Known, known_by}
 use Rattle.hub_core.specs.Away.{IsSent, MaySend}
 use Rattle.hub_core.specs.HubCalls.{DeviceGoesOut, SameWindow}
 use Rattle.hub_core.specs.HubSteps.{Chose, HubStep, Take, carried_after, task_of}
 use Rattle.hub_core.specs.HubsKept.{HubIsKept, IsWhole, open_of}
 use Rattle.hub_core.specs.KeptByModel.{IsKeptByModel}
 use Rattle.hub_core.specs.OpenHubs.{OpenHub, configuration_of, held_in, hub_state_of, progress_at}
-use Rattle.window_order.specs.KeptOrders.{purpose_of}
+use Rattle.lock_leasing.specs.declared.purposes.Purpose.TheVariants.{Commands, Probes, Undoes}
+use Rattle.lock_leasing.specs.declared.purposes.Purpose.{Purpose}
 use Rattle.hub_core.specs.Openings.{names_values_of}
-use Rattle.hub_core.specs.Steps.{HandsOut, after_choice, at_moment, choice_of, with_grip}
+use Rattle.hub_core.specs.Steps.{HandsOut, after_choice, answers_down, at_moment, choice_of, with_grip}
 use Rattle.hub_core.specs.declared.known.DeviceProgress.{DeviceProgress}
 use Rattle.hub_core.specs.declared.open_windows.OpenWindow.TheInside.{Inside}
-use Rattle.window_order.specs.declared.purposes.Purpose.{Purpose as KeptPurpose}
-use Rattle.lock_leasing.specs.Configurations.{Commands, Configuration, Probes, Purpose, Undoes, is_out, read_of}
-use Rattle.lock_leasing.specs.Waits.{grip_wait}
+use Rattle.lock_leasing.specs.Configurations.{Configuration, is_out, point_of, read_of}
+use Rattle.lock_leasing.specs.Waits.{busy_wait, grip_wait}
 use Rattle.lock_leasing.specs.Words.{has_effect, value_without}
 use Rattle.std.proofs.Common.{ap, ap₂, arith, refl, subst, sym, ◌∙◌}
 use Rattle.std.proofs.lemmas.Grind.{common_steps}
@@ -56,7 +57,7 @@ pub record GoesToCommand (s : Configuration) (r d k : ℕ) : Type 0 where
 pub record GoesToUndo (s : Configuration) (r d v : ℕ) : Type 0 where
   pub doomed : is_doomed (read_of s) r ≡ true
   pub effect : has_effect (read_of s) s.grips r d ≡ true
-  pub value : v ≡ value_without s.setting (read_of s) s.grips r d
+  pub value : v ≡ value_without (point_of s) r d
 
 abbrev pub GoesFor : Configuration → ℕ → ℕ → Purpose → Type 0
 GoesFor s r d (Commands k) = GoesToCommand s r d k
@@ -72,16 +73,6 @@ pub record IsHandedOut (s : Configuration) (r d : ℕ) (purpose : Purpose) : Typ
   pub device : is_device s.setting d ≡ true
   pub free : grip_wait s.setting s.grips r ≡ None
   pub for : GoesFor s r d purpose
-
-same_device : (d e : ℕ) (p q : Purpose) → HandsOut d p ≡ HandsOut e q → d ≡ e
-same_device d e p q is = cc
-
-same_purpose : (d e : ℕ) (p q : Purpose) → HandsOut d p ≡ HandsOut e q → p ≡ q
-same_purpose d e p q is = cc
-
--- .. also where device and purpose are told otherwise
-handed_as : (s : Configuration) (r d e : ℕ) (p q : Purpose) → HandsOut d p ≡ HandsOut e q → IsHandedOut s r d p → IsHandedOut s r e q
-handed_as s r d e p q is out = subst (λ x. IsHandedOut s r e x) (same_purpose d e p q is) (subst (λ x. IsHandedOut s r x p) (same_device d e p q is) out)
 
 -- no command goes out but to a device that is home and counted up
 goes_when : (weak sees out up : Bool) → (weak ≡ false → sees ≡ false → out ≡ false) → (weak ≡ true → out ≡ false) → ((not weak && sees) || not up) ≡ false → (out ≡ false) × (up ≡ true)
@@ -102,45 +93,39 @@ home_when false true out free = (λ w seen. absurd (cc), λ weak. absurd (cc))
 home_when false false out free = (λ w seen. free, λ weak. absurd (cc))
 
 pub handed_out : (s : Configuration) (rounds opened : ℕ) (held : ℕ → ℕ) (r m d : ℕ) (purpose : Purpose) → IsKeptByModel s rounds opened held → choice_of s r m ≡ HandsOut d purpose → IsHandedOut s r d purpose
-handed_out s rounds opened held r m d purpose kept =
-    decide_is (λ c. c ≡ HandsOut d purpose → IsHandedOut s r d purpose) s.setting (read_of s) s.grips r (max s.moment m) (record {
-      absent = λ none is. absurd (cc);
-      over = λ e at is. absurd (cc);
-      waits = λ why is. absurd (cc);
-      arrives = λ run none is. absurd (cc);
-      enters = λ split enters is. absurd (cc);
-      aborted = λ cause act doomed over is. absurd (cc);
-      drops = λ cause e undoing down is. absurd (cc);
-      undoes = λ cause e undoing up is. handed_as s r e d (Undoes (value_without s.setting (read_of s) s.grips r e)) purpose is (record {
-        run = undoing.act.run;
-        live = undoing.act.live;
-        home = undoing.home;
-        up = up;
-        device = undoing.device;
-        free = undoing.act.free;
-        for = record { doomed = ap is_some undoing.doomed; effect = undoing.effect; value = refl };
-      });
-      revokes = λ c x run strong at is. absurd (cc);
-      skips = λ c skip is. absurd (cc);
-      downs = λ c run next home down is. absurd (cc);
-      goes = λ c run next home up is.
-          let free = home_when (is_weak s.setting.mode) (sees_down (read_of s) r c.device.0) (is_out s.grips c.device.0) home in
-          let goes = goes_when (is_weak s.setting.mode) (sees_down (read_of s) r c.device.0) (is_out s.grips c.device.0) ((read_of s).up c.device.0) free.0 free.1 up in
-          handed_as s r c.device.0 d (Commands (next_of (read_of s) r)) purpose is (record {
-            run = run.act.run;
-            live = run.act.live;
-            home = goes.0;
-            up = goes.1;
-            device = homed c run.next;
-            free = run.act.free;
-            for = record { number = refl; sound = ap is_some run.sound; command = c; next = run.next; on = refl };
-          });
-      fails_at_end = λ e all at is. absurd (cc);
-      commits = λ all up is. absurd (cc);
-    })
+handed_out s rounds opened held r m d purpose kept is = by_purpose purpose (known_by s r m (HandsOut d purpose) is)
   where
     homed : (c : Command) → next_command s.setting (read_of s) r ≡ Some c → is_device s.setting c.device.0 ≡ true
     homed c next = let home : IsTrue (is_device s.setting c.device.0 && names_values_of (kind_at s.setting.kinds c.device.0) c.job) = kept.opens.homed r (next_of (read_of s) r) c next in grind (arith, common_steps)
+
+    next_out : (c : Command) (k : ℕ) → Commanding (point_of s) r c → busy_wait (point_of s) r c.device.0 ≡ false
+        → answers_down s.setting (read_of s) r c.device.0 ≡ false → k ≡ next_of (read_of s) r → IsHandedOut s r c.device.0 (Commands k)
+    next_out c k run home up same =
+        let free = home_when (is_weak s.setting.mode) (sees_down (read_of s) r c.device.0) (is_out s.grips c.device.0) home in
+        let goes = goes_when (is_weak s.setting.mode) (sees_down (read_of s) r c.device.0) (is_out s.grips c.device.0) ((read_of s).up c.device.0) free.0 free.1 up in
+        record {
+          run = run.act.run;
+          live = run.act.live;
+          home = goes.0;
+          up = goes.1;
+          device = homed c run.next;
+          free = run.act.free;
+          for = record { number = same; sound = ap is_some run.sound; command = c; next = run.next; on = refl };
+        }
+
+    by_purpose : (p : Purpose) → Known s.setting (read_of s) s.grips r (max s.moment m) (HandsOut d p) → IsHandedOut s r d p
+    by_purpose (Commands k) known = subst (λ e. IsHandedOut s r e (Commands k)) (sym known.4) (next_out known.0 k known.1 known.2 known.3 known.5)
+    by_purpose (Undoes v) known =
+        record {
+          run = known.1.act.run;
+          live = known.1.act.live;
+          home = known.1.home;
+          up = known.2;
+          device = known.1.device;
+          free = known.1.act.free;
+          for = record { doomed = ap is_some known.1.doomed; effect = known.1.effect; value = known.3 };
+        }
+    by_purpose (Probes v) known = absurd known
 
 -- the run of a step that hands a device out has the command
 pub command_there : {D : Type 0} (s : OpenHub D) (rounds opened : ℕ) (held : ℕ → ℕ) (r m d k : ℕ) (purpose : Purpose) → IsKeptByModel (configuration_of s) rounds opened held → choice_of (configuration_of s) r m ≡ HandsOut d purpose
@@ -151,8 +136,8 @@ command_there s rounds opened held r m d k purpose kept is for =
     let within : next_of (read_of (configuration_of s)) r < length (commands_of s.setting.runs r) = slice_get_within (commands_of s.setting.runs r) (next_of (read_of (configuration_of s)) r) goes.command goes.next in
     (out.run, subst (λ x. x < length (commands_of s.setting.runs r)) (sym goes.number) within)
 
-pub out_home : {D : Type 0} (stands turns probes faults : D → ℕ) (s : OpenHub D) (r m d : ℕ) (purpose : Purpose) → HubIsKept stands turns probes faults s → choice_of (configuration_of s) r m ≡ HandsOut d purpose → (d < length s.setting.first) × IsHome s.places d
-out_home stands turns probes faults s r m d purpose k is =
+pub out_home : {D : Type 0} (shows : D → Shown) (s : OpenHub D) (r m d : ℕ) (purpose : Purpose) → HubIsKept shows s → choice_of (configuration_of s) r m ≡ HandsOut d purpose → (d < length s.setting.first) × IsHome s.places d
+out_home shows s r m d purpose k is =
     let out = handed_out (configuration_of s) s.rounds s.opened (held_in s) r m d purpose k.configuration is in
     let within : d < length s.setting.first = below_home s.setting d out.device in
     (within, home_place s d (omega (arith, within, k.places_size)) out.home)
@@ -168,22 +153,22 @@ not_probing s r d (Commands k) goes = by_reading (reads (command_at s.setting.ru
     by_reading false = refl
 
 -- a device that goes out is counted up, and stands where it is known to
-stands_home : {D : Type 0} (stands turns probes faults : D → ℕ) (s : OpenHub D) (r m d : ℕ) (purpose : Purpose) (device : D) → HubIsKept stands turns probes faults s → choice_of (configuration_of s) r m ≡ HandsOut d purpose → slice_get s.places d ≡ Some (Home device) → stands device ≡ held_in s d
-stands_home stands turns probes faults s r m d purpose device k chosen at = (k.home d device at).stand (handed_out (configuration_of s) s.rounds s.opened (held_in s) r m d purpose k.configuration chosen).up
+stands_home : {D : Type 0} (shows : D → Shown) (s : OpenHub D) (r m d : ℕ) (purpose : Purpose) (device : D) → HubIsKept shows s → choice_of (configuration_of s) r m ≡ HandsOut d purpose → slice_get s.places d ≡ Some (Home device) → (shows device).stands ≡ held_in s d
+stands_home shows s r m d purpose device k chosen at = (k.home d device at).stand (handed_out (configuration_of s) s.rounds s.opened (held_in s) r m d purpose k.configuration chosen).up
 
 -- it may go out to its run
-pub may_send : {D : Type 0} {stands turns probes faults : D → ℕ} (h : Inside D) (r m d : ℕ) (purpose : Purpose) (known : DeviceProgress) (task : Task)
-    → choice_of (configuration_of (open_of h)) r m ≡ HandsOut d purpose → known ≡ progress_at h.away.known.items d → IsWhole stands turns probes faults h
-    → MaySend stands turns probes faults h.away d r known.held task
-may_send {stands = stands} {turns = turns} {probes = probes} {faults = faults} h r m d purpose known task chosen known_is k =
-    let home = out_home stands turns probes faults (open_of h) r m d purpose k.shown chosen in
+pub may_send : {D : Type 0} {shows : D → Shown} (h : Inside D) (r m d : ℕ) (purpose : Purpose) (known : DeviceProgress) (task : Task)
+    → choice_of (configuration_of (open_of h)) r m ≡ HandsOut d purpose → known ≡ progress_at h.away.known.items d → IsWhole shows h
+    → MaySend shows h.away d r known.held task
+may_send {shows = shows} h r m d purpose known task chosen known_is k =
+    let home = out_home shows (open_of h) r m d purpose k.shown chosen in
     let out = handed_out (configuration_of (open_of h)) h.rounds h.opened (held_in (open_of h)) r m d purpose k.shown.configuration chosen in
     let place = run_place h.history.setting.runs r out.run in
     record {
       home = home.1;
-      room = λ device at. has_room stands turns probes faults (open_of h) d device k.shown at;
-      stood = λ device at up. stands_home stands turns probes faults (open_of h) r m d purpose device k.shown chosen at ∙ ap (λ (p : DeviceProgress). p.held) (sym known_is);
-      tickets = few_tickets stands turns probes faults (open_of h) k.shown;
+      room = λ device at. has_room shows (open_of h) d device k.shown at;
+      stood = λ device at up. stands_home shows (open_of h) r m d purpose device k.shown chosen at ∙ ap (λ (p : DeviceProgress). p.held) (sym known_is);
+      tickets = few_tickets shows (open_of h) k.shown;
       known = omega (arith, home.0, k.shown.devices_size);
       maker_is = omega (arith, place.0, place.1, k.hands.size);
     }
@@ -191,41 +176,41 @@ may_send {stands = stands} {turns = turns} {probes = probes} {faults = faults} h
 -- The device goes out
 
 -- for the run, whatever its probes
-went_configuration : {D : Type 0} (s : OpenHub D) (r d m : ℕ) (purpose : KeptPurpose) (slip : Slip) (task : Task) → slip.maker ≡ r → d < length s.places → d < length s.devices
-    → configuration_of (gone s d purpose (progress_at s.devices d).probes_left slip task (max s.moment m)) ≡ with_grip (at_moment (configuration_of s) m) d (Some (record { maker = r; purpose = purpose_of purpose }))
+went_configuration : {D : Type 0} (s : OpenHub D) (r d m : ℕ) (purpose : Purpose) (slip : Slip) (task : Task) → slip.maker ≡ r → d < length s.places → d < length s.devices
+    → configuration_of (gone s d purpose (progress_at s.devices d).probes_left slip task (max s.moment m)) ≡ with_grip (at_moment (configuration_of s) m) d (Some (record { maker = r; purpose = purpose }))
 went_configuration s r d m purpose slip task maker within known =
     gone_configuration s r d (progress_at s.devices d).probes_left (max s.moment m) purpose slip task maker within known
     ∙ ap (λ (f : ℕ → ℕ). record (configuration_of s) {
       moment = max s.moment m;
       probes = f;
-      grips = put (configuration_of s).grips d (Some (record { maker = r; purpose = purpose_of purpose }));
+      grips = put (configuration_of s).grips d (Some (record { maker = r; purpose = purpose }));
     }) (sym (put_at (configuration_of s).probes (configuration_of s).probes d (progress_at s.devices d).probes_left refl (λ e other. refl)))
 
-went_state : {D : Type 0} (s : OpenHub D) (r d m : ℕ) (purpose : KeptPurpose) (slip : Slip) (task : Task) → slip.maker ≡ r → task ≡ task_of (configuration_of s) r (purpose_of purpose) → d < length s.places → d < length s.devices
-    → hub_state_of (gone s d purpose (progress_at s.devices d).probes_left slip task (max s.moment m)) ≡ record { configuration = after_choice (at_moment (configuration_of s) m) r (HandsOut d (purpose_of purpose)); carried = carried_after (hub_state_of s) r (HandsOut d (purpose_of purpose)) slip }
+went_state : {D : Type 0} (s : OpenHub D) (r d m : ℕ) (purpose : Purpose) (slip : Slip) (task : Task) → slip.maker ≡ r → task ≡ task_of (configuration_of s) r purpose → d < length s.places → d < length s.devices
+    → hub_state_of (gone s d purpose (progress_at s.devices d).probes_left slip task (max s.moment m)) ≡ record { configuration = after_choice (at_moment (configuration_of s) m) r (HandsOut d purpose); carried = carried_after (hub_state_of s) r (HandsOut d purpose) slip }
 went_state s r d m purpose slip task maker does within known =
     let configuration = went_configuration s r d m purpose slip task maker within known in
     let carried = gone_carries s r d (progress_at s.devices d).probes_left (max s.moment m) purpose slip task does within in
     λ i. record { configuration = configuration i; carried = carried i }
 
 -- the device goes out in the step of the run, of which this was known: so the parts change
-pub record IsHanded {D : Type 0} (turns probes faults : D → ℕ) (h t : Inside D) (r m d : ℕ) (purpose : KeptPurpose) (known : DeviceProgress) (task : Task) (grip : Gripped D Ready) : Type 0 where
-  pub chosen : choice_of (configuration_of (open_of h)) r m ≡ HandsOut d (purpose_of purpose)
-  pub does : task ≡ task_of (configuration_of (open_of h)) r (purpose_of purpose)
+pub record IsHanded {D : Type 0} (shows : D → Shown) (h t : Inside D) (r m d : ℕ) (purpose : Purpose) (known : DeviceProgress) (task : Task) (grip : Gripped D Ready) : Type 0 where
+  pub chosen : choice_of (configuration_of (open_of h)) r m ≡ HandsOut d purpose
+  pub does : task ≡ task_of (configuration_of (open_of h)) r purpose
   pub known_is : known ≡ progress_at h.away.known.items d
-  pub sent : IsSent turns probes faults h.away (device_no d) r (record known { purpose = purpose }) task grip t.away
+  pub sent : IsSent shows h.away (device_no d) r (record known { purpose = purpose }) task grip t.away
   pub moment_is : t.moment ≡ max h.moment m
   pub new : t ≡ record h { moment = t.moment; away = t.away; order = t.order }
 
 -- so it is gone
-pub handed_gone : {D : Type 0} {stands turns probes faults : D → ℕ} (h t : Inside D) (r m d : ℕ) (purpose : KeptPurpose) (known : DeviceProgress) (task : Task) (grip : Gripped D Ready) → IsHanded turns probes faults h t r m d purpose known task grip → IsWhole stands turns probes faults h
-    → IsGone turns probes faults h t r d purpose (progress_at h.away.known.items d).probes_left task grip
-handed_gone {turns = turns} {probes = probes} {faults = faults} h t r m d purpose known task grip handed k =
-    let out = handed_out (configuration_of (open_of h)) h.rounds h.opened (held_in (open_of h)) r m d (purpose_of purpose) k.shown.configuration handed.chosen in
-    let none_probed : probed task ≡ 0 = ap probed handed.does ∙ not_probing (configuration_of (open_of h)) r d (purpose_of purpose) out.for in
+pub handed_gone : {D : Type 0} {shows : D → Shown} (h t : Inside D) (r m d : ℕ) (purpose : Purpose) (known : DeviceProgress) (task : Task) (grip : Gripped D Ready) → IsHanded shows h t r m d purpose known task grip → IsWhole shows h
+    → IsGone shows h t r d purpose (progress_at h.away.known.items d).probes_left task grip
+handed_gone {shows = shows} h t r m d purpose known task grip handed k =
+    let out = handed_out (configuration_of (open_of h)) h.rounds h.opened (held_in (open_of h)) r m d purpose k.shown.configuration handed.chosen in
+    let none_probed : probed task ≡ 0 = ap probed handed.does ∙ not_probing (configuration_of (open_of h)) r d purpose out.for in
     let of_run : one_for (nat_lt 0 r) ≡ 1 = ap one_for (run_above h.history.setting.runs r out.run) in
     record {
-      sent = subst (λ (p : DeviceProgress). IsSent turns probes faults h.away (device_no d) r (record p { purpose = purpose }) task grip t.away) handed.known_is handed.sent;
+      sent = subst (λ (p : DeviceProgress). IsSent shows h.away (device_no d) r (record p { purpose = purpose }) task grip t.away) handed.known_is handed.sent;
       does = handed.does;
       probed_so = omega (arith, none_probed);
       ticket = omega (arith, of_run, none_probed);
@@ -233,14 +218,14 @@ handed_gone {turns = turns} {probes = probes} {faults = faults} h t r m d purpos
     }
 
 -- the hub shows it
-handed_shows : {D : Type 0} {stands turns probes faults : D → ℕ} (h t : Inside D) (r m d : ℕ) (purpose : KeptPurpose) (known : DeviceProgress) (task : Task) (grip : Gripped D Ready) → IsHanded turns probes faults h t r m d purpose known task grip → IsWhole stands turns probes faults h
+handed_shows : {D : Type 0} {shows : D → Shown} (h t : Inside D) (r m d : ℕ) (purpose : Purpose) (known : DeviceProgress) (task : Task) (grip : Gripped D Ready) → IsHanded shows h t r m d purpose known task grip → IsWhole shows h
     → open_of t ≡ gone (open_of h) d purpose (progress_at h.away.known.items d).probes_left grip.slip task (max h.moment m)
 handed_shows h t r m d purpose known task grip handed k =
     gone_shows h t r d purpose (progress_at h.away.known.items d).probes_left task grip (handed_gone h t r m d purpose known task grip handed k)
     ∙ ap (λ x. gone (open_of h) d purpose (progress_at h.away.known.items d).probes_left grip.slip task x) handed.moment_is
 
 -- what is kept of its configuration
-pub handed_kept : {D : Type 0} {stands turns probes faults : D → ℕ} (h t : Inside D) (r m d : ℕ) (purpose : KeptPurpose) (known : DeviceProgress) (task : Task) (grip : Gripped D Ready) → IsHanded turns probes faults h t r m d purpose known task grip → IsWhole stands turns probes faults h
+pub handed_kept : {D : Type 0} {shows : D → Shown} (h t : Inside D) (r m d : ℕ) (purpose : Purpose) (known : DeviceProgress) (task : Task) (grip : Gripped D Ready) → IsHanded shows h t r m d purpose known task grip → IsWhole shows h
     → IsKeptByModel (configuration_of (open_of t)) h.rounds h.opened (held_in (open_of h))
 handed_kept {D = D} h t r m d purpose known task grip handed k =
     let s = open_of h in
@@ -253,14 +238,14 @@ pub record WentOut {D : Type 0} (s : OpenHub D) (r m : ℕ) (grip : Gripped D Re
   pub out : DeviceGoesOut s r m grip t
   pub window : SameWindow s t
 
-pub went_out : {D : Type 0} {stands turns probes faults : D → ℕ} (h t : Inside D) (s₀ : OpenHub D) (r m d : ℕ) (purpose : KeptPurpose) (known : DeviceProgress) (task : Task) (grip : Gripped D Ready)
-    → open_of h ≡ s₀ → IsHanded turns probes faults h t r m d purpose known task grip → IsWhole stands turns probes faults h → WentOut s₀ r m grip (open_of t)
-went_out {D = D} {turns = turns} {probes = probes} {faults = faults} h t s₀ r m d purpose known task grip seen handed k =
+pub went_out : {D : Type 0} {shows : D → Shown} (h t : Inside D) (s₀ : OpenHub D) (r m d : ℕ) (purpose : Purpose) (known : DeviceProgress) (task : Task) (grip : Gripped D Ready)
+    → open_of h ≡ s₀ → IsHanded shows h t r m d purpose known task grip → IsWhole shows h → WentOut s₀ r m grip (open_of t)
+went_out {D = D} {shows = shows} h t s₀ r m d purpose known task grip seen handed k =
     subst (λ (x : OpenHub D). WentOut x r m grip (open_of t)) seen (record {
       out = record {
-        purpose = purpose_of purpose;
-        step = subst (λ e. HubStep (hub_state_of s) (Take r m grip.slip) (Chose (HandsOut e (purpose_of purpose))) (hub_state_of (open_of t))) (sym number)
-            (step_is s (open_of t) r m (HandsOut d (purpose_of purpose)) grip.slip handed.chosen
+        purpose = purpose;
+        step = subst (λ e. HubStep (hub_state_of s) (Take r m grip.slip) (Chose (HandsOut e purpose)) (hub_state_of (open_of t))) (sym number)
+            (step_is s (open_of t) r m (HandsOut d purpose) grip.slip handed.chosen
             (ap (λ (x : OpenHub D). hub_state_of x) (handed_shows h t r m d purpose known task grip handed k)
             ∙ went_state s r d m purpose grip.slip task sent.maker_is handed.does within.0 within.1) (record { device = number; maker = sent.maker_is }));
         task = sent.does ∙ handed.does;
@@ -274,10 +259,10 @@ went_out {D = D} {turns = turns} {probes = probes} {faults = faults} h t s₀ r 
     s : OpenHub D
     s = open_of h
 
-    is : IsGone turns probes faults h t r d purpose (progress_at h.away.known.items d).probes_left task grip
+    is : IsGone shows h t r d purpose (progress_at h.away.known.items d).probes_left task grip
     is = handed_gone h t r m d purpose known task grip handed k
 
-    sent : IsSent turns probes faults h.away (device_no d) r (record known { purpose = purpose }) task grip t.away
+    sent : IsSent shows h.away (device_no d) r (record known { purpose = purpose }) task grip t.away
     sent = handed.sent
 
     number : grip.slip.device.0 ≡ d
@@ -287,8 +272,8 @@ went_out {D = D} {turns = turns} {probes = probes} {faults = faults} h t s₀ r 
     within = gone_within h t r d purpose (progress_at h.away.known.items d).probes_left task grip is k
 
 -- .. also where the hub is seen otherwise
-pub command_given : {D : Type 0} (stands turns probes faults : D → ℕ) (s s₀ : OpenHub D) (r m d k : ℕ) (purpose : Purpose) → HubIsKept stands turns probes faults s → s ≡ s₀ → choice_of (configuration_of s₀) r m ≡ HandsOut d purpose
+pub command_given : {D : Type 0} (shows : D → Shown) (s s₀ : OpenHub D) (r m d k : ℕ) (purpose : Purpose) → HubIsKept shows s → s ≡ s₀ → choice_of (configuration_of s₀) r m ≡ HandsOut d purpose
     → purpose ≡ Commands k → IsTrue (is_run s₀.setting.runs r) × (k < length (commands_of s₀.setting.runs r))
-command_given {D = D} stands turns probes faults s s₀ r m d k purpose kept same =
+command_given {D = D} shows s s₀ r m d k purpose kept same =
     subst (λ (x : OpenHub D). choice_of (configuration_of x) r m ≡ HandsOut d purpose → purpose ≡ Commands k → IsTrue (is_run x.setting.runs r) × (k < length (commands_of x.setting.runs r))) same
     (λ is for. command_there s s.rounds s.opened (held_in s) r m d k purpose kept.configuration is for)

@@ -8,6 +8,7 @@ use Rattle.device_gate.specs.declared.slips.Slip.{Slip}
 use Rattle.device_gate.specs.declared.slips.Task.{Task}
 use Rattle.device_gate.specs.declared.slips.Told.TheVariants.{Died, Sensed, Worked}
 use Rattle.device_gate.specs.declared.slips.Told.{Told}
+use Rattle.device_states.specs.Devices.{Shown}
 use Rattle.history_book.proofs.HistoryReads.{MayTake, takes_first}
 use Rattle.history_book.specs.Histories.{entries_made}
 use Rattle.history_book.specs.ReadHistories.{HistoryState, read_in, with_doom, with_entry, with_more}
@@ -27,12 +28,11 @@ use Rattle.hub_core.proofs.calls.OutFor.{IsForCommand, for_command, out_for}
 use Rattle.hub_core.specs.Decisions.{refuted_by}
 use Rattle.hub_core.specs.HubsKept.{IsWhole, open_of}
 use Rattle.hub_core.specs.OpenHubs.{OpenHub, progress_at}
-use Rattle.window_order.specs.KeptOrders.{purpose_of}
+use Rattle.lock_leasing.specs.declared.purposes.Purpose.TheVariants.{Commands, Probes, Undoes}
+use Rattle.lock_leasing.specs.declared.purposes.Purpose.{Purpose}
 use Rattle.hub_core.specs.Steps.{give_entries}
 use Rattle.hub_core.specs.declared.open_windows.OpenWindow.TheInside.{Inside}
-use Rattle.window_order.specs.declared.purposes.Purpose.TheVariants.{Command as ForCommand, Probe as ForProbe, Undo as ForUndo}
-use Rattle.window_order.specs.declared.purposes.Purpose.{Purpose as KeptPurpose}
-use Rattle.lock_leasing.specs.Configurations.{Commands, Undoes, is_undo}
+use Rattle.lock_leasing.specs.Configurations.{is_undo}
 use Rattle.std.proofs.Common.{ap, ap₂, arith, refl, subst, sym, ◌∙◌}
 use Rattle.std.proofs.lemmas.Bool.{lt-ltb}
 use Rattle.std.specs.Prelude.{Bool, IsSome, IsTrue, List, None, Option, Some, [], false, if◌then◌else◌, length, not, option_map, slice_get, true, ℕ, ◌&&◌, ◌-◌, ◌<◌, ◌∷◌, ◌≡◌, ◌≤◌}
@@ -40,32 +40,32 @@ use Rattle.std.specs.Prelude.{Bool, IsSome, IsTrue, List, None, Option, Some, []
 -- For what it was out
 
 -- the command for which it was out
-pub command_back : {D : Type 0} {stands turns probes faults : D → ℕ} (h : Inside D) (s : OpenHub D) (slip : Slip) (task : Task) (k : ℕ) → open_of h ≡ s
-    → IsKept s.places slip task → (progress_at s.devices slip.device.0).purpose ≡ ForCommand k → IsWhole stands turns probes faults h
+pub command_back : {D : Type 0} {shows : D → Shown} (h : Inside D) (s : OpenHub D) (slip : Slip) (task : Task) (k : ℕ) → open_of h ≡ s
+    → IsKept s.places slip task → (progress_at s.devices slip.device.0).purpose ≡ Commands k → IsWhole shows h
     → IsForCommand (open_of h) slip task k
 command_back {D = D} h s slip task k seen there for whole =
-    for_command _ _ _ _ (open_of h) slip task k whole.shown (ap (λ (x : OpenHub D). slice_get x.places slip.device.0) seen ∙ there) (ap (λ (x : OpenHub D). (progress_at x.devices slip.device.0).purpose) seen ∙ for)
+    for_command _ (open_of h) slip task k whole.shown (ap (λ (x : OpenHub D). slice_get x.places slip.device.0) seen ∙ there) (ap (λ (x : OpenHub D). (progress_at x.devices slip.device.0).purpose) seen ∙ for)
 
 -- no probe was out
-pub no_probe : {D : Type 0} {stands turns probes faults : D → ℕ} (h : Inside D) (s : OpenHub D) (slip : Slip) (task : Task) (v : Option ℕ) → open_of h ≡ s
-    → IsKept s.places slip task → 0 < slip.maker → (progress_at h.away.known.items slip.device.0).purpose ≡ ForProbe v
-    → IsWhole stands turns probes faults h → ⊥
+pub no_probe : {D : Type 0} {shows : D → Shown} (h : Inside D) (s : OpenHub D) (slip : Slip) (task : Task) (v : Option ℕ) → open_of h ≡ s
+    → IsKept s.places slip task → 0 < slip.maker → (progress_at h.away.known.items slip.device.0).purpose ≡ Probes v
+    → IsWhole shows h → ⊥
 no_probe {D = D} h s slip task v seen there maker for k =
-    let out = out_for _ _ _ _ (open_of h) slip task (ForProbe v) k.shown (ap (λ (x : OpenHub D). slice_get x.places slip.device.0) seen ∙ there) for in
+    let out = out_for _ (open_of h) slip task (Probes v) k.shown (ap (λ (x : OpenHub D). slice_get x.places slip.device.0) seen ∙ there) for in
     absurd (let both : false ≡ true = out.maker ∙ lt-ltb 0 slip.maker maker in cc)
 
 -- an undo's value
-pub undone_value : (p : KeptPurpose) → is_undo (purpose_of p) ≡ true → (v : ℕ) × (p ≡ ForUndo v)
-undone_value (ForCommand k) is = absurd (cc)
-undone_value (ForUndo v) is = (v, refl)
-undone_value (ForProbe v) is = absurd (cc)
+pub undone_value : (p : Purpose) → is_undo p ≡ true → (v : ℕ) × (p ≡ Undoes v)
+undone_value (Commands k) is = absurd (cc)
+undone_value (Undoes v) is = (v, refl)
+undone_value (Probes v) is = absurd (cc)
 
 -- its run is one of the window
-pub undo_run : {D : Type 0} {stands turns probes faults : D → ℕ} (h : Inside D) (v tag : ℕ) (grip : Gripped D Done) → IsReturned stands turns probes faults h (ForUndo v) tag grip → IsWhole stands turns probes faults h → is_run h.history.setting.runs grip.slip.maker ≡ true
-undo_run h v tag grip returned k = (returned_for h (ForUndo v) tag grip returned k).run refl
+pub undo_run : {D : Type 0} {shows : D → Shown} (h : Inside D) (v : ℕ) (grip : Gripped D Done) → IsReturned shows h (Undoes v) grip → IsWhole shows h → is_run h.history.setting.runs grip.slip.maker ≡ true
+undo_run h v grip returned k = (returned_for h (Undoes v) grip returned k).run refl
 
 -- it makes one entry
-undo_gives : {D : Type 0} (h : Inside D) (v : ℕ) (grip : Gripped D Done) → has_died grip.stage.told ≡ false → returned_entries (open_of h) grip (ForUndo v) ≡ Undid (run_no grip.slip.maker) grip.slip.device true ∷ []
+undo_gives : {D : Type 0} (h : Inside D) (v : ℕ) (grip : Gripped D Done) → has_died grip.stage.told ≡ false → returned_entries (open_of h) grip (Undoes v) ≡ Undid (run_no grip.slip.maker) grip.slip.device true ∷ []
 undo_gives h v grip lives = by_told grip.stage.told lives
   where
     by_told : (told : Told) → has_died told ≡ false → give_entries h.history.setting (read_in h.history) grip.slip.device.0 (record { maker = grip.slip.maker; purpose = Undoes v }) told ≡ Undid (run_no grip.slip.maker) grip.slip.device true ∷ []
@@ -74,9 +74,9 @@ undo_gives h v grip lives = by_told grip.stage.told lives
     by_told Died lives = absurd (cc)
 
 -- the history has a place for it
-pub undo_place : {D : Type 0} {stands turns probes faults : D → ℕ} (h : Inside D) (v tag : ℕ) (grip : Gripped D Done) → IsReturned stands turns probes faults h (ForUndo v) tag grip → has_died grip.stage.told ≡ false → IsWhole stands turns probes faults h → 0 < h.history.spare
-undo_place h v tag grip returned lives k =
-    let fits : length (returned_entries (open_of h) grip (ForUndo v)) ≤ h.history.spare = returned_places h (ForUndo v) tag grip returned k in
+pub undo_place : {D : Type 0} {shows : D → Shown} (h : Inside D) (v : ℕ) (grip : Gripped D Done) → IsReturned shows h (Undoes v) grip → has_died grip.stage.told ≡ false → IsWhole shows h → 0 < h.history.spare
+undo_place h v grip returned lives k =
+    let fits : length (returned_entries (open_of h) grip (Undoes v)) ≤ h.history.spare = returned_places h (Undoes v) grip returned k in
     let one = ap length (undo_gives h v grip lives) in
     omega (arith, fits, one)
 
@@ -102,47 +102,47 @@ pub record IsAnswered {D : Type 0} (h : Inside D) (grip : Gripped D Done) (k : �
   pub doomed : after ≡ with_doom mid slip.maker cause
 
 -- its entries
-answer_gives : {D : Type 0} (h : Inside D) (k : ℕ) (grip : Gripped D Done) (slip : Slip) (a : Answer) (cause : Option Cause) (mid after : HistoryState) → IsAnswered h grip k slip a cause mid after → returned_entries (open_of h) grip (ForCommand k) ≡ answer_entries slip.maker k a cause
+answer_gives : {D : Type 0} (h : Inside D) (k : ℕ) (grip : Gripped D Done) (slip : Slip) (a : Answer) (cause : Option Cause) (mid after : HistoryState) → IsAnswered h grip k slip a cause mid after → returned_entries (open_of h) grip (Commands k) ≡ answer_entries slip.maker k a cause
 answer_gives h k grip slip a cause mid after answered =
     command_gives h.history.setting (read_in h.history) grip.slip.device.0 grip.slip.maker k grip.stage.told answered.lives
     ∙ ap₂ (λ (y : Slip) x. answer_entries y.maker k x (refuted_by h.history.setting (read_in h.history) y.maker k x)) (sym answered.same) (sym answered.told)
     ∙ ap (answer_entries slip.maker k a) (sym answered.refuted)
 
 -- they may be appended
-pub takes_answer : {D : Type 0} {stands turns probes faults : D → ℕ} (h : Inside D) (k tag : ℕ) (grip : Gripped D Done) (slip : Slip) (a : Answer)
-    (cause : Option Cause) (mid after : HistoryState) → IsReturned stands turns probes faults h (ForCommand k) tag grip
+pub takes_answer : {D : Type 0} {shows : D → Shown} (h : Inside D) (k : ℕ) (grip : Gripped D Done) (slip : Slip) (a : Answer)
+    (cause : Option Cause) (mid after : HistoryState) → IsReturned shows h (Commands k) grip
     → IsAnswered h grip k slip a cause mid after
-    → IsWhole stands turns probes faults h → MayTake h.history slip.maker (answer_entries slip.maker k a cause)
-takes_answer h k tag grip slip a cause mid after returned answered whole =
-    subst (λ (y : Slip). MayTake h.history y.maker (answer_entries slip.maker k a cause)) (sym answered.same) (subst (MayTake h.history grip.slip.maker) (answer_gives h k grip slip a cause mid after answered) (takes_back h (ForCommand k) tag grip returned whole))
+    → IsWhole shows h → MayTake h.history slip.maker (answer_entries slip.maker k a cause)
+takes_answer h k grip slip a cause mid after returned answered whole =
+    subst (λ (y : Slip). MayTake h.history y.maker (answer_entries slip.maker k a cause)) (sym answered.same) (subst (MayTake h.history grip.slip.maker) (answer_gives h k grip slip a cause mid after answered) (takes_back h (Commands k) grip returned whole))
 
 -- the history has a place for it ..
-pub answer_place : {D : Type 0} {stands turns probes faults : D → ℕ} (h : Inside D) (k tag : ℕ) (grip : Gripped D Done) → IsReturned stands turns probes faults h (ForCommand k) tag grip → has_died grip.stage.told ≡ false → IsWhole stands turns probes faults h → 0 < h.history.spare
-answer_place h k tag grip returned lives whole =
-    let fits : length (returned_entries (open_of h) grip (ForCommand k)) ≤ h.history.spare = returned_places h (ForCommand k) tag grip returned whole in
+pub answer_place : {D : Type 0} {shows : D → Shown} (h : Inside D) (k : ℕ) (grip : Gripped D Done) → IsReturned shows h (Commands k) grip → has_died grip.stage.told ≡ false → IsWhole shows h → 0 < h.history.spare
+answer_place h k grip returned lives whole =
+    let fits : length (returned_entries (open_of h) grip (Commands k)) ≤ h.history.spare = returned_places h (Commands k) grip returned whole in
     let some = ap length (command_gives h.history.setting (read_in h.history) grip.slip.device.0 grip.slip.maker k grip.stage.told lives) in
     omega (arith, fits, some)
 
 -- .. and behind it one for the doom
-pub doom_place : {D : Type 0} {stands turns probes faults : D → ℕ} (h : Inside D) (k tag : ℕ) (grip : Gripped D Done) (slip : Slip) (a : Answer)
-    (cause : Option Cause) (mid after : HistoryState) → IsReturned stands turns probes faults h (ForCommand k) tag grip
+pub doom_place : {D : Type 0} {shows : D → Shown} (h : Inside D) (k : ℕ) (grip : Gripped D Done) (slip : Slip) (a : Answer)
+    (cause : Option Cause) (mid after : HistoryState) → IsReturned shows h (Commands k) grip
     → IsAnswered h grip k slip a cause mid after
-    → IsWhole stands turns probes faults h → IsSome cause → 0 < mid.spare
-doom_place {D = D} h k tag grip slip a cause mid after returned answered whole some = at cause some (answer_gives h k grip slip a cause mid after answered)
+    → IsWhole shows h → IsSome cause → 0 < mid.spare
+doom_place {D = D} h k grip slip a cause mid after returned answered whole some = at cause some (answer_gives h k grip slip a cause mid after answered)
   where
-    at : (c : Option Cause) → IsSome c → returned_entries (open_of h) grip (ForCommand k) ≡ answer_entries slip.maker k a c → 0 < mid.spare
+    at : (c : Option Cause) → IsSome c → returned_entries (open_of h) grip (Commands k) ≡ answer_entries slip.maker k a c → 0 < mid.spare
     at None none entries = absurd (cc none)
     at (Some c) some' entries =
-        let long : length (returned_entries (open_of h) grip (ForCommand k)) ≡ 2 = ap (λ (l : List Entry). length l) entries in
-        let fits : length (returned_entries (open_of h) grip (ForCommand k)) ≤ h.history.spare = returned_places h (ForCommand k) tag grip returned whole in
+        let long : length (returned_entries (open_of h) grip (Commands k)) ≡ 2 = ap (λ (l : List Entry). length l) entries in
+        let fits : length (returned_entries (open_of h) grip (Commands k)) ≤ h.history.spare = returned_places h (Commands k) grip returned whole in
         let left : mid.spare ≡ h.history.spare - 1 = ap (λ (y : HistoryState). y.spare) answered.answered in
         omega (arith, long, fits, left)
 
-pub answered_back : {D : Type 0} {stands turns probes faults : D → ℕ} (h t : Inside D) (k tag : ℕ) (grip : Gripped D Done) (slip : Slip) (a : Answer)
-    (cause : Option Cause) (mid : HistoryState) → IsReturned stands turns probes faults h (ForCommand k) tag grip → IsHome h t grip
+pub answered_back : {D : Type 0} {shows : D → Shown} (h t : Inside D) (k : ℕ) (grip : Gripped D Done) (slip : Slip) (a : Answer)
+    (cause : Option Cause) (mid : HistoryState) → IsReturned shows h (Commands k) grip → IsHome h t grip
     → IsAnswered h grip k slip a cause mid t.history
-    → CameHome stands turns probes faults h t (ForCommand k) tag grip (answer_entries slip.maker k a cause)
-answered_back h t k tag grip slip a cause mid returned parts answered =
+    → CameHome shows h t (Commands k) grip (answer_entries slip.maker k a cause)
+answered_back h t k grip slip a cause mid returned parts answered =
     record {
       returned = returned;
       parts = parts;
@@ -161,17 +161,17 @@ answer_made slip k a cause e o entry_is made = ap₂ (λ x y. entries_made (reco
 -- An undo came back
 
 -- it may be told
-pub undo_told : {D : Type 0} {stands turns probes faults : D → ℕ} (h : Inside D) (v tag : ℕ) (grip : Gripped D Done) (slip : Slip) → IsReturned stands turns probes faults h (ForUndo v) tag grip → slip ≡ grip.slip → has_died grip.stage.told ≡ false → IsWhole stands turns probes faults h
+pub undo_told : {D : Type 0} {shows : D → Shown} (h : Inside D) (v : ℕ) (grip : Gripped D Done) (slip : Slip) → IsReturned shows h (Undoes v) grip → slip ≡ grip.slip → has_died grip.stage.told ≡ false → IsWhole shows h
     → IsTrue (may_follow h.history.setting (read_in h.history) (Undid (run_no slip.maker) slip.device true))
-undo_told h v tag grip slip returned same lives k =
+undo_told h v grip slip returned same lives k =
     subst (λ (z : Slip). IsTrue (may_follow h.history.setting (read_in h.history) (Undid (run_no z.maker) z.device true))) (sym same)
-    (takes_first h.history grip.slip.maker (Undid (run_no grip.slip.maker) grip.slip.device true) [] (subst (MayTake h.history grip.slip.maker) (undo_gives h v grip lives) (takes_back h (ForUndo v) tag grip returned k)))
+    (takes_first h.history grip.slip.maker (Undid (run_no grip.slip.maker) grip.slip.device true) [] (subst (MayTake h.history grip.slip.maker) (undo_gives h v grip lives) (takes_back h (Undoes v) grip returned k)))
 
-pub undone_back : {D : Type 0} {stands turns probes faults : D → ℕ} (h t : Inside D) (v tag : ℕ) (grip : Gripped D Done) (slip : Slip)
-    → IsReturned stands turns probes faults h (ForUndo v) tag grip → IsHome h t grip → slip ≡ grip.slip → has_died grip.stage.told ≡ false
+pub undone_back : {D : Type 0} {shows : D → Shown} (h t : Inside D) (v : ℕ) (grip : Gripped D Done) (slip : Slip)
+    → IsReturned shows h (Undoes v) grip → IsHome h t grip → slip ≡ grip.slip → has_died grip.stage.told ≡ false
     → t.history ≡ with_entry h.history slip.maker (Undid (run_no slip.maker) slip.device true)
-    → CameHome stands turns probes faults h t (ForUndo v) tag grip (Undid (run_no slip.maker) slip.device true ∷ [])
-undone_back h t v tag grip slip returned parts same lives new =
+    → CameHome shows h t (Undoes v) grip (Undid (run_no slip.maker) slip.device true ∷ [])
+undone_back h t v grip slip returned parts same lives new =
     record {
       returned = returned;
       parts = parts;

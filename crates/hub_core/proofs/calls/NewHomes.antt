@@ -1,4 +1,5 @@
 -- A new home is as every home is kept.
+use Rattle.device_states.specs.Devices.{Shown}
 use Rattle.home_types.specs.HomeStates.{nowhere, stand_at}
 use Rattle.home_types.specs.Kinds.{has_value, kind_at}
 use Rattle.home_types.specs.declared.kinds.Kind.TheVariants.{States}
@@ -15,16 +16,16 @@ use Rattle.routine_reader.specs.declared.scripts.Script.{Script}
 use Rattle.std.proofs.Common.{ap, arith, get_or, subst, sym, ◌∙◌}
 use Rattle.std.proofs.lemmas.List.{get_or-map, length-map}
 use Rattle.std.proofs.lemmas.Option.{get_or_from_slice_get, slice_get_within}
-use Rattle.std.specs.Prelude.{IsTrue, List, Option, Some, length, map, slice_get, true, ℕ, ◌<◌, ◌≡◌, ◌≤◌}
+use Rattle.std.specs.Prelude.{IsTrue, List, Some, length, map, slice_get, true, ℕ, ◌<◌, ◌≡◌, ◌≤◌}
 
 -- the item of a list of which each was made of one
 made_of : {X Y : Type 0} (f : X → Y) (xs : List X) (i : ℕ) (x : X) (e : Y) → slice_get xs i ≡ Some x → get_or (map f xs) i e ≡ f x
 made_of f xs i x e h = get_or-map f xs i x e (slice_get_within xs i x h) ∙ ap f (get_or_from_slice_get xs i x x h)
 
-pub new_home : {D : Type 0} (tag : D → ℕ) (plan : D → Option (List (ℕ × ℕ))) (stands turns probes faults : D → ℕ) (script : Script) (kinds : List Kind) (world : List Stand) (devices : List D)
-    → IsSound (plain_script script) → AreNew tag plan stands turns probes faults script.devices.items devices → kinds ≡ kinds_of script → world ≡ start_home script
-    → HomeIsKept tag stands turns probes faults (record { kinds = kinds; world = world; devices = devices; opened = 0 })
-new_home {D = D} tag plan stands turns probes faults script kinds world devices sound new kinds_are world_is =
+pub new_home : {D : Type 0} (shows : D → Shown) (script : Script) (kinds : List Kind) (world : List Stand) (devices : List D)
+    → IsSound (plain_script script) → AreNew shows script.devices.items devices → kinds ≡ kinds_of script → world ≡ start_home script
+    → HomeIsKept shows (record { kinds = kinds; world = world; devices = devices; opened = 0 })
+new_home {D = D} shows script kinds world devices sound new kinds_are world_is =
     record {
       numbered = λ d device at. (new_at d device at).2.own.tag_is;
       kinds = ap (λ l. length l) kinds_are ∙ length-map texts (λ t. t.kind) ∙ sym size;
@@ -49,7 +50,7 @@ new_home {D = D} tag plan stands turns probes faults script kinds world devices 
     few : length texts ≤ 256
     few = let said = sound.few_devices in let same : length (map plain_device texts) ≡ length texts = length-map texts plain_device in omega (arith, said, same)
 
-    new_at : (d : ℕ) (device : D) → slice_get devices d ≡ Some device → (text : DeviceText) × (slice_get texts d ≡ Some text) × IsNew tag plan stands turns probes faults text d device
+    new_at : (d : ℕ) (device : D) → slice_get devices d ≡ Some device → (text : DeviceText) × (slice_get texts d ≡ Some text) × IsNew shows text d device
     new_at d device at = (let text = at_place texts d (let within = slice_get_within devices d device at in omega (arith, within, new.size)) in (text.0, text.1, new.each d device text.0 at text.1))
 
     stand_of : (d : ℕ) (text : DeviceText) → slice_get texts d ≡ Some text → stand_at world d ≡ start_stand text
@@ -58,7 +59,7 @@ new_home {D = D} tag plan stands turns probes faults script kinds world devices 
     kind_of : (d : ℕ) (text : DeviceText) → slice_get texts d ≡ Some text → kind_at kinds d ≡ text.kind
     kind_of d text at = ap (λ l. kind_at l d) kinds_are ∙ made_of (λ t. t.kind) texts d text (States 0) at
 
-    stand : UpDevicesStand stands devices world
+    stand : UpDevicesStand shows devices world
     stand d device at up = (let is = new_at d device at in is.2.at_start ∙ sym (ap (λ (s : Stand). s.value) (stand_of d is.0 is.1)))
 
     starts_well : (d : ℕ) (text : DeviceText) → slice_get texts d ≡ Some text → has_value text.kind text.start ≡ true

@@ -10,6 +10,7 @@ use Rattle.device_gate.specs.declared.slips.Task.TheVariants.{Drive, Probe, Sens
 use Rattle.device_gate.specs.declared.slips.Task.{Task}
 use Rattle.device_gate.specs.declared.slips.Told.TheVariants.{Died, Sensed, Worked}
 use Rattle.device_gate.specs.declared.slips.Told.{Told}
+use Rattle.device_states.specs.Devices.{Shown}
 use Rattle.history_book.specs.Histories.{entries_of}
 use Rattle.history_book.specs.Readings.{Reading, has_written, is_doomed, is_live, next_of}
 use Rattle.history_book.specs.Settings.{Setting, is_device}
@@ -31,12 +32,11 @@ use Rattle.hub_core.specs.HubKept.{is_of_run}
 use Rattle.hub_core.specs.HubSteps.{command_task, task_of}
 use Rattle.hub_core.specs.HubsKept.{FitsOut, HubIsKept}
 use Rattle.hub_core.specs.OpenHubs.{OpenHub, configuration_of, grip_in, held_in, progress_at}
-use Rattle.window_order.specs.KeptOrders.{purpose_of}
+use Rattle.lock_leasing.specs.declared.purposes.Purpose.TheVariants.{Commands, Probes, Undoes}
+use Rattle.lock_leasing.specs.declared.purposes.Purpose.{Purpose}
 use Rattle.hub_core.specs.Openings.{names_values_of}
 use Rattle.hub_core.specs.Steps.{give_entries}
-use Rattle.window_order.specs.declared.purposes.Purpose.TheVariants.{Command as ForCommand, Probe as ForProbe, Undo as ForUndo}
-use Rattle.window_order.specs.declared.purposes.Purpose.{Purpose as KeptPurpose}
-use Rattle.lock_leasing.specs.Configurations.{Commands, Configuration, Probes, Purpose, Undoes, read_of}
+use Rattle.lock_leasing.specs.Configurations.{Configuration, read_of}
 use Rattle.std.proofs.Common.{ap, arith, refl, subst, sym, ◌∙◌}
 use Rattle.std.proofs.lemmas.Bool.{eqb-true}
 use Rattle.std.proofs.lemmas.Grind.{common_steps}
@@ -93,11 +93,11 @@ task_calls kind (Check v) register = refl
 task_calls kind Load register = refl
 task_calls kind Store register = refl
 
-grip_there : {D : Type 0} (s : OpenHub D) (slip : Slip) (task : Task) → IsKept s.places slip task → (configuration_of s).grips slip.device.0 ≡ Some (record { maker = slip.maker; purpose = purpose_of (progress_at s.devices slip.device.0).purpose })
+grip_there : {D : Type 0} (s : OpenHub D) (slip : Slip) (task : Task) → IsKept s.places slip task → (configuration_of s).grips slip.device.0 ≡ Some (record { maker = slip.maker; purpose = (progress_at s.devices slip.device.0).purpose })
 grip_there s slip task kept = ap (λ o. grip_in o (progress_at s.devices slip.device.0).purpose) kept
 
-pub for_command : {D : Type 0} (stands turns probes faults : D → ℕ) (s : OpenHub D) (slip : Slip) (task : Task) (k : ℕ) → HubIsKept stands turns probes faults s → IsKept s.places slip task → (progress_at s.devices slip.device.0).purpose ≡ ForCommand k → IsForCommand s slip task k
-for_command stands turns probes faults s slip task k kept there purpose =
+pub for_command : {D : Type 0} (shows : D → Shown) (s : OpenHub D) (slip : Slip) (task : Task) (k : ℕ) → HubIsKept shows s → IsKept s.places slip task → (progress_at s.devices slip.device.0).purpose ≡ Commands k → IsForCommand s slip task k
+for_command shows s slip task k kept there purpose =
     record {
       grip = grip;
       run = live_run w n r read.shaped (out.1.live);
@@ -126,7 +126,7 @@ for_command stands turns probes faults s slip task k kept there purpose =
     read = read_facts w (entries_of s.history) kept.configuration.history.well_formed
 
     grip : (configuration_of s).grips slip.device.0 ≡ Some (record { maker = r; purpose = Commands k })
-    grip = grip_there s slip task there ∙ ap (λ (p : KeptPurpose). Some (record { maker = r; purpose = purpose_of p })) purpose
+    grip = grip_there s slip task there ∙ ap (λ (p : Purpose). Some (record { maker = r; purpose = p })) purpose
 
     out : (c : Command) × IsOut w n r k slip.device.0 c
     out = out_is w n (configuration_of s).grips r k slip.device.0 kept.configuration.grips.runs grip
@@ -144,7 +144,7 @@ for_command stands turns probes faults s slip task k kept there purpose =
     fits = kept.out slip.device.0 slip task there
 
     does : task ≡ command_task (configuration_of s) r (command_at w.runs r k)
-    does = fits.does ∙ ap (λ (p : KeptPurpose). task_of (configuration_of s) r (purpose_of p)) purpose
+    does = fits.does ∙ ap (λ (p : Purpose). task_of (configuration_of s) r p) purpose
 
     homed : is_device w out.0.device.0 ≡ true
     homed = let home : IsTrue (is_device w out.0.device.0 && names_values_of (kind_at w.kinds out.0.device.0) out.0.job) = kept.configuration.opens.homed r (next_of n r) out.0 out.1.next in grind (arith, common_steps)
@@ -156,20 +156,20 @@ for_command stands turns probes faults s slip task k kept there purpose =
         subst (λ d. IsTrue (names_values_of (kind_at w.kinds d) out.0.job)) out.1.on there'
 
 -- its device is one of the home
-out_below : {D : Type 0} (stands turns probes faults : D → ℕ) (s : OpenHub D) (slip : Slip) (task : Task) → HubIsKept stands turns probes faults s → IsKept s.places slip task → slip.device.0 < length s.setting.first
-out_below stands turns probes faults s slip task kept there =
+out_below : {D : Type 0} (shows : D → Shown) (s : OpenHub D) (slip : Slip) (task : Task) → HubIsKept shows s → IsKept s.places slip task → slip.device.0 < length s.setting.first
+out_below shows s slip task kept there =
     let within : slip.device.0 < length s.places = slice_get_within s.places slip.device.0 (Out slip task) there in
     omega (arith, within, kept.places_size)
 
 -- a command is a run's
-command_for : {D : Type 0} (stands turns probes faults : D → ℕ) (s : OpenHub D) (slip : Slip) (task : Task) (k : ℕ) → HubIsKept stands turns probes faults s → IsKept s.places slip task → (progress_at s.devices slip.device.0).purpose ≡ ForCommand k → IsFor s slip task (Commands k)
-command_for stands turns probes faults s slip task k kept there purpose =
-    let for = for_command stands turns probes faults s slip task k kept there purpose in
+command_for : {D : Type 0} (shows : D → Shown) (s : OpenHub D) (slip : Slip) (task : Task) (k : ℕ) → HubIsKept shows s → IsKept s.places slip task → (progress_at s.devices slip.device.0).purpose ≡ Commands k → IsFor s slip task (Commands k)
+command_for shows s slip task k kept there purpose =
+    let for = for_command shows s slip task k kept there purpose in
     let c = command_at s.setting.runs slip.maker k in
     let register = ((read_of (configuration_of s)).run slip.maker).register in
     record {
       grip = for.grip;
-      below = out_below stands turns probes faults s slip task kept there;
+      below = out_below shows s slip task kept there;
       maker = sym (run_above s.setting.runs slip.maker for.run);
       run = λ of_run. for.run;
       on = for.on;
@@ -181,11 +181,11 @@ command_for stands turns probes faults s slip task k kept there purpose =
     }
 
 -- so is the undo of a write
-undo_for : {D : Type 0} (stands turns probes faults : D → ℕ) (s : OpenHub D) (slip : Slip) (task : Task) (v : ℕ) → HubIsKept stands turns probes faults s → IsKept s.places slip task → (progress_at s.devices slip.device.0).purpose ≡ ForUndo v → IsFor s slip task (Undoes v)
-undo_for stands turns probes faults s slip task v kept there purpose =
+undo_for : {D : Type 0} (shows : D → Shown) (s : OpenHub D) (slip : Slip) (task : Task) (v : ℕ) → HubIsKept shows s → IsKept s.places slip task → (progress_at s.devices slip.device.0).purpose ≡ Undoes v → IsFor s slip task (Undoes v)
+undo_for shows s slip task v kept there purpose =
     record {
       grip = grip;
-      below = out_below stands turns probes faults s slip task kept there;
+      below = out_below shows s slip task kept there;
       maker = sym (run_above s.setting.runs slip.maker run);
       run = λ of_run. run;
       on = tt;
@@ -204,7 +204,7 @@ undo_for stands turns probes faults s slip task v kept there purpose =
     n = read_of (configuration_of s)
 
     grip : (configuration_of s).grips slip.device.0 ≡ Some (record { maker = slip.maker; purpose = Undoes v })
-    grip = grip_there s slip task there ∙ ap (λ (p : KeptPurpose). Some (record { maker = slip.maker; purpose = purpose_of p })) purpose
+    grip = grip_there s slip task there ∙ ap (λ (p : Purpose). Some (record { maker = slip.maker; purpose = p })) purpose
 
     live : is_live n slip.maker ≡ true
     live =
@@ -218,11 +218,11 @@ undo_for stands turns probes faults s slip task v kept there purpose =
     fits = kept.out slip.device.0 slip task there
 
     does : task ≡ Drive v
-    does = fits.does ∙ ap (λ (p : KeptPurpose). task_of (configuration_of s) slip.maker (purpose_of p)) purpose
+    does = fits.does ∙ ap (λ (p : Purpose). task_of (configuration_of s) slip.maker p) purpose
 
 -- a probe is the detector's: what it restores says how the device is counted, and is a value of its kind
-probe_for : {D : Type 0} (stands turns probes faults : D → ℕ) (s : OpenHub D) (slip : Slip) (task : Task) (v : Option ℕ) → HubIsKept stands turns probes faults s → IsKept s.places slip task → (progress_at s.devices slip.device.0).purpose ≡ ForProbe v → IsFor s slip task (Probes v)
-probe_for stands turns probes faults s slip task v kept there purpose =
+probe_for : {D : Type 0} (shows : D → Shown) (s : OpenHub D) (slip : Slip) (task : Task) (v : Option ℕ) → HubIsKept shows s → IsKept s.places slip task → (progress_at s.devices slip.device.0).purpose ≡ Probes v → IsFor s slip task (Probes v)
+probe_for shows s slip task v kept there purpose =
     record {
       grip = grip;
       below = below;
@@ -237,16 +237,16 @@ probe_for stands turns probes faults s slip task v kept there purpose =
     }
   where
     grip : (configuration_of s).grips slip.device.0 ≡ Some (record { maker = slip.maker; purpose = Probes v })
-    grip = grip_there s slip task there ∙ ap (λ (p : KeptPurpose). Some (record { maker = slip.maker; purpose = purpose_of p })) purpose
+    grip = grip_there s slip task there ∙ ap (λ (p : Purpose). Some (record { maker = slip.maker; purpose = p })) purpose
 
     below : slip.device.0 < length s.setting.first
-    below = out_below stands turns probes faults s slip task kept there
+    below = out_below shows s slip task kept there
 
     fits : FitsOut s slip.device.0 slip task
     fits = kept.out slip.device.0 slip task there
 
     does : task ≡ Probe v
-    does = fits.does ∙ ap (λ (p : KeptPurpose). task_of (configuration_of s) slip.maker (purpose_of p)) purpose
+    does = fits.does ∙ ap (λ (p : Purpose). task_of (configuration_of s) slip.maker p) purpose
 
     up_for : (o : Option ℕ) → is_counted_up (Probe o) ≡ is_none o
     up_for None = refl
@@ -261,22 +261,22 @@ probe_for stands turns probes faults s slip task v kept there purpose =
     valued (Some u) at = restored_fits (configuration_of s) s.rounds s.opened (held_in s) slip.device.0 slip.maker u at below (kept.values slip.device.0 below) kept.configuration
 
 -- in each case
-pub out_for : {D : Type 0} (stands turns probes faults : D → ℕ) (s : OpenHub D) (slip : Slip) (task : Task) (purpose : KeptPurpose) → HubIsKept stands turns probes faults s → IsKept s.places slip task → (progress_at s.devices slip.device.0).purpose ≡ purpose → IsFor s slip task (purpose_of purpose)
-out_for stands turns probes faults s slip task (ForCommand k) kept there is = command_for stands turns probes faults s slip task k kept there is
-out_for stands turns probes faults s slip task (ForUndo v) kept there is = undo_for stands turns probes faults s slip task v kept there is
-out_for stands turns probes faults s slip task (ForProbe v) kept there is = probe_for stands turns probes faults s slip task v kept there is
+pub out_for : {D : Type 0} (shows : D → Shown) (s : OpenHub D) (slip : Slip) (task : Task) (purpose : Purpose) → HubIsKept shows s → IsKept s.places slip task → (progress_at s.devices slip.device.0).purpose ≡ purpose → IsFor s slip task purpose
+out_for shows s slip task (Commands k) kept there is = command_for shows s slip task k kept there is
+out_for shows s slip task (Undoes v) kept there is = undo_for shows s slip task v kept there is
+out_for shows s slip task (Probes v) kept there is = probe_for shows s slip task v kept there is
 
 -- what the detector has out is a probe
-pub probe_purpose : {D : Type 0} (stands turns probes faults : D → ℕ) (s : OpenHub D) (slip : Slip) (task : Task) → HubIsKept stands turns probes faults s → IsKept s.places slip task → slip.maker ≡ 0 → (v : Option ℕ) × ((progress_at s.devices slip.device.0).purpose ≡ ForProbe v)
-probe_purpose stands turns probes faults s slip task kept there none = by_purpose (progress_at s.devices slip.device.0).purpose refl
+pub probe_purpose : {D : Type 0} (shows : D → Shown) (s : OpenHub D) (slip : Slip) (task : Task) → HubIsKept shows s → IsKept s.places slip task → slip.maker ≡ 0 → (v : Option ℕ) × ((progress_at s.devices slip.device.0).purpose ≡ Probes v)
+probe_purpose shows s slip task kept there none = by_purpose (progress_at s.devices slip.device.0).purpose refl
   where
-    no_run : (p : KeptPurpose) → (progress_at s.devices slip.device.0).purpose ≡ p → is_of_run (purpose_of p) ≡ false
-    no_run p is = (out_for stands turns probes faults s slip task p kept there is).maker ∙ ap (nat_lt 0) none
+    no_run : (p : Purpose) → (progress_at s.devices slip.device.0).purpose ≡ p → is_of_run p ≡ false
+    no_run p is = (out_for shows s slip task p kept there is).maker ∙ ap (nat_lt 0) none
 
-    by_purpose : (p : KeptPurpose) → (progress_at s.devices slip.device.0).purpose ≡ p → (v : Option ℕ) × ((progress_at s.devices slip.device.0).purpose ≡ ForProbe v)
-    by_purpose (ForCommand k) is = absurd (let run : true ≡ false = no_run (ForCommand k) is in cc)
-    by_purpose (ForUndo v) is = absurd (let run : true ≡ false = no_run (ForUndo v) is in cc)
-    by_purpose (ForProbe v) is = (v, is)
+    by_purpose : (p : Purpose) → (progress_at s.devices slip.device.0).purpose ≡ p → (v : Option ℕ) × ((progress_at s.devices slip.device.0).purpose ≡ Probes v)
+    by_purpose (Commands k) is = absurd (let run : true ≡ false = no_run (Commands k) is in cc)
+    by_purpose (Undoes v) is = absurd (let run : true ≡ false = no_run (Undoes v) is in cc)
+    by_purpose (Probes v) is = (v, is)
 
 -- What it brings home
 

@@ -12,7 +12,7 @@ use Rattle.home_types.specs.declared.items.Item.{Item}
 use Rattle.home_types.specs.declared.modes.Scheduler.TheVariants.{Timeline}
 use Rattle.home_types.specs.declared.numbers.RunNo.{RunNo}
 use Rattle.hub_core.proofs.kept.Sizes.{run_there, run_within}
-use Rattle.hub_core.proofs.steps.Choices.{decide_is}
+use Rattle.hub_core.proofs.steps.Choices.{known_by}
 use Rattle.hub_core.specs.Bounds.{most_items}
 use Rattle.hub_core.specs.HubCalls.{IsTurn, PlansEarliest, SameWindow}
 use Rattle.hub_core.specs.OpenHubs.{OpenHub, configuration_of}
@@ -22,7 +22,7 @@ use Rattle.hub_core.specs.Steps.{Moves, choice_of, place_choice}
 use Rattle.hub_core.specs.declared.turns.Turn.TheVariants.{Absent, Go, Moved, Over, Wait}
 use Rattle.hub_core.specs.declared.turns.Turn.{Turn}
 use Rattle.lock_leasing.proofs.EarliestPlaces.{gap_is_earliest, gap_least}
-use Rattle.lock_leasing.specs.Configurations.{Configuration, read_of}
+use Rattle.lock_leasing.specs.Configurations.{Configuration, point_of, read_of}
 use Rattle.lock_leasing.specs.Places.{At, IsEarliestSet, IsFittingSet, Placing, scheduled_place, timeline}
 use Rattle.std.proofs.Common.{ap, arith, refl, subst, sym, ◌∙◌}
 use Rattle.std.proofs.lemmas.Grind.{common_steps}
@@ -57,7 +57,7 @@ placed_so line r m at place within is = placed_between r m at (split_at line at)
     size = grind (arith, common_steps)
 
 -- by the timeline
-pub timed_place : (s : Configuration) (r m : ℕ) → scheduler_of s.setting.mode ≡ Timeline → scheduled_place s.setting (read_of s) s.grips r m ≡ timeline s.setting (read_of s) r m
+pub timed_place : (s : Configuration) (r m : ℕ) → scheduler_of s.setting.mode ≡ Timeline → scheduled_place (point_of s) r m ≡ timeline s.setting (read_of s) r m
 timed_place s r m timed = rw timed refl
 
 -- .. the run is planned behind the items of its set
@@ -76,23 +76,8 @@ holds_gap room s r m at timed set times = record {
 
 -- a run that the step places has no place yet
 pub joins_unplaced : (s : Configuration) (r at m : ℕ) → choice_of s r m ≡ Moves (Placed (run_no r) at (max s.moment m) ∷ []) → ((read_of s).run r).placed ≡ None
-joins_unplaced s r at m =
-    decide_is (λ c. c ≡ Moves (Placed (run_no r) at (max s.moment m) ∷ []) → ((read_of s).run r).placed ≡ None) s.setting (read_of s) s.grips r (max s.moment m) (record {
-      absent = λ none is. absurd (cc);
-      over = λ e at is. absurd (cc);
-      waits = λ why is. absurd (cc);
-      arrives = λ run none is. absurd (cc);
-      enters = λ x enters is. none_is ((read_of s).run r).placed enters.unplaced;
-      aborted = λ cause act doomed over is. absurd (cc);
-      drops = λ cause d undoing down is. absurd (cc);
-      undoes = λ cause d undoing up is. absurd (cc);
-      revokes = λ c x run strong at is. absurd (cc);
-      skips = λ c skip is. absurd (cc);
-      downs = λ c run next home down is. absurd (cc);
-      goes = λ c run next home up is. absurd (cc);
-      fails_at_end = λ d all at is. absurd (cc);
-      commits = λ all up is. absurd (cc);
-    })
+joins_unplaced s r at m is =
+    let known = known_by s r m (Moves (Placed (run_no r) at (max s.moment m) ∷ [])) is in none_is ((read_of s).run r).placed known.1.unplaced
 
 -- .. by the timeline stands behind a set that fits, and no other one that does plans an earlier end
 joins_earliest : (s : Configuration) (r m : ℕ) → IsFittingSet s.setting (read_of s) r m (gap_set s.setting (read_of s) r m) × IsEarliestSet s.setting (read_of s) r m (gap_set s.setting (read_of s) r m)

@@ -7,6 +7,7 @@ use Rattle.device_gate.specs.declared.grips.Done.{Done}
 use Rattle.device_gate.specs.declared.slips.Slip.{Slip}
 use Rattle.device_gate.specs.declared.slips.Told.TheVariants.{Died, Sensed, Worked}
 use Rattle.device_gate.specs.declared.slips.Told.{Told}
+use Rattle.device_states.specs.Devices.{Shown}
 use Rattle.failure_serialization.specs.Events.{event_place, lost_run}
 use Rattle.history_book.proofs.HistoryReads.{MayTake, run_place, takes_first, takes_rest}
 use Rattle.history_book.proofs.Searches.{each_found}
@@ -46,10 +47,11 @@ use Rattle.hub_core.specs.declared.away.Away.{Away}
 use Rattle.window_order.specs.declared.kept_orders.KeptOrder.{KeptOrder}
 use Rattle.hub_core.specs.declared.known.Events.{Events}
 use Rattle.hub_core.specs.declared.open_windows.OpenWindow.TheInside.{Inside}
-use Rattle.window_order.specs.declared.purposes.Purpose.TheVariants.{Probe as ForProbe}
+use Rattle.lock_leasing.specs.declared.purposes.Purpose.TheVariants.{Commands, Probes, Undoes}
+use Rattle.lock_leasing.specs.declared.purposes.Purpose.{Purpose}
 use Rattle.lineage_table.specs.Lineages.{LineageState, accesses_at, lineage_at}
 use Rattle.lock_leasing.proofs.Effects.{live_runs_live}
-use Rattle.lock_leasing.specs.Configurations.{Commands, Grip, Grips, Probes, Purpose, Undoes, grips_command, has_grip, is_command, read_of}
+use Rattle.lock_leasing.specs.Configurations.{Grip, Grips, grips_command, has_grip, is_command, point, read_of}
 use Rattle.lock_leasing.specs.Places.{GripsFit}
 use Rattle.lock_leasing.specs.Waits.{grip_wait, lost_by}
 use Rattle.lock_leasing.specs.Words.{live_runs}
@@ -69,35 +71,35 @@ use Rattle.window_order.specs.TableChanges.{is_named_device}
 -- What the detector's grip brings home
 
 -- what the code knows of it
-pub record ProbeKnown {D : Type 0} (stands turns probes faults : D → ℕ) (h : Inside D) (s : OpenHub D) (tag : ℕ) (grip : Gripped D Done) (sl : Slip) : Type 0 where
+pub record ProbeKnown {D : Type 0} (shows : D → Shown) (h : Inside D) (s : OpenHub D) (grip : Gripped D Done) (sl : Slip) : Type 0 where
   pub seen : open_of h ≡ s
   pub there : IsKept s.places grip.slip grip.task
   pub maker : grip.slip.maker ≡ 0
-  pub called : WasCalled grip.stage.told grip.task grip.slip tag (stands grip.device) (turns grip.device) (probes grip.device) (faults grip.device)
+  pub called : WasCalled grip.stage.told grip.task grip.slip (shows grip.device)
   pub same : sl ≡ grip.slip
 
 -- .. as the parts tell it: a probe was out, which says how its device is counted
-pub record ProbeHere {D : Type 0} (stands turns probes faults : D → ℕ) (h : Inside D) (tag : ℕ) (grip : Gripped D Done) : Type 0 where
+pub record ProbeHere {D : Type 0} (shows : D → Shown) (h : Inside D) (grip : Gripped D Done) : Type 0 where
   pub v : Option ℕ
-  pub returned : IsReturned stands turns probes faults h (ForProbe v) tag grip
+  pub returned : IsReturned shows h (Probes v) grip
   pub for : IsFor (open_of h) grip.slip grip.task (Probes v)
 
-probe_here : {D : Type 0} {stands turns probes faults : D → ℕ} (h : Inside D) (s : OpenHub D) (tag : ℕ) (grip : Gripped D Done) (sl : Slip) → ProbeKnown stands turns probes faults h s tag grip sl → IsWhole stands turns probes faults h → ProbeHere stands turns probes faults h tag grip
-probe_here {D = D} {stands = stands} {turns = turns} {probes = probes} {faults = faults} h s tag grip sl known k =
-    record { v = out.0; returned = returned; for = returned_for h (ForProbe out.0) tag grip returned k }
+probe_here : {D : Type 0} {shows : D → Shown} (h : Inside D) (s : OpenHub D) (grip : Gripped D Done) (sl : Slip) → ProbeKnown shows h s grip sl → IsWhole shows h → ProbeHere shows h grip
+probe_here {D = D} {shows = shows} h s grip sl known k =
+    record { v = out.0; returned = returned; for = returned_for h (Probes out.0) grip returned k }
   where
     there : IsKept h.away.gate.places grip.slip grip.task
     there = ap (λ (x : OpenHub D). slice_get x.places grip.slip.device.0) known.seen ∙ known.there
 
-    out : (v : Option ℕ) × ((progress_at h.away.known.items grip.slip.device.0).purpose ≡ ForProbe v)
-    out = probe_purpose _ _ _ _ (open_of h) grip.slip grip.task k.shown there known.maker
+    out : (v : Option ℕ) × ((progress_at h.away.known.items grip.slip.device.0).purpose ≡ Probes v)
+    out = probe_purpose _ (open_of h) grip.slip grip.task k.shown there known.maker
 
-    returned : IsReturned stands turns probes faults h (ForProbe out.0) tag grip
+    returned : IsReturned shows h (Probes out.0) grip
     returned = record { there = there; purpose = out.1; called = known.called }
 
 -- the grip that was out
-probe_grip : {D : Type 0} {stands turns probes faults : D → ℕ} {h : Inside D} {tag : ℕ} {grip : Gripped D Done}
-    (here : ProbeHere stands turns probes faults h tag grip) → grip.slip.maker ≡ 0
+probe_grip : {D : Type 0} {shows : D → Shown} {h : Inside D} {grip : Gripped D Done}
+    (here : ProbeHere shows h grip) → grip.slip.maker ≡ 0
     → (configuration_of (open_of h)).grips grip.slip.device.0 ≡ Some (record { maker = 0; purpose = Probes here.v })
 probe_grip here none = here.for.grip ∙ ap (λ m. Some (record { maker = m; purpose = Probes here.v })) none
 
@@ -127,9 +129,9 @@ none_more h maker =
     append_nil [] = refl
     append_nil (x ∷ xs) = ap (λ l. x ∷ l) (append_nil xs)
 
-same_back : {D : Type 0} {stands turns probes faults : D → ℕ} (h t : Inside D) (s : OpenHub D) (tag : ℕ) (grip : Gripped D Done) (sl : Slip) → ProbeKnown stands turns probes faults h s tag grip sl → (read_of (configuration_of s)).up grip.slip.device.0 ≡ not (has_died grip.stage.told)
-    → IsHome h t grip → t.history ≡ h.history → (here : ProbeHere stands turns probes faults h tag grip) → CameHome stands turns probes faults h t (ForProbe here.v) tag grip []
-same_back h t s tag grip sl known same parts history here =
+same_back : {D : Type 0} {shows : D → Shown} (h t : Inside D) (s : OpenHub D) (grip : Gripped D Done) (sl : Slip) → ProbeKnown shows h s grip sl → (read_of (configuration_of s)).up grip.slip.device.0 ≡ not (has_died grip.stage.told)
+    → IsHome h t grip → t.history ≡ h.history → (here : ProbeHere shows h grip) → CameHome shows h t (Probes here.v) grip []
+same_back h t s grip sl known same parts history here =
     record {
       returned = here.returned;
       parts = parts;
@@ -137,21 +139,21 @@ same_back h t s tag grip sl known same parts history here =
       history_is = history ∙ none_more h.history grip.slip.maker;
     }
 
-pub same_whole : {D : Type 0} {stands turns probes faults : D → ℕ} (h t : Inside D) (s : OpenHub D) (tag : ℕ) (grip : Gripped D Done) (sl : Slip) → ProbeKnown stands turns probes faults h s tag grip sl → (read_of (configuration_of s)).up grip.slip.device.0 ≡ not (has_died grip.stage.told)
-    → IsHome h t grip → t.history ≡ h.history → t.order ≡ h.order → IsWhole stands turns probes faults h → IsWhole stands turns probes faults t
-same_whole h t s tag grip sl known same parts history order k =
-    let here = probe_here h s tag grip sl known k in
-    came_whole h t (ForProbe here.v) tag grip [] (same_back h t s tag grip sl known same parts history here)
+pub same_whole : {D : Type 0} {shows : D → Shown} (h t : Inside D) (s : OpenHub D) (grip : Gripped D Done) (sl : Slip) → ProbeKnown shows h s grip sl → (read_of (configuration_of s)).up grip.slip.device.0 ≡ not (has_died grip.stage.told)
+    → IsHome h t grip → t.history ≡ h.history → t.order ≡ h.order → IsWhole shows h → IsWhole shows t
+same_whole h t s grip sl known same parts history order k =
+    let here = probe_here h s grip sl known k in
+    came_whole h t (Probes here.v) grip [] (same_back h t s grip sl known same parts history here)
     (λ formed home. subst (λ (x : HistoryState). OrderIsBeside h.rounds x (configuration_of (open_of t)).grips t.order.line t.order.table) (sym history)
     (subst (λ (x : KeptOrder). OrderIsBeside h.rounds h.history (configuration_of (open_of t)).grips x.line x.table) (sym order)
     (order_probe_home h.history.setting (read_in h.history) (configuration_of (open_of h)).grips (configuration_of (open_of t)).grips grip.slip.device.0 here.v h.order.line h.order.table (probe_grip here known.maker) home k.order))) k
 
-pub same_given : {D : Type 0} {stands turns probes faults : D → ℕ} (h t : Inside D) (s : OpenHub D) (tag : ℕ) (grip : Gripped D Done) (sl : Slip) (made : Made)
-    → ProbeKnown stands turns probes faults h s tag grip sl → (read_of (configuration_of s)).up grip.slip.device.0 ≡ not (has_died grip.stage.told)
-    → IsHome h t grip → t.moment ≡ h.moment → t.history ≡ h.history → entries_made made ≡ [] → IsPacked made → IsWhole stands turns probes faults h → ProbeBack s (open_of t) grip made
-same_given h t s tag grip sl made known same parts moment history made_is packed k =
-    let here = probe_here h s tag grip sl known k in
-    probe_given h t s (ForProbe here.v) tag grip [] made known.seen known.maker moment (same_back h t s tag grip sl known same parts history here) made_is packed k
+pub same_given : {D : Type 0} {shows : D → Shown} (h t : Inside D) (s : OpenHub D) (grip : Gripped D Done) (sl : Slip) (made : Made)
+    → ProbeKnown shows h s grip sl → (read_of (configuration_of s)).up grip.slip.device.0 ≡ not (has_died grip.stage.told)
+    → IsHome h t grip → t.moment ≡ h.moment → t.history ≡ h.history → entries_made made ≡ [] → IsPacked made → IsWhole shows h → ProbeBack s (open_of t) grip made
+same_given h t s grip sl made known same parts moment history made_is packed k =
+    let here = probe_here h s grip sl known k in
+    probe_given h t s (Probes here.v) grip [] made known.seen known.maker moment (same_back h t s grip sl known same parts history here) made_is packed k
 
 -- The device is back
 
@@ -166,54 +168,54 @@ pub record FoundBack {D : Type 0} (h : Inside D) (s : OpenHub D) (grip : Gripped
   pub lives : has_died grip.stage.told ≡ false
   pub events_are : events ≡ events_after grip.task grip.stage.told (progress_at h.away.known.items grip.slip.device.0).events
 
-back_tells : {D : Type 0} {stands turns probes faults : D → ℕ} (h : Inside D) (s : OpenHub D) (tag : ℕ) (grip : Gripped D Done) (sl : Slip) (events : Events)
-    → ProbeKnown stands turns probes faults h s tag grip sl → FoundBack h s grip events
-    → (here : ProbeHere stands turns probes faults h tag grip) → TellsTurn stands turns probes faults h (ForProbe here.v) tag grip (Rose grip.slip.device) []
-back_tells h s tag grip sl events known found here = record {
+back_tells : {D : Type 0} {shows : D → Shown} (h : Inside D) (s : OpenHub D) (grip : Gripped D Done) (sl : Slip) (events : Events)
+    → ProbeKnown shows h s grip sl → FoundBack h s grip events
+    → (here : ProbeHere shows h grip) → TellsTurn shows h (Probes here.v) grip (Rose grip.slip.device) []
+back_tells h s grip sl events known found here = record {
   returned = here.returned;
   gives = rose_gives h.history.setting (read_in h.history) grip.slip.device.0 grip.stage.told (counted_here h s grip.slip.device.0 false known.seen found.down) found.lives;
   leave = refl;
 }
 
-back_rises : {D : Type 0} {stands turns probes faults : D → ℕ} (h : Inside D) (s : OpenHub D) (tag : ℕ) (grip : Gripped D Done) (sl : Slip) (events : Events)
-    → ProbeKnown stands turns probes faults h s tag grip sl → FoundBack h s grip events
-    → (here : ProbeHere stands turns probes faults h tag grip) → Rises h (ForProbe here.v) grip sl events
-back_rises h s tag grip sl events known found here = record { same = known.same; down = sym here.for.on ∙ counted_here h s grip.slip.device.0 false known.seen found.down; lives = found.lives; events_are = found.events_are }
+back_rises : {D : Type 0} {shows : D → Shown} (h : Inside D) (s : OpenHub D) (grip : Gripped D Done) (sl : Slip) (events : Events)
+    → ProbeKnown shows h s grip sl → FoundBack h s grip events
+    → (here : ProbeHere shows h grip) → Rises h (Probes here.v) grip sl events
+back_rises h s grip sl events known found here = record { same = known.same; down = sym here.for.on ∙ counted_here h s grip.slip.device.0 false known.seen found.down; lives = found.lives; events_are = found.events_are }
 
 -- the device may come back
-pub back_may : {D : Type 0} {stands turns probes faults : D → ℕ} (h : Inside D) (s : OpenHub D) (tag : ℕ) (grip : Gripped D Done) (sl : Slip) (events : Events) → ProbeKnown stands turns probes faults h s tag grip sl → FoundBack h s grip events → IsWhole stands turns probes faults h
+pub back_may : {D : Type 0} {shows : D → Shown} (h : Inside D) (s : OpenHub D) (grip : Gripped D Done) (sl : Slip) (events : Events) → ProbeKnown shows h s grip sl → FoundBack h s grip events → IsWhole shows h
     → MayTurn false (Back sl.device events.rose) h.history.spare sl.device h.order.line h.order.table
-back_may h s tag grip sl events known found k =
-    let here = probe_here h s tag grip sl known k in
-    may_rise h (ForProbe here.v) tag grip [] sl events (back_tells h s tag grip sl events known found here) (back_rises h s tag grip sl events known found here) k
+back_may h s grip sl events known found k =
+    let here = probe_here h s grip sl known k in
+    may_rise h (Probes here.v) grip [] sl events (back_tells h s grip sl events known found here) (back_rises h s grip sl events known found here) k
 
 -- its restart may be told
-pub back_follows : {D : Type 0} {stands turns probes faults : D → ℕ} (h : Inside D) (s : OpenHub D) (tag : ℕ) (grip : Gripped D Done) (sl : Slip) (events : Events) → ProbeKnown stands turns probes faults h s tag grip sl → FoundBack h s grip events → IsWhole stands turns probes faults h
+pub back_follows : {D : Type 0} {shows : D → Shown} (h : Inside D) (s : OpenHub D) (grip : Gripped D Done) (sl : Slip) (events : Events) → ProbeKnown shows h s grip sl → FoundBack h s grip events → IsWhole shows h
     → IsTrue (may_follow h.history.setting (read_in h.history) (Rose sl.device))
-back_follows h s tag grip sl events known found k =
-    let here = probe_here h s tag grip sl known k in
+back_follows h s grip sl events known found k =
+    let here = probe_here h s grip sl known k in
     subst (λ (z : Slip). IsTrue (may_follow h.history.setting (read_in h.history) (Rose z.device))) (sym known.same)
-    (tells_may h (ForProbe here.v) tag grip (Rose grip.slip.device) [] (back_tells h s tag grip sl events known found here) k)
+    (tells_may h (Probes here.v) grip (Rose grip.slip.device) [] (back_tells h s grip sl events known found here) k)
 
 -- what history, line and table make of it
 pub record IsRisen {D : Type 0} (h t : Inside D) (sl : Slip) (events : Events) : Type 0 where
   pub history : t.history ≡ with_entry h.history 0 (Rose sl.device)
   pub rises : HasRisen h.history sl.device events.rose h.order.line t.order.line h.order.table t.order.table
 
-risen_back : {D : Type 0} {stands turns probes faults : D → ℕ} (h t : Inside D) (s : OpenHub D) (tag : ℕ) (grip : Gripped D Done) (sl : Slip) (events : Events)
-    → ProbeKnown stands turns probes faults h s tag grip sl → FoundBack h s grip events → IsHome h t grip → IsRisen h t sl events
-    → (here : ProbeHere stands turns probes faults h tag grip) → CameHome stands turns probes faults h t (ForProbe here.v) tag grip (Rose grip.slip.device ∷ [])
-risen_back h t s tag grip sl events known found parts risen here =
+risen_back : {D : Type 0} {shows : D → Shown} (h t : Inside D) (s : OpenHub D) (grip : Gripped D Done) (sl : Slip) (events : Events)
+    → ProbeKnown shows h s grip sl → FoundBack h s grip events → IsHome h t grip → IsRisen h t sl events
+    → (here : ProbeHere shows h grip) → CameHome shows h t (Probes here.v) grip (Rose grip.slip.device ∷ [])
+risen_back h t s grip sl events known found parts risen here =
     record {
       returned = here.returned;
       parts = parts;
-      gives = (back_tells h s tag grip sl events known found here).gives;
+      gives = (back_tells h s grip sl events known found here).gives;
       history_is = risen.history ∙ ap (λ (x : Slip). with_entry h.history 0 (Rose x.device)) known.same ∙ ap (λ m. with_more h.history m (Rose grip.slip.device ∷ [])) (sym known.maker);
     }
 
 -- where its event stands
-place_told : {D : Type 0} {stands turns probes faults : D → ℕ} (h : Inside D) (d : DeviceNo) → d.0 < length h.history.setting.first
-    → IsWhole stands turns probes faults h
+place_told : {D : Type 0} {shows : D → Shown} (h : Inside D) (d : DeviceNo) → d.0 < length h.history.setting.first
+    → IsWhole shows h
     → event_place h.history.history None (accesses_at h.order.table d.0) h.order.line.marks ≡ event_place_of h.history.setting (read_in h.history) d.0
 place_told h d below k = either_model (event_place h.history.history None (accesses_at h.order.table d.0) h.order.line.marks ≡ event_place_of h.history.setting (read_in h.history) d.0) h.history.setting
     (λ weak. weak_place h.history.setting (read_in h.history) (configuration_of (open_of h)).grips d.0 h.history.history (accesses_at h.order.table d.0) h.order.line.marks weak (k.order.table_is.weakly weak d.0 below).accesses k.order.line_is)
@@ -222,47 +224,47 @@ place_told h d below k = either_model (event_place h.history.history None (acces
     (k.shown.configuration.ordered strong).order ((k.order.table_is.ordered strong).each d.0 below) k.order.line_is
     (λ q. sound_is h.history.setting h.history.history q k.shown.configuration.history.well_formed))
 
-table_place : {D : Type 0} {stands turns probes faults : D → ℕ} (h : Inside D) (d : ℕ) → d < length h.history.setting.first → IsWhole stands turns probes faults h → d < length h.order.table
+table_place : {D : Type 0} {shows : D → Shown} (h : Inside D) (d : ℕ) → d < length h.history.setting.first → IsWhole shows h → d < length h.order.table
 table_place h d below k = let size : length h.order.table ≡ length h.history.setting.first = k.order.table_is.devices in omega (arith, below, size)
 
-pub risen_whole : {D : Type 0} {stands turns probes faults : D → ℕ} (h t : Inside D) (s : OpenHub D) (tag : ℕ) (grip : Gripped D Done) (sl : Slip)
-    (events : Events) → ProbeKnown stands turns probes faults h s tag grip sl → FoundBack h s grip events → IsHome h t grip → IsRisen h t sl events
-    → IsWhole stands turns probes faults h → IsWhole stands turns probes faults t
-risen_whole {D = D} {stands = stands} {turns = turns} {probes = probes} {faults = faults} h t s tag grip sl events known found parts risen k =
-    came_whole h t (ForProbe here.v) tag grip (Rose grip.slip.device ∷ []) (risen_back h t s tag grip sl events known found parts risen here)
+pub risen_whole : {D : Type 0} {shows : D → Shown} (h t : Inside D) (s : OpenHub D) (grip : Gripped D Done) (sl : Slip)
+    (events : Events) → ProbeKnown shows h s grip sl → FoundBack h s grip events → IsHome h t grip → IsRisen h t sl events
+    → IsWhole shows h → IsWhole shows t
+risen_whole {D = D} {shows = shows} h t s grip sl events known found parts risen k =
+    came_whole h t (Probes here.v) grip (Rose grip.slip.device ∷ []) (risen_back h t s grip sl events known found parts risen here)
     (λ formed home. order_probe_home t.history.setting (read_in t.history) (configuration_of (open_of h)).grips (configuration_of (open_of t)).grips d.0 here.v t.order.line t.order.table (probe_grip here known.maker) home
     (order_rose h.history t.history (configuration_of (open_of h)).grips 0 d.0 events.rose
     (event_place h.history.history None (accesses_at h.order.table d.0) h.order.line.marks) h.order.line t.order.line h.order.table t.order.table
     (table_place h d.0 here.for.below k) own.history (place_told h d here.for.below k)
-    (risen_number h (ForProbe here.v) tag grip sl events here.returned (back_rises h s tag grip sl events known found here) k) own.rises.marks own.rises.spare own.rises.runs own.rises.sealed own.rises.counted k.order)) k
+    (risen_number h (Probes here.v) grip sl events here.returned (back_rises h s grip sl events known found here) k) own.rises.marks own.rises.spare own.rises.runs own.rises.sealed own.rises.counted k.order)) k
   where
     d : DeviceNo
     d = grip.slip.device
 
-    here : ProbeHere stands turns probes faults h tag grip
-    here = probe_here h s tag grip sl known k
+    here : ProbeHere shows h grip
+    here = probe_here h s grip sl known k
 
     own : IsRisen h t grip.slip events
     own = subst (λ (z : Slip). IsRisen h t z events) known.same risen
 
-pub risen_given : {D : Type 0} {stands turns probes faults : D → ℕ} (h t : Inside D) (s : OpenHub D) (tag : ℕ) (grip : Gripped D Done) (sl : Slip)
-    (events : Events) (made : Made) → ProbeKnown stands turns probes faults h s tag grip sl → FoundBack h s grip events → IsHome h t grip → t.moment ≡ h.moment
-    → IsRisen h t sl events → entries_made made ≡ Rose sl.device ∷ [] → IsPacked made → IsWhole stands turns probes faults h → ProbeBack s (open_of t) grip made
-risen_given h t s tag grip sl events made known found parts moment risen made_is packed k =
-    let here = probe_here h s tag grip sl known k in
-    probe_given h t s (ForProbe here.v) tag grip (Rose grip.slip.device ∷ []) made known.seen known.maker moment (risen_back h t s tag grip sl events known found parts risen here) (made_is ∙ ap (λ (z : Slip). Rose z.device ∷ []) known.same) packed k
+pub risen_given : {D : Type 0} {shows : D → Shown} (h t : Inside D) (s : OpenHub D) (grip : Gripped D Done) (sl : Slip)
+    (events : Events) (made : Made) → ProbeKnown shows h s grip sl → FoundBack h s grip events → IsHome h t grip → t.moment ≡ h.moment
+    → IsRisen h t sl events → entries_made made ≡ Rose sl.device ∷ [] → IsPacked made → IsWhole shows h → ProbeBack s (open_of t) grip made
+risen_given h t s grip sl events made known found parts moment risen made_is packed k =
+    let here = probe_here h s grip sl known k in
+    probe_given h t s (Probes here.v) grip (Rose grip.slip.device ∷ []) made known.seen known.maker moment (risen_back h t s grip sl events known found parts risen here) (made_is ∙ ap (λ (z : Slip). Rose z.device ∷ []) known.same) packed k
 
 -- The device has failed
 
 -- the run that is lost, as the code finds it
-pub lost_is : {D : Type 0} {stands turns probes faults : D → ℕ} (h : Inside D) (d : ℕ) (v : Option ℕ) → (configuration_of (open_of h)).grips d
-    ≡ Some (record { maker = 0; purpose = Probes v }) → d < length h.history.setting.first → IsWhole stands turns probes faults h
+pub lost_is : {D : Type 0} {shows : D → Shown} (h : Inside D) (d : ℕ) (v : Option ℕ) → (configuration_of (open_of h)).grips d
+    ≡ Some (record { maker = 0; purpose = Probes v }) → d < length h.history.setting.first → IsWhole shows h
     → option_map (λ (r : RunNo). r.0) (lost_run h.history.history (accesses_at h.order.table d)) ≡ lost_by h.history.setting (read_in h.history) d
 lost_is h d v at below k = either_model (option_map (λ (r : RunNo). r.0) (lost_run h.history.history (accesses_at h.order.table d)) ≡ lost_by h.history.setting (read_in h.history) d) h.history.setting
     (λ weak. ap (λ xs. option_map (λ (r : RunNo). r.0) (lost_run h.history.history xs)) (k.order.table_is.weakly weak d below).accesses
     ∙ sym (ap (λ b. if b then None else find (λ x. is_open h.history.setting (read_in h.history) x d && sees_up (read_in h.history) x d)
     (live_runs (read_in h.history) (read_in h.history).line)) weak))
-    (λ strong. lost_told h.history.setting (read_in h.history) (configuration_of (open_of h)).grips (held_in (open_of h)) d h.history.history
+    (λ strong. lost_told (point h.history.setting (read_in h.history) (configuration_of (open_of h)).grips) (held_in (open_of h)) d h.history.history
     (lineage_at h.order.table d) (read_whole h k) strong (lt-ltb d (length h.history.setting.first) below)
     (probe_commands (configuration_of (open_of h)).grips d 0 v at) (k.shown.configuration.ordered strong).order ((k.order.table_is.ordered strong).each d below)
     (λ q. sound_is h.history.setting h.history.history q k.shown.configuration.history.well_formed))
@@ -292,7 +294,7 @@ found_does p (y ∷ ys) x e = elim (p y) as (λ b. p y ≡ b → cond b (Some y)
 ] refl e
 
 -- a run that is not doomed has a grip for commands alone
-for_commands : (w : Setting) (n : Reading) (g : Grips) (r e : ℕ) → GripsFit w n g → is_run w.runs r ≡ true → is_doomed n r ≡ false → grips_command g r e ≡ has_grip g r e
+for_commands : (w : Setting) (n : Reading) (g : Grips) (r e : ℕ) → GripsFit (point w n g) → is_run w.runs r ≡ true → is_doomed n r ≡ false → grips_command g r e ≡ has_grip g r e
 for_commands w n g r e fit run sound = by_grip (g e) refl
   where
     differs : (m : ℕ) (b c : Bool) → (m == r) ≡ false → ((m == r) && b) ≡ (m == r)
@@ -315,7 +317,7 @@ for_commands w n g r e fit run sound = by_grip (g e) refl
     by_grip (Some p) at = by_purpose p.maker p.purpose at (p.maker == r) refl
 
 -- .. and one at most: that of this device, where there is one
-pub out_commands : (w : Setting) (n : Reading) (g : Grips) (r : ℕ) (out : Option DeviceNo) → GripsFit w n g → is_run w.runs r ≡ true → is_doomed n r ≡ false → option_map (λ d. d.0) out ≡ grip_wait w g r → (e : ℕ) → grips_command g r e ≡ is_named_device out e
+pub out_commands : (w : Setting) (n : Reading) (g : Grips) (r : ℕ) (out : Option DeviceNo) → GripsFit (point w n g) → is_run w.runs r ≡ true → is_doomed n r ≡ false → option_map (λ d. d.0) out ≡ grip_wait w g r → (e : ℕ) → grips_command g r e ≡ is_named_device out e
 out_commands w n g r out fit run sound held e = for_commands w n g r e fit run sound ∙ by_out out held
   where
     place : (r ≡ suc (r - 1)) × (r - 1 < length w.runs)
@@ -365,7 +367,7 @@ out_commands w n g r out fit run sound held e = for_commands w n g r e fit run s
     by_out (Some x) is = alone x (sym is)
 
 -- .. of its hand
-pub hand_commands : (w : Setting) (n : Reading) (g : Grips) (r : ℕ) (hands : List (Option DeviceNo)) → GripsFit w n g → HandsAre w g hands → is_run w.runs r ≡ true → is_doomed n r ≡ false → (e : ℕ) → grips_command g r e ≡ is_named_device (hand_of hands r) e
+pub hand_commands : (w : Setting) (n : Reading) (g : Grips) (r : ℕ) (hands : List (Option DeviceNo)) → GripsFit (point w n g) → HandsAre w g hands → is_run w.runs r ≡ true → is_doomed n r ≡ false → (e : ℕ) → grips_command g r e ≡ is_named_device (hand_of hands r) e
 hand_commands w n g r hands fit are run sound = out_commands w n g r (hand_of hands r) fit run sound (by_hand (slice_get hands (r - 1)) refl)
   where
     place : (r ≡ suc (r - 1)) × (r - 1 < length w.runs)
@@ -404,9 +406,9 @@ lost_here h grip = lost_by h.history.setting (read_in h.history) grip.slip.devic
 abbrev doom_entries : DeviceNo → Option ℕ → List Entry
 doom_entries d lost = option_to_list (option_map (λ x. Doomed (run_no x) (Lost d)) lost)
 
-dead_tells : {D : Type 0} {stands turns probes faults : D → ℕ} (h : Inside D) (s : OpenHub D) (tag : ℕ) (grip : Gripped D Done) (sl : Slip) (events : Events) → ProbeKnown stands turns probes faults h s tag grip sl → FoundDead h s grip events → (here : ProbeHere stands turns probes faults h tag grip)
-    → TellsTurn stands turns probes faults h (ForProbe here.v) tag grip (Fell grip.slip.device) (doom_entries grip.slip.device (lost_here h grip))
-dead_tells h s tag grip sl events known found here = record {
+dead_tells : {D : Type 0} {shows : D → Shown} (h : Inside D) (s : OpenHub D) (grip : Gripped D Done) (sl : Slip) (events : Events) → ProbeKnown shows h s grip sl → FoundDead h s grip events → (here : ProbeHere shows h grip)
+    → TellsTurn shows h (Probes here.v) grip (Fell grip.slip.device) (doom_entries grip.slip.device (lost_here h grip))
+dead_tells h s grip sl events known found here = record {
   returned = here.returned;
   gives = fell_gives h.history.setting (read_in h.history) grip.slip.device.0 grip.stage.told (counted_here h s grip.slip.device.0 true known.seen found.up) found.died;
   leave = leaves (lost_here h grip);
@@ -419,25 +421,25 @@ dead_tells h s tag grip sl events known found here = record {
     leaves None = refl
     leaves (Some r) = refl
 
-dead_falls : {D : Type 0} {stands turns probes faults : D → ℕ} (h : Inside D) (s : OpenHub D) (tag : ℕ) (grip : Gripped D Done) (sl : Slip) (events : Events)
-    → ProbeKnown stands turns probes faults h s tag grip sl → FoundDead h s grip events
-    → (here : ProbeHere stands turns probes faults h tag grip) → Falls h (ForProbe here.v) grip sl events
-dead_falls h s tag grip sl events known found here = record { same = known.same; up = sym here.for.on ∙ counted_here h s grip.slip.device.0 true known.seen found.up; died = found.died; events_are = found.events_are }
+dead_falls : {D : Type 0} {shows : D → Shown} (h : Inside D) (s : OpenHub D) (grip : Gripped D Done) (sl : Slip) (events : Events)
+    → ProbeKnown shows h s grip sl → FoundDead h s grip events
+    → (here : ProbeHere shows h grip) → Falls h (Probes here.v) grip sl events
+dead_falls h s grip sl events known found here = record { same = known.same; up = sym here.for.on ∙ counted_here h s grip.slip.device.0 true known.seen found.up; died = found.died; events_are = found.events_are }
 
 -- the device may fail
-pub dead_may : {D : Type 0} {stands turns probes faults : D → ℕ} (h : Inside D) (s : OpenHub D) (tag : ℕ) (grip : Gripped D Done) (sl : Slip) (events : Events) → ProbeKnown stands turns probes faults h s tag grip sl → FoundDead h s grip events → IsWhole stands turns probes faults h
+pub dead_may : {D : Type 0} {shows : D → Shown} (h : Inside D) (s : OpenHub D) (grip : Gripped D Done) (sl : Slip) (events : Events) → ProbeKnown shows h s grip sl → FoundDead h s grip events → IsWhole shows h
     → MayTurn true (Failed sl.device events.fell) h.history.spare sl.device h.order.line h.order.table
-dead_may h s tag grip sl events known found k =
-    let here = probe_here h s tag grip sl known k in
-    may_fall h (ForProbe here.v) tag grip (doom_entries grip.slip.device (lost_here h grip)) sl events (dead_tells h s tag grip sl events known found here) (dead_falls h s tag grip sl events known found here) k
+dead_may h s grip sl events known found k =
+    let here = probe_here h s grip sl known k in
+    may_fall h (Probes here.v) grip (doom_entries grip.slip.device (lost_here h grip)) sl events (dead_tells h s grip sl events known found here) (dead_falls h s grip sl events known found here) k
 
 -- its failure may be told
-pub dead_follows : {D : Type 0} {stands turns probes faults : D → ℕ} (h : Inside D) (s : OpenHub D) (tag : ℕ) (grip : Gripped D Done) (sl : Slip) (events : Events) → ProbeKnown stands turns probes faults h s tag grip sl → FoundDead h s grip events → IsWhole stands turns probes faults h
+pub dead_follows : {D : Type 0} {shows : D → Shown} (h : Inside D) (s : OpenHub D) (grip : Gripped D Done) (sl : Slip) (events : Events) → ProbeKnown shows h s grip sl → FoundDead h s grip events → IsWhole shows h
     → IsTrue (may_follow h.history.setting (read_in h.history) (Fell sl.device))
-dead_follows h s tag grip sl events known found k =
-    let here = probe_here h s tag grip sl known k in
+dead_follows h s grip sl events known found k =
+    let here = probe_here h s grip sl known k in
     subst (λ (z : Slip). IsTrue (may_follow h.history.setting (read_in h.history) (Fell z.device))) (sym known.same)
-    (tells_may h (ForProbe here.v) tag grip (Fell grip.slip.device) (doom_entries grip.slip.device (lost_here h grip)) (dead_tells h s tag grip sl events known found here) k)
+    (tells_may h (Probes here.v) grip (Fell grip.slip.device) (doom_entries grip.slip.device (lost_here h grip)) (dead_tells h s grip sl events known found here) k)
 
 -- what the code finds of the lost run: it is one of the window, and its doom has a place and may be told
 pub record LostFits (fell : HistoryState) (d : DeviceNo) (hands : ℕ) (lost : Option RunNo) : Type 0 where
@@ -445,10 +447,10 @@ pub record LostFits (fell : HistoryState) (d : DeviceNo) (hands : ℕ) (lost : O
   pub room : IsSome lost → 0 < fell.spare
   pub follows : IfSome lost (λ r. IsTrue (may_follow fell.setting (read_in fell) (Doomed r (Lost d))))
 
-pub lost_fits : {D : Type 0} {stands turns probes faults : D → ℕ} (h : Inside D) (away : Away D) (s : OpenHub D) (tag : ℕ) (grip : Gripped D Done) (sl : Slip)
-    (events : Events) (lost : Option RunNo) (fell : HistoryState) → ProbeKnown stands turns probes faults h s tag grip sl → FoundDead h s grip events
-    → lost ≡ lost_run h.history.history (accesses_at h.order.table sl.device.0) → fell ≡ with_entry h.history 0 (Fell sl.device) → IsHomeAgain h.away grip away → IsWhole stands turns probes faults h → LostFits fell sl.device (length away.hands.items) lost
-lost_fits {D = D} {stands = stands} {turns = turns} {probes = probes} {faults = faults} h away s tag grip sl events lost fell known dead found told home k =
+pub lost_fits : {D : Type 0} {shows : D → Shown} (h : Inside D) (away : Away D) (s : OpenHub D) (grip : Gripped D Done) (sl : Slip)
+    (events : Events) (lost : Option RunNo) (fell : HistoryState) → ProbeKnown shows h s grip sl → FoundDead h s grip events
+    → lost ≡ lost_run h.history.history (accesses_at h.order.table sl.device.0) → fell ≡ with_entry h.history 0 (Fell sl.device) → IsHomeAgain h.away grip away → IsWhole shows h → LostFits fell sl.device (length away.hands.items) lost
+lost_fits {D = D} {shows = shows} h away s grip sl events lost fell known dead found told home k =
     subst (λ x. LostFits fell sl.device (length x) lost) (sym (hands_same h.away away grip home known.maker)) (record {
       run = subst (λ (w : Setting). IfSome lost (λ r. IsTrue (is_run w.runs r.0) × (r.0 ≤ length h.away.hands.items))) (sym (ap (λ (x : HistoryState). x.setting) told)) (runs lost loses);
       room = λ some. places lost some loses;
@@ -464,8 +466,8 @@ lost_fits {D = D} {stands = stands} {turns = turns} {probes = probes} {faults = 
     d : ℕ
     d = grip.slip.device.0
 
-    here : ProbeHere stands turns probes faults h tag grip
-    here = probe_here h s tag grip sl known k
+    here : ProbeHere shows h grip
+    here = probe_here h s grip sl known k
 
     loses : option_map (λ (r : RunNo). r.0) lost ≡ lost_by w n d
     loses = ap (option_map (λ (r : RunNo). r.0)) (found ∙ ap (λ (z : Slip). lost_run h.history.history (accesses_at h.order.table z.device.0)) known.same) ∙ lost_is h d here.v (probe_grip here known.maker) here.for.below k
@@ -480,14 +482,14 @@ lost_fits {D = D} {stands = stands} {turns = turns} {probes = probes} {faults = 
     places : (o : Option RunNo) → IsSome o → option_map (λ (r : RunNo). r.0) o ≡ lost_by w n d → 0 < fell.spare
     places None none is = absurd (cc none)
     places (Some r) some is =
-        let fits : length (dead_entries d (lost_by w n d)) ≤ h.history.spare = subst (λ es. length es ≤ h.history.spare) (dead_tells h s tag grip sl events known dead here).gives (returned_places h (ForProbe here.v) tag grip here.returned k) in
+        let fits : length (dead_entries d (lost_by w n d)) ≤ h.history.spare = subst (λ es. length es ≤ h.history.spare) (dead_tells h s grip sl events known dead here).gives (returned_places h (Probes here.v) grip here.returned k) in
         let two : 2 ≤ h.history.spare = subst (λ o. length (dead_entries d o) ≤ h.history.spare) (sym is) fits in
         let left : fell.spare ≡ h.history.spare - 1 = ap (λ (x : HistoryState). x.spare) told in
         omega (arith, two, left)
 
     -- the entries of its step may be appended
     takes : MayTake h.history grip.slip.maker (dead_entries d (lost_by w n d))
-    takes = subst (MayTake h.history grip.slip.maker) (dead_tells h s tag grip sl events known dead here).gives (takes_back h (ForProbe here.v) tag grip here.returned k)
+    takes = subst (MayTake h.history grip.slip.maker) (dead_tells h s grip sl events known dead here).gives (takes_back h (Probes here.v) grip here.returned k)
 
     may : (o : Option RunNo) → option_map (λ (r : RunNo). r.0) o ≡ lost_by w n d → IfSome o (λ r. IsTrue (may_follow fell.setting (read_in fell) (Doomed r (Lost sl.device))))
     may None is = tt
@@ -513,15 +515,15 @@ fallen_more h d None = refl
 fallen_more h d (Some r) = more_after h 0 (Fell d) (Doomed r (Lost d) ∷ [])
 
 -- .. of the probe that came home
-fallen_back : {D : Type 0} {stands turns probes faults : D → ℕ} (h t : Inside D) (s : OpenHub D) (tag : ℕ) (grip : Gripped D Done) (sl : Slip) (events : Events)
-    (lost : Option RunNo) (fell : HistoryState) (fallen : KeptOrder) → ProbeKnown stands turns probes faults h s tag grip sl → FoundDead h s grip events
+fallen_back : {D : Type 0} {shows : D → Shown} (h t : Inside D) (s : OpenHub D) (grip : Gripped D Done) (sl : Slip) (events : Events)
+    (lost : Option RunNo) (fell : HistoryState) (fallen : KeptOrder) → ProbeKnown shows h s grip sl → FoundDead h s grip events
     → IsHome h t grip → IsFallen h t sl events lost fell fallen
-    → (here : ProbeHere stands turns probes faults h tag grip) → IsWhole stands turns probes faults h → CameHome stands turns probes faults h t (ForProbe here.v) tag grip (dead_entries grip.slip.device.0 (lost_here h grip))
-fallen_back h t s tag grip sl events lost fell fallen known found parts is here k =
+    → (here : ProbeHere shows h grip) → IsWhole shows h → CameHome shows h t (Probes here.v) grip (dead_entries grip.slip.device.0 (lost_here h grip))
+fallen_back h t s grip sl events lost fell fallen known found parts is here k =
     record {
       returned = here.returned;
       parts = parts;
-      gives = (dead_tells h s tag grip sl events known found here).gives;
+      gives = (dead_tells h s grip sl events known found here).gives;
       history_is = is.doomed ∙ ap (λ x. with_lost x sl.device lost) is.told ∙ fallen_more h.history sl.device lost
           ∙ ap (λ o. with_more h.history 0 (dead_entries sl.device.0 (option_map (λ (r : RunNo). r.0) o))) is.found
           ∙ ap (λ (z : Slip). with_more h.history 0 (dead_entries z.device.0 (option_map (λ (r : RunNo). r.0) (lost_run h.history.history (accesses_at h.order.table z.device.0))))) known.same
@@ -531,7 +533,7 @@ fallen_back h t s tag grip sl events lost fell fallen known found parts is here 
 -- line and table, by the run that is lost
 order_fallen : {rounds : ℕ} (w : Setting) (h fell t : HistoryState) (g : Grips) (held : ℕ → ℕ) (d : DeviceNo) (v : Option ℕ) (number : ℕ) (lost : Option RunNo) (hands : List (Option DeviceNo)) (line mid after : Marked) (table between later : List LineageState)
     → h.setting ≡ w → d.0 < length table → fell ≡ with_entry h 0 (Fell d) → event_place h.history None (accesses_at table d.0) line.marks ≡ event_place_of h.setting (read_in h) d.0 → number ≡ (read_in h).fell d.0 + 1 → HasFallen h d None number line mid table between
-    → IsWellFormed h.setting (entries_of h.history) → may_follow h.setting (read_in h) (Fell d) ≡ true → GripsFit h.setting (read_in h) g → HandsAre h.setting g hands → IfSome lost (λ r. IsLostRun h.setting (read_in h) r.0)
+    → IsWellFormed h.setting (entries_of h.history) → may_follow h.setting (read_in h) (Fell d) ≡ true → GripsFit (point h.setting (read_in h) g) → HandsAre h.setting g hands → IfSome lost (λ r. IsLostRun h.setting (read_in h) r.0)
     → t ≡ with_lost fell d lost → after ≡ mid → IsLostTo lost hands between later → OrderIsBeside rounds h g line table → OrderIsBeside rounds t g after later
 order_fallen {rounds = rounds} w h fell t g held d v number lost hands line mid after table between later same below told place number_is falls formed may fit are lost_one doomed kept changed beside = by_lost lost lost_one doomed changed
   where
@@ -550,8 +552,8 @@ order_fallen {rounds = rounds} w h fell t g held d v number lost hands line mid 
     formed_then : IsWellFormed fell.setting (entries_of fell.history)
     formed_then = subst (λ (x : HistoryState). IsWellFormed x.setting (entries_of x.history)) (sym told) (subst (IsWellFormed h.setting) (sym (entries_on h.history 0 (Fell d ∷ []))) (each_more h.setting (may_follow h.setting) (entries_of h.history) (Fell d) formed may))
 
-    fit_then : GripsFit fell.setting (read_in fell) g
-    fit_then = subst (λ x. GripsFit x (read_in fell) g) (sym setting) (subst (λ x. GripsFit h.setting x g) (sym reads) (fits_same h.setting (read_in h) next g (λ q e k. refl) (λ q e. refl) fit))
+    fit_then : GripsFit (point fell.setting (read_in fell) g)
+    fit_then = subst (λ x. GripsFit (point x (read_in fell) g)) (sym setting) (subst (λ x. GripsFit (point h.setting x g)) (sym reads) (fits_same h.setting (read_in h) next g (λ q e k. refl) (λ q e. refl) fit))
 
     by_lost : (o : Option RunNo) → IfSome o (λ r. IsLostRun h.setting (read_in h) r.0) → t ≡ with_lost fell d o → IsLostTo o hands between later → OrderIsBeside rounds t g after later
     by_lost None one is change =
@@ -560,18 +562,18 @@ order_fallen {rounds = rounds} w h fell t g held d v number lost hands line mid 
         order_lost fell t g 0 r.0 (Lost d) (hand_of hands r.0) mid after between later (read_facts fell.setting (entries_of fell.history) formed_then) fit_then
         (ap (λ x. is_doomed x r.0) reads ∙ one.sound) (hand_commands h.setting (read_in h) g r.0 hands fit are one.run one.sound) is kept change fallen
 
-pub fallen_whole : {D : Type 0} {stands turns probes faults : D → ℕ} (h t : Inside D) (s : OpenHub D) (tag : ℕ) (grip : Gripped D Done) (sl : Slip)
-    (events : Events) (lost : Option RunNo) (fell : HistoryState) (fallen : KeptOrder) → ProbeKnown stands turns probes faults h s tag grip sl
+pub fallen_whole : {D : Type 0} {shows : D → Shown} (h t : Inside D) (s : OpenHub D) (grip : Gripped D Done) (sl : Slip)
+    (events : Events) (lost : Option RunNo) (fell : HistoryState) (fallen : KeptOrder) → ProbeKnown shows h s grip sl
     → FoundDead h s grip events → IsHome h t grip → IsFallen h t sl events lost fell fallen
-    → IsWhole stands turns probes faults h → IsWhole stands turns probes faults t
-fallen_whole {D = D} {stands = stands} {turns = turns} {probes = probes} {faults = faults} h t s tag grip sl events lost fell fallen known found parts falls k =
-    came_whole h t (ForProbe here.v) tag grip (dead_entries d.0 (lost_by w n d.0)) (fallen_back h t s tag grip sl events lost fell fallen known found parts falls here k)
+    → IsWhole shows h → IsWhole shows t
+fallen_whole {D = D} {shows = shows} h t s grip sl events lost fell fallen known found parts falls k =
+    came_whole h t (Probes here.v) grip (dead_entries d.0 (lost_by w n d.0)) (fallen_back h t s grip sl events lost fell fallen known found parts falls here k)
     (λ formed home. order_probe_home t.history.setting (read_in t.history) (configuration_of (open_of h)).grips (configuration_of (open_of t)).grips d.0 here.v t.order.line t.order.table out home
     (order_fallen w h.history fell t.history (configuration_of (open_of h)).grips
     (held_in (open_of h)) d here.v events.fell lost h.away.hands.items h.order.line fallen.line t.order.line h.order.table fallen.table t.order.table refl
     (table_place h d.0 here.for.below k) own.told (place_told h d here.for.below k)
-    (fallen_number h (ForProbe here.v) tag grip sl events here.returned (dead_falls h s tag grip sl events known found here) k) own.falls k.shown.configuration.history.well_formed
-    (tells_may h (ForProbe here.v) tag grip (Fell d) (doom_entries d (lost_here h grip)) (dead_tells h s tag grip sl events known found here) k)
+    (fallen_number h (Probes here.v) grip sl events here.returned (dead_falls h s grip sl events known found here) k) own.falls k.shown.configuration.history.well_formed
+    (tells_may h (Probes here.v) grip (Fell d) (doom_entries d (lost_here h grip)) (dead_tells h s grip sl events known found here) k)
     k.shown.configuration.grips k.hands (one lost loses) own.doomed own.line
     (subst (λ x. IsLostTo lost x fallen.table t.order.table) (hands_same h.away t.away grip parts.home known.maker) own.table) k.order)) k
   where
@@ -584,8 +586,8 @@ fallen_whole {D = D} {stands = stands} {turns = turns} {probes = probes} {faults
     d : DeviceNo
     d = grip.slip.device
 
-    here : ProbeHere stands turns probes faults h tag grip
-    here = probe_here h s tag grip sl known k
+    here : ProbeHere shows h grip
+    here = probe_here h s grip sl known k
 
     out : (configuration_of (open_of h)).grips d.0 ≡ Some (record { maker = 0; purpose = Probes here.v })
     out = probe_grip here known.maker
@@ -608,13 +610,13 @@ fallen_made d lost e o fell_is doom_is = (λ i. entries_made (record { a = Some 
     by_lost None = refl
     by_lost (Some r) = refl
 
-pub fallen_given : {D : Type 0} {stands turns probes faults : D → ℕ} (h t : Inside D) (s : OpenHub D) (tag : ℕ) (grip : Gripped D Done) (sl : Slip)
-    (events : Events) (lost : Option RunNo) (fell : HistoryState) (fallen : KeptOrder) (made : Made) → ProbeKnown stands turns probes faults h s tag grip sl
+pub fallen_given : {D : Type 0} {shows : D → Shown} (h t : Inside D) (s : OpenHub D) (grip : Gripped D Done) (sl : Slip)
+    (events : Events) (lost : Option RunNo) (fell : HistoryState) (fallen : KeptOrder) (made : Made) → ProbeKnown shows h s grip sl
     → FoundDead h s grip events → IsHome h t grip → t.moment ≡ h.moment
-    → IsFallen h t sl events lost fell fallen → entries_made made ≡ dead_entries sl.device.0 (option_map (λ (r : RunNo). r.0) lost) → IsPacked made → IsWhole stands turns probes faults h → ProbeBack s (open_of t) grip made
-fallen_given h t s tag grip sl events lost fell fallen made known found parts moment falls made_is packed k =
-    let here = probe_here h s tag grip sl known k in
-    probe_given h t s (ForProbe here.v) tag grip _ made known.seen known.maker moment (fallen_back h t s tag grip sl events lost fell fallen known found parts falls here k)
+    → IsFallen h t sl events lost fell fallen → entries_made made ≡ dead_entries sl.device.0 (option_map (λ (r : RunNo). r.0) lost) → IsPacked made → IsWhole shows h → ProbeBack s (open_of t) grip made
+fallen_given h t s grip sl events lost fell fallen made known found parts moment falls made_is packed k =
+    let here = probe_here h s grip sl known k in
+    probe_given h t s (Probes here.v) grip _ made known.seen known.maker moment (fallen_back h t s grip sl events lost fell fallen known found parts falls here k)
     (made_is ∙ ap (λ o. dead_entries sl.device.0 (option_map (λ (r : RunNo). r.0) o)) falls.found
     ∙ ap (λ (z : Slip). dead_entries z.device.0 (option_map (λ (r : RunNo). r.0) (lost_run h.history.history (accesses_at h.order.table z.device.0)))) known.same
     ∙ ap (dead_entries grip.slip.device.0) (lost_is h grip.slip.device.0 here.v (probe_grip here known.maker) here.for.below k)) packed k

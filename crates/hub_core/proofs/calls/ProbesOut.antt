@@ -1,4 +1,5 @@
 -- A probe that goes out keeps what the type of a hub keeps, and is the step that it says.
+use Rattle.device_states.specs.Devices.{Shown}
 use Rattle.hub_core.proofs.kept.TableFits.{counted_told}
 use Rattle.hub_core.proofs.weak.WeakProbes.{weak_standing}
 use Rattle.device_gate.specs.Calls.{is_counted_up}
@@ -28,11 +29,11 @@ use Rattle.hub_core.specs.Steps.{after_take_probe, may_probe, probe_grip, restor
 use Rattle.hub_core.specs.declared.open_windows.OpenWindow.TheInside.{Inside}
 use Rattle.window_order.specs.declared.kept_orders.KeptOrder.{KeptOrder}
 use Rattle.hub_core.specs.declared.known.DeviceProgress.{DeviceProgress}
-use Rattle.window_order.specs.declared.purposes.Purpose.TheVariants.{Probe as ForProbe}
+use Rattle.lock_leasing.specs.declared.purposes.Purpose.TheVariants.{Probes}
 use Rattle.lineage_table.specs.Accesses.{IsDisciplined, value_standing}
 use Rattle.lineage_table.specs.Lineages.{accesses_at, lineage_at}
 use Rattle.lock_leasing.proofs.Facts.{facts_of}
-use Rattle.lock_leasing.specs.Configurations.{Configuration, Probes, is_out, read_of}
+use Rattle.lock_leasing.specs.Configurations.{Configuration, is_out, point, point_of, read_of}
 use Rattle.lock_leasing.specs.Words.{standing_value}
 use Rattle.std.proofs.Common.{ap, arith, refl, subst, sym, ◌∙◌}
 use Rattle.std.proofs.lemmas.Grind.{common_steps}
@@ -61,51 +62,53 @@ may_parts s d may = by_parts (is_device s.setting d) (is_out s.grips d) (nat_lt 
 -- What it restores
 
 -- the value at which the device should stand, as the table tells it, where it is counted down
-pub restores : {D : Type 0} {stands turns probes faults : D → ℕ} (h : Inside D) (s : OpenHub D) (d value : ℕ) (up : Bool) → open_of h ≡ s
+pub restores : {D : Type 0} {shows : D → Shown} (h : Inside D) (s : OpenHub D) (d value : ℕ) (up : Bool) → open_of h ≡ s
     → ((e : ℕ) → IsDisciplined (accesses_at h.order.table e)) → is_device s.setting d ≡ true → up ≡ (lineage_at h.order.table d).up → up ≡ false
     → value ≡ value_standing (lineage_at h.order.table d).committed (accesses_at h.order.table d)
-    → is_weak h.history.setting.mode ≡ false → IsWhole stands turns probes faults h → Some value ≡ restored (configuration_of s) d
+    → is_weak h.history.setting.mode ≡ false → IsWhole shows h → Some value ≡ restored (configuration_of s) d
 restores {D = D} h s d value up seen disciplined device up_is down value_is strong k =
     subst (λ (x : OpenHub D). is_device x.setting d ≡ true → Some value ≡ restored (configuration_of x) d) seen (λ there. as_told ((k.order.table_is.ordered strong).each d (below_home h.history.setting d there))) device
   where
-    as_told : LineageIsKept h.history.setting (read_in h.history) (configuration_of (open_of h)).grips d (lineage_at h.order.table d) → Some value ≡ restored (configuration_of (open_of h)) d
+    as_told : LineageIsKept (point h.history.setting (read_in h.history) (configuration_of (open_of h)).grips) d (lineage_at h.order.table d) → Some value ≡ restored (configuration_of (open_of h)) d
     as_told own =
         ap Some (value_is ∙ stand_told h.history.setting (read_in h.history) (configuration_of (open_of h)).grips d (lineage_at h.order.table d)
         (facts_of (configuration_of (open_of h)) h.order.table h.order.line.marks h.history.history h.history.setting.runs
         (standing_whole h disciplined strong k)) strong own)
-        ∙ sym (ap (λ b. if b then None else Some (standing_value h.history.setting (read_in h.history) (configuration_of (open_of h)).grips d)) (sym own.up ∙ sym up_is ∙ down))
+        ∙ sym (ap (λ b. if b then None else Some (standing_value (point h.history.setting (read_in h.history) (configuration_of (open_of h)).grips) d)) (sym own.up ∙ sym up_is ∙ down))
 
 -- .. under the weak model where it is known to stand
-pub restores_weakly : {D : Type 0} {stands turns probes faults : D → ℕ} (h : Inside D) (s : OpenHub D) (d value : ℕ) (up : Bool) → open_of h ≡ s → is_device s.setting d ≡ true → up ≡ (lineage_at h.order.table d).up → up ≡ false → value ≡ (progress_at s.devices d).held
-    → is_weak h.history.setting.mode ≡ true → IsWhole stands turns probes faults h → Some value ≡ restored (configuration_of s) d
+pub restores_weakly : {D : Type 0} {shows : D → Shown} (h : Inside D) (s : OpenHub D) (d value : ℕ) (up : Bool) → open_of h ≡ s → is_device s.setting d ≡ true → up ≡ (lineage_at h.order.table d).up → up ≡ false → value ≡ (progress_at s.devices d).held
+    → is_weak h.history.setting.mode ≡ true → IsWhole shows h → Some value ≡ restored (configuration_of s) d
 restores_weakly {D = D} h s d value up seen device up_is down value_is weak k =
     subst (λ (x : OpenHub D). is_device x.setting d ≡ true → value ≡ (progress_at x.devices d).held → Some value ≡ restored (configuration_of x) d) seen (λ there is. as_told (below_home h.history.setting d there) is) device value_is
   where
     as_told : d < length h.history.setting.first → value ≡ held_in (open_of h) d → Some value ≡ restored (configuration_of (open_of h)) d
     as_told below is =
         ap Some (is ∙ (k.shown.configuration.weakly weak).held_is d below ∙ sym (weak_standing (configuration_of (open_of h)) h.rounds h.opened (held_in (open_of h)) d (k.shown.configuration.weakly weak)))
-        ∙ sym (ap (λ b. if b then None else Some (standing_value h.history.setting (read_in h.history) (configuration_of (open_of h)).grips d)) (sym (counted_told h.history.setting (read_in h.history) (configuration_of (open_of h)).grips h.order.table d below k.order.table_is) ∙ sym up_is ∙ down))
+        ∙ sym (ap (λ b. if b then None else Some (standing_value (point h.history.setting (read_in h.history) (configuration_of (open_of h)).grips) d))
+        (sym (counted_told (point h.history.setting (read_in h.history) (configuration_of (open_of h)).grips) h.order.table d below k.order.table_is)
+        ∙ sym up_is ∙ down))
 
 -- one that restores nothing is for a device that is counted up
 pub counted_then : (s : Configuration) (d : ℕ) (value : Option ℕ) → value ≡ restored s d → IsTrue (is_counted_up (Probe value)) → (read_of s).up d ≡ true
 counted_then s d value is up = by_up ((read_of s).up d) (subst (λ v. IsTrue (is_counted_up (Probe v))) is up)
   where
-    by_up : (b : Bool) → IsTrue (is_counted_up (Probe (if b then None else Some (standing_value s.setting (read_of s) s.grips d)))) → b ≡ true
+    by_up : (b : Bool) → IsTrue (is_counted_up (Probe (if b then None else Some (standing_value (point_of s) d)))) → b ≡ true
     by_up true e = refl
     by_up false e = absurd (cc)
 
 -- it may go out to the detector
-pub may_send_probe : {D : Type 0} {stands turns probes faults : D → ℕ} (h : Inside D) (s : OpenHub D) (d : ℕ) (value : Option ℕ) (known : DeviceProgress)
+pub may_send_probe : {D : Type 0} {shows : D → Shown} (h : Inside D) (s : OpenHub D) (d : ℕ) (value : Option ℕ) (known : DeviceProgress)
     → open_of h ≡ s → may_probe (configuration_of s) d ≡ true → value ≡ restored (configuration_of s) d → known ≡ progress_at h.away.known.items d
-    → IsWhole stands turns probes faults h → MaySend stands turns probes faults h.away d 0 known.held (Probe value)
-may_send_probe {D = D} {stands = stands} {turns = turns} {probes = probes} {faults = faults} h s d value known seen may value_is known_is k =
+    → IsWhole shows h → MaySend shows h.away d 0 known.held (Probe value)
+may_send_probe {D = D} {shows = shows} h s d value known seen may value_is known_is k =
     let parts = may_parts (configuration_of (open_of h)) d (ap (λ (x : OpenHub D). may_probe (configuration_of x) d) seen ∙ may) in
     let below = below_home h.history.setting d parts.device in
     record {
       home = home_place (open_of h) d (omega (arith, below, k.shown.places_size)) parts.home;
-      room = λ device at. has_room stands turns probes faults (open_of h) d device k.shown at;
+      room = λ device at. has_room shows (open_of h) d device k.shown at;
       stood = λ device at up. (k.shown.home d device at).stand (counted_then (configuration_of (open_of h)) d value (value_is ∙ ap (λ (x : OpenHub D). restored (configuration_of x) d) (sym seen)) up) ∙ ap (λ (p : DeviceProgress). p.held) (sym known_is);
-      tickets = few_tickets stands turns probes faults (open_of h) k.shown;
+      tickets = few_tickets shows (open_of h) k.shown;
       known = omega (arith, below, k.shown.devices_size);
       maker_is = omega arith;
     }
@@ -113,21 +116,21 @@ may_send_probe {D = D} {stands = stands} {turns = turns} {probes = probes} {faul
 -- The device goes out
 
 -- a probe of the device, of which this was known, goes out with this value: so the parts change
-pub record IsProbedOut {D : Type 0} (turns probes faults : D → ℕ) (h t : Inside D) (d : ℕ) (value : Option ℕ) (known : DeviceProgress) (grip : Gripped D Ready) : Type 0 where
+pub record IsProbedOut {D : Type 0} (shows : D → Shown) (h t : Inside D) (d : ℕ) (value : Option ℕ) (known : DeviceProgress) (grip : Gripped D Ready) : Type 0 where
   pub may : may_probe (configuration_of (open_of h)) d ≡ true
   pub value_is : value ≡ restored (configuration_of (open_of h)) d
   pub known_is : known ≡ progress_at h.away.known.items d
-  pub sent : IsSent turns probes faults h.away (device_no d) 0 (record known { purpose = ForProbe value; probes_left = known.probes_left - 1 }) (Probe value) grip t.away
+  pub sent : IsSent shows h.away (device_no d) 0 (record known { purpose = Probes value; probes_left = known.probes_left - 1 }) (Probe value) grip t.away
   pub moment_is : t.moment ≡ h.moment
   pub new : t ≡ record h { moment = t.moment; away = t.away; order = t.order }
 
 -- so it is gone
-sent_gone : {D : Type 0} {turns probes faults : D → ℕ} (h t : Inside D) (d : ℕ) (value : Option ℕ) (known : DeviceProgress) (grip : Gripped D Ready)
-    → IsProbedOut turns probes faults h t d value known grip
-    → IsGone turns probes faults h t 0 d (ForProbe value) ((progress_at h.away.known.items d).probes_left - 1) (Probe value) grip
-sent_gone {turns = turns} {probes = probes} {faults = faults} h t d value known grip out =
+sent_gone : {D : Type 0} {shows : D → Shown} (h t : Inside D) (d : ℕ) (value : Option ℕ) (known : DeviceProgress) (grip : Gripped D Ready)
+    → IsProbedOut shows h t d value known grip
+    → IsGone shows h t 0 d (Probes value) ((progress_at h.away.known.items d).probes_left - 1) (Probe value) grip
+sent_gone {shows = shows} h t d value known grip out =
     record {
-      sent = subst (λ (p : DeviceProgress). IsSent turns probes faults h.away (device_no d) 0 (record p { purpose = ForProbe value; probes_left = p.probes_left - 1 }) (Probe value) grip t.away) out.known_is out.sent;
+      sent = subst (λ (p : DeviceProgress). IsSent shows h.away (device_no d) 0 (record p { purpose = Probes value; probes_left = p.probes_left - 1 }) (Probe value) grip t.away) out.known_is out.sent;
       does = refl;
       probed_so = one_less (progress_at h.away.known.items d).probes_left (may_parts (configuration_of (open_of h)) d out.may).left;
       ticket = omega arith;
@@ -138,23 +141,23 @@ sent_gone {turns = turns} {probes = probes} {faults = faults} h t d value known 
     one_less x some = grind (arith, common_steps)
 
 -- its configuration is the one after the call
-sent_configuration : {D : Type 0} {stands turns probes faults : D → ℕ} (h t : Inside D) (d : ℕ) (value : Option ℕ) (known : DeviceProgress)
-    (grip : Gripped D Ready) → IsProbedOut turns probes faults h t d value known grip → IsWhole stands turns probes faults h
+sent_configuration : {D : Type 0} {shows : D → Shown} (h t : Inside D) (d : ℕ) (value : Option ℕ) (known : DeviceProgress)
+    (grip : Gripped D Ready) → IsProbedOut shows h t d value known grip → IsWhole shows h
     → configuration_of (open_of t) ≡ after_take_probe (configuration_of (open_of h)) d
 sent_configuration {D = D} h t d value known grip out k =
     let is = sent_gone h t d value known grip out in
     let left = (progress_at h.away.known.items d).probes_left - 1 in
-    let within = gone_within h t 0 d (ForProbe value) left (Probe value) grip is k in
-    ap (λ (x : OpenHub D). configuration_of x) (gone_shows h t 0 d (ForProbe value) left (Probe value) grip is)
-    ∙ gone_configuration (open_of h) 0 d left t.moment (ForProbe value) grip.slip (Probe value) out.sent.maker_is within.0 within.1
+    let within = gone_within h t 0 d (Probes value) left (Probe value) grip is k in
+    ap (λ (x : OpenHub D). configuration_of x) (gone_shows h t 0 d (Probes value) left (Probe value) grip is)
+    ∙ gone_configuration (open_of h) 0 d left t.moment (Probes value) grip.slip (Probe value) out.sent.maker_is within.0 within.1
     ∙ (λ i. record (configuration_of (open_of h)) { moment = out.moment_is i; probes = put (configuration_of (open_of h)).probes d left; grips = put (configuration_of (open_of h)).grips d (Some (record { maker = 0; purpose = Probes (out.value_is i) })) })
     ∙ sym (ap (λ b. if b then record (configuration_of (open_of h)) { probes = put (configuration_of (open_of h)).probes d left; grips = put (configuration_of (open_of h)).grips d (Some (probe_grip (configuration_of (open_of h)) d)) } else configuration_of (open_of h)) out.may)
 
 -- what is kept is kept then
-pub sent_whole : {D : Type 0} {stands turns probes faults : D → ℕ} (h t : Inside D) (d : ℕ) (value : Option ℕ) (known : DeviceProgress) (grip : Gripped D Ready)
-    → IsProbedOut turns probes faults h t d value known grip → t.order ≡ h.order → IsWhole stands turns probes faults h → IsWhole stands turns probes faults t
+pub sent_whole : {D : Type 0} {shows : D → Shown} (h t : Inside D) (d : ℕ) (value : Option ℕ) (known : DeviceProgress) (grip : Gripped D Ready)
+    → IsProbedOut shows h t d value known grip → t.order ≡ h.order → IsWhole shows h → IsWhole shows t
 sent_whole {D = D} h t d value known grip out order k =
-    gone_whole h t 0 d (ForProbe value) ((progress_at h.away.known.items d).probes_left - 1) (Probe value) grip (sent_gone h t d value known grip out)
+    gone_whole h t 0 d (Probes value) ((progress_at h.away.known.items d).probes_left - 1) (Probe value) grip (sent_gone h t d value known grip out)
     (subst (λ (c : Configuration). IsKeptByModel c h.rounds h.opened (held_in (open_of h))) (sym (sent_configuration h t d value known grip out k)) (probe_taken_kept (configuration_of (open_of h)) h.rounds h.opened (held_in (open_of h)) d k.shown.configuration))
     (subst (λ (x : KeptOrder). OrderIsBeside h.rounds h.history (configuration_of (open_of t)).grips x.line x.table) (sym order)
     (order_probe_out h.history.setting (read_in h.history) (configuration_of (open_of h)).grips
@@ -165,15 +168,15 @@ sent_whole {D = D} h t d value known grip out order k =
     home = none_out (configuration_of (open_of h)).grips d (may_parts (configuration_of (open_of h)) d out.may).home
 
     grips : (configuration_of (open_of t)).grips ≡ put (configuration_of (open_of h)).grips d (Some (record { maker = 0; purpose = Probes value }))
-    grips = gone_grips h t 0 d (ForProbe value) ((progress_at h.away.known.items d).probes_left - 1) (Probe value) grip (sent_gone h t d value known grip out) k
+    grips = gone_grips h t 0 d (Probes value) ((progress_at h.away.known.items d).probes_left - 1) (Probe value) grip (sent_gone h t d value known grip out) k
 
 -- and it is the step that it says
 pub record ProbeSent {D : Type 0} (s t : OpenHub D) (d : ℕ) (grip : Gripped D Ready) : Type 0 where
   pub probed : IsProbed s d (Some grip) t
   pub window : SameWindow s t
 
-pub probe_sent : {D : Type 0} {stands turns probes faults : D → ℕ} (h t : Inside D) (s₀ : OpenHub D) (d : ℕ) (value : Option ℕ) (known : DeviceProgress)
-    (grip : Gripped D Ready) → open_of h ≡ s₀ → IsProbedOut turns probes faults h t d value known grip → IsWhole stands turns probes faults h
+pub probe_sent : {D : Type 0} {shows : D → Shown} (h t : Inside D) (s₀ : OpenHub D) (d : ℕ) (value : Option ℕ) (known : DeviceProgress)
+    (grip : Gripped D Ready) → open_of h ≡ s₀ → IsProbedOut shows h t d value known grip → IsWhole shows h
     → ProbeSent s₀ (open_of t) d grip
 probe_sent {D = D} h t s₀ d value known grip seen out k =
     subst (λ (x : OpenHub D). ProbeSent x (open_of t) d grip) seen (record {
@@ -185,9 +188,9 @@ probe_sent {D = D} h t s₀ d value known grip seen out k =
         ),
         out.sent.at,
         out.sent.places ∙ ap (λ x. slice_set h.away.gate.places d (Out grip.slip x)) (sym out.sent.does),
-        gone_next h t 0 d (ForProbe value) left (Probe value) grip (sent_gone h t d value known grip out),
+        gone_next h t 0 d (Probes value) left (Probe value) grip (sent_gone h t d value known grip out),
       );
-      window = gone_window h t 0 d (ForProbe value) left (Probe value) grip (sent_gone h t d value known grip out) k;
+      window = gone_window h t 0 d (Probes value) left (Probe value) grip (sent_gone h t d value known grip out) k;
     })
   where
     s : OpenHub D
@@ -208,9 +211,9 @@ probe_sent {D = D} h t s₀ d value known grip seen out k =
 
     state : hub_state_of (open_of t) ≡ record { configuration = after_take_probe (configuration_of s) d; carried = carrying (hub_state_of s) 0 d (Probes (restored (configuration_of s) d)) grip.slip }
     state =
-        let within = gone_within h t 0 d (ForProbe value) left (Probe value) grip (sent_gone h t d value known grip out) k in
+        let within = gone_within h t 0 d (Probes value) left (Probe value) grip (sent_gone h t d value known grip out) k in
         let configuration = sent_configuration h t d value known grip out k in
         let carried = ap (λ (x : OpenHub D). (hub_state_of x).carried)
-        (gone_shows h t 0 d (ForProbe value) left (Probe value) grip (sent_gone h t d value known grip out)) ∙ gone_carries s 0 d left t.moment
-        (ForProbe value) grip.slip (Probe value) refl within.0 ∙ ap (λ v. carrying (hub_state_of s) 0 d (Probes v) grip.slip) out.value_is in
+        (gone_shows h t 0 d (Probes value) left (Probe value) grip (sent_gone h t d value known grip out)) ∙ gone_carries s 0 d left t.moment
+        (Probes value) grip.slip (Probe value) refl within.0 ∙ ap (λ v. carrying (hub_state_of s) 0 d (Probes v) grip.slip) out.value_is in
         λ i. record { configuration = configuration i; carried = carried i }

@@ -1,4 +1,5 @@
 -- The line and the table of a hub, when a device comes home.
+use Rattle.device_states.specs.Devices.{Shown}
 use Rattle.hub_core.proofs.kept.TableFits.{either_model}
 use Rattle.command_rules.specs.Rosters.{command_at, commands_of, is_run, run_no}
 use Rattle.device_gate.specs.Calls.{has_died, held_after, value_after}
@@ -35,9 +36,9 @@ use Rattle.hub_core.specs.OpenHubs.{configuration_of, held_in, progress_at}
 use Rattle.history_book.specs.ReadHistories.{HistoryState, read_in, with_doom, with_entry}
 use Rattle.hub_core.specs.declared.open_windows.OpenWindow.TheInside.{Inside}
 use Rattle.window_order.specs.declared.kept_orders.KeptOrder.{KeptOrder}
-use Rattle.window_order.specs.declared.purposes.Purpose.TheVariants.{Command as ForCommand, Undo as ForUndo}
+use Rattle.lock_leasing.specs.declared.purposes.Purpose.TheVariants.{Commands, Undoes}
 use Rattle.lineage_table.specs.Lineages.{LineageState, lineage_at, with_lineage}
-use Rattle.lock_leasing.specs.Configurations.{Commands, Grips, grips_command}
+use Rattle.lock_leasing.specs.Configurations.{Grips, grips_command, point}
 use Rattle.lock_leasing.specs.Tables.{view_when}
 use Rattle.serial_line.specs.Marks.{Marked}
 use Rattle.std.proofs.Common.{ap, arith, refl, subst, sym, ◌∙◌}
@@ -89,8 +90,8 @@ pub record MayTell (w : Setting) (table : List LineageState) (sl : Slip) : Type 
   pub device : sl.device.0 < length table
   pub turn : is_weak w.mode ≡ false → MayNote sl.maker (lineage_at table sl.device.0)
 
-pub may_tell : {D : Type 0} {stands turns probes faults : D → ℕ} (h : Inside D) (k tag : ℕ) (grip : Gripped D Done) (slip : Slip) → IsReturned stands turns probes faults h (ForCommand k) tag grip → slip ≡ grip.slip → IsWhole stands turns probes faults h → MayTell h.history.setting h.order.table slip
-may_tell h k tag grip slip returned same whole =
+pub may_tell : {D : Type 0} {shows : D → Shown} (h : Inside D) (k : ℕ) (grip : Gripped D Done) (slip : Slip) → IsReturned shows h (Commands k) grip → slip ≡ grip.slip → IsWhole shows h → MayTell h.history.setting h.order.table slip
+may_tell h k grip slip returned same whole =
     subst (MayTell h.history.setting h.order.table) (sym same) (record {
       device = let size : length h.order.table ≡ length h.history.setting.first = whole.order.table_is.devices in omega (arith, within, size);
       turn =
@@ -100,14 +101,14 @@ may_tell h k tag grip slip returned same whole =
     })
   where
     for : IsForCommand (open_of h) grip.slip grip.task k
-    for = for_command _ _ _ _ (open_of h) grip.slip grip.task k whole.shown returned.there returned.purpose
+    for = for_command _ (open_of h) grip.slip grip.task k whole.shown returned.there returned.purpose
 
     within : grip.slip.device.0 < length h.history.setting.first
-    within = (returned_for h (ForCommand k) tag grip returned whole).below
+    within = (returned_for h (Commands k) grip returned whole).below
 
 -- line and table when a command was answered, and its run is then doomed where there is a cause
 order_told : {rounds : ℕ} (h h₁ h₂ : HistoryState) (g f : Grips) (d r k : ℕ) (a : Answer) (cause : Option Cause) (mid after : Marked) (between later : List LineageState)
-    → GripsFit h.setting (read_in h) g → is_run h.setting.runs r ≡ true → g d ≡ Some (record { maker = r; purpose = Commands k })
+    → GripsFit (point h.setting (read_in h) g) → is_run h.setting.runs r ≡ true → g d ≡ Some (record { maker = r; purpose = Commands k })
     → h₁ ≡ with_entry h r (Did (run_no r) k a) → h₂ ≡ with_doom h₁ r cause → IsWellFormed h₂.setting (entries_of h₂.history) → f ≡ put g d None
     → after ≡ mid → (cause ≡ None → later ≡ between) → (IsSome cause → ChangesEach (λ d. doomed_lineage r) between later)
     → OrderIsBeside rounds h₁ f mid between → OrderIsBeside rounds h₂ f after later
@@ -120,12 +121,12 @@ order_told {rounds = rounds} h h₁ h₂ g f d r k a cause mid after between lat
     reads : (h₁.setting ≡ h.setting) × (read_in h₁ ≡ entry h.setting (read_in h) did)
     reads = (ap (λ (x : HistoryState). x.setting) one, ap read_in one ∙ read_more h.setting h.history r did)
 
-    fit : GripsFit h₁.setting (read_in h₁) f
-    fit = subst (λ w. GripsFit w (read_in h₁) f) (sym reads.0) (subst (λ n. GripsFit h.setting n f) (sym reads.1) (subst (GripsFit h.setting (entry h.setting (read_in h) did)) (sym home)
+    fit : GripsFit (point h₁.setting (read_in h₁) f)
+    fit = subst (λ w. GripsFit (point w (read_in h₁) f)) (sym reads.0) (subst (λ n. GripsFit (point h.setting n f)) (sym reads.1) (subst (λ x. GripsFit (point h.setting (entry h.setting (read_in h) did) x)) (sym home)
         (home_fits h.setting (read_in h) (entry h.setting (read_in h) did) g d r (Commands k) (λ q ne. put_other (read_in h).run r _ q ne) run at fits)))
 
     none : (e : ℕ) → grips_command f r e ≡ false
-    none e = ap (λ x. grips_command x r e) home ∙ none_out h.setting (read_in h) g d r (Commands k) run at fits e
+    none e = ap (λ x. grips_command x r e) home ∙ none_out (point h.setting (read_in h) g) d r (Commands k) run at fits e
 
 -- what line and table note of a command that came back: what it tells of its device, and then the doom of its run where there is a cause
 pub record IsNoted {D : Type 0} (h t : Inside D) (grip : Gripped D Done) (value : ℕ) (slip : Slip) (a : Answer) (cause : Option Cause) (mid : HistoryState) (view : View) (wrote : Option ℕ) (last : Bool) (between : KeptOrder) : Type 0 where
@@ -141,12 +142,12 @@ pub record IsNoted {D : Type 0} (h t : Inside D) (grip : Gripped D Done) (value 
   pub changed : IsSome cause → ChangesEach (λ d. doomed_lineage slip.maker) between.table t.order.table
 
 -- .. when its device is home again
-order_came : {D : Type 0} {stands turns probes faults : D → ℕ} (h t : Inside D) (value k tag : ℕ) (grip : Gripped D Done) (slip : Slip) (a : Answer) (cause : Option Cause) (mid : HistoryState) (view : View) (wrote : Option ℕ) (last : Bool) (between : KeptOrder)
-    → IsReturned stands turns probes faults h (ForCommand k) tag grip → IsHome h t grip → IsAnswered h grip k slip a cause mid t.history → IsNoted h t grip value slip a cause mid view wrote last between
+order_came : {D : Type 0} {shows : D → Shown} (h t : Inside D) (value k : ℕ) (grip : Gripped D Done) (slip : Slip) (a : Answer) (cause : Option Cause) (mid : HistoryState) (view : View) (wrote : Option ℕ) (last : Bool) (between : KeptOrder)
+    → IsReturned shows h (Commands k) grip → IsHome h t grip → IsAnswered h grip k slip a cause mid t.history → IsNoted h t grip value slip a cause mid view wrote last between
     → IsWellFormed t.history.setting (entries_of t.history.history)
-    → (configuration_of (open_of t)).grips ≡ put (configuration_of (open_of h)).grips grip.slip.device.0 None → IsWhole stands turns probes faults h
+    → (configuration_of (open_of t)).grips ≡ put (configuration_of (open_of h)).grips grip.slip.device.0 None → IsWhole shows h
     → OrderIsBeside h.rounds t.history (configuration_of (open_of t)).grips t.order.line t.order.table
-order_came {D = D} h t value k tag grip slip a cause mid view wrote last between returned home answered noted formed gripped whole =
+order_came {D = D} h t value k grip slip a cause mid view wrote last between returned home answered noted formed gripped whole =
     order_told h.history mid t.history (configuration_of (open_of h)).grips (configuration_of (open_of t)).grips d r k a cause between.line t.order.line between.table t.order.table
     whole.shown.configuration.grips for.run for.grip new doomed formed gripped noted.line_after noted.unchanged
     (λ some. subst (λ (z : Slip). ChangesEach (λ e. doomed_lineage z.maker) between.table t.order.table) answered.same (noted.changed some))
@@ -186,10 +187,10 @@ order_came {D = D} h t value k tag grip slip a cause mid view wrote last between
     doomed = answered.doomed ∙ ap (λ (z : Slip). with_doom mid z.maker cause) answered.same
 
     for : IsForCommand (open_of h) grip.slip grip.task k
-    for = for_command _ _ _ _ (open_of h) grip.slip grip.task k whole.shown returned.there returned.purpose
+    for = for_command _ (open_of h) grip.slip grip.task k whole.shown returned.there returned.purpose
 
     below : d < length h.history.setting.first
-    below = (returned_for h (ForCommand k) tag grip returned whole).below
+    below = (returned_for h (Commands k) grip returned whole).below
 
     may : may_follow w n (Did (run_no r) k a) ≡ true
     may = first_follows h.history mid t.history r (Did (run_no r) k a) cause new doomed formed
@@ -198,17 +199,17 @@ order_came {D = D} h t value k tag grip slip a cause mid view wrote last between
     suited = fourth (may_act w n r) (k == next_of n r) (nat_lt k (length (commands_of w.runs r))) (suits w n r (command_at w.runs r k) a) ((n.run r).answered_doomed) may
 
 -- a command came back: what is kept is kept
-pub answered_whole : {D : Type 0} {stands turns probes faults : D → ℕ} (h t : Inside D) (value k tag : ℕ) (grip : Gripped D Done) (slip : Slip) (a : Answer) (cause : Option Cause) (mid : HistoryState) (view : View) (wrote : Option ℕ) (last : Bool) (between : KeptOrder)
-    → IsReturned stands turns probes faults h (ForCommand k) tag grip → IsHome h t grip → IsAnswered h grip k slip a cause mid t.history → IsNoted h t grip value slip a cause mid view wrote last between → IsWhole stands turns probes faults h → IsWhole stands turns probes faults t
-answered_whole h t value k tag grip slip a cause mid view wrote last between returned home answered noted whole =
-    came_whole h t (ForCommand k) tag grip (answer_entries slip.maker k a cause) (answered_back h t k tag grip slip a cause mid returned home answered)
-    (λ formed gripped. order_came h t value k tag grip slip a cause mid view wrote last between returned home answered noted formed gripped whole) whole
+pub answered_whole : {D : Type 0} {shows : D → Shown} (h t : Inside D) (value k : ℕ) (grip : Gripped D Done) (slip : Slip) (a : Answer) (cause : Option Cause) (mid : HistoryState) (view : View) (wrote : Option ℕ) (last : Bool) (between : KeptOrder)
+    → IsReturned shows h (Commands k) grip → IsHome h t grip → IsAnswered h grip k slip a cause mid t.history → IsNoted h t grip value slip a cause mid view wrote last between → IsWhole shows h → IsWhole shows t
+answered_whole h t value k grip slip a cause mid view wrote last between returned home answered noted whole =
+    came_whole h t (Commands k) grip (answer_entries slip.maker k a cause) (answered_back h t k grip slip a cause mid returned home answered)
+    (λ formed gripped. order_came h t value k grip slip a cause mid view wrote last between returned home answered noted formed gripped whole) whole
 
 -- .. and an undo
-pub undone_whole : {D : Type 0} {stands turns probes faults : D → ℕ} (h t : Inside D) (v tag : ℕ) (grip : Gripped D Done) (slip : Slip) → IsReturned stands turns probes faults h (ForUndo v) tag grip → IsHome h t grip → slip ≡ grip.slip → has_died grip.stage.told ≡ false
-    → t.history ≡ with_entry h.history slip.maker (Undid (run_no slip.maker) slip.device true) → t.order ≡ h.order → IsWhole stands turns probes faults h → IsWhole stands turns probes faults t
-undone_whole h t v tag grip slip returned home same lives new order whole =
-    came_whole h t (ForUndo v) tag grip (Undid (run_no slip.maker) slip.device true ∷ []) (undone_back h t v tag grip slip returned home same lives new)
+pub undone_whole : {D : Type 0} {shows : D → Shown} (h t : Inside D) (v : ℕ) (grip : Gripped D Done) (slip : Slip) → IsReturned shows h (Undoes v) grip → IsHome h t grip → slip ≡ grip.slip → has_died grip.stage.told ≡ false
+    → t.history ≡ with_entry h.history slip.maker (Undid (run_no slip.maker) slip.device true) → t.order ≡ h.order → IsWhole shows h → IsWhole shows t
+undone_whole h t v grip slip returned home same lives new order whole =
+    came_whole h t (Undoes v) grip (Undid (run_no slip.maker) slip.device true ∷ []) (undone_back h t v grip slip returned home same lives new)
     (λ formed gripped. subst (λ (o : KeptOrder). OrderIsBeside h.rounds t.history (configuration_of (open_of t)).grips o.line o.table) (sym order)
     (order_undone h.history t.history (configuration_of (open_of h)).grips (configuration_of (open_of t)).grips grip.slip.maker grip.slip.device.0 v h.order.line h.order.table
-    (new ∙ ap (λ (y : Slip). with_entry h.history y.maker (Undid (run_no y.maker) y.device true)) same) (returned_for h (ForUndo v) tag grip returned whole).grip gripped whole.order)) whole
+    (new ∙ ap (λ (y : Slip). with_entry h.history y.maker (Undid (run_no y.maker) y.device true)) same) (returned_for h (Undoes v) grip returned whole).grip gripped whole.order)) whole

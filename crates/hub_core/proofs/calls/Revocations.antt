@@ -1,5 +1,6 @@
 -- A lease that is overdue is revoked: its run is doomed by the step of another one.
 use Rattle.command_rules.specs.Rosters.{is_run, run_no}
+use Rattle.device_states.specs.Devices.{Shown}
 use Rattle.history_book.specs.Readings.{is_doomed, is_live}
 use Rattle.history_book.specs.WellFormed.{may_follow}
 use Rattle.history_book.specs.declared.entries.Cause.TheVariants.{Revoked}
@@ -31,20 +32,20 @@ pub record IsBorrowing (s : Configuration) (x : ℕ) : Type 0 where
   pub live : is_live (read_of s) x ≡ true
   pub sound : is_doomed (read_of s) x ≡ false
 
-pub borrowing : {D : Type 0} {stands turns probes faults : D → ℕ} (h : Inside D) (r m : ℕ) (x : RunNo) (d : DeviceNo) (deadline : ℕ)
+pub borrowing : {D : Type 0} {shows : D → Shown} (h : Inside D) (r m : ℕ) (x : RunNo) (d : DeviceNo) (deadline : ℕ)
     → choice_of (configuration_of (open_of h)) r m ≡ Moves (Doomed x (Revoked (run_no r) d deadline (max h.moment m)) ∷ [])
-    → IsWhole stands turns probes faults h → IsBorrowing (configuration_of (open_of h)) x.0
+    → IsWhole shows h → IsBorrowing (configuration_of (open_of h)) x.0
 borrowing h r m x d deadline is k =
     let may : may_follow h.history.setting (read_in h.history) (Doomed x (Revoked (run_no r) d deadline (max h.moment m)))
     ≡ true = last_follows h.history.setting h.history.history r (Doomed x (Revoked (run_no r) d deadline (max h.moment m)))
-    (entries_kept _ _ _ _ (open_of h) r m _ Going is k.shown).configuration.history.well_formed in
+    (entries_kept _ (open_of h) r m _ Going is k.shown).configuration.history.well_formed in
     let live : is_live (read_in h.history) x.0 ≡ true = grind (arith, common_steps) in
     record { run = live_run h.history.setting (read_in h.history) x.0 (read_whole h k).shaped live; live = live; sound = grind (arith, common_steps) }
 
-pub revokes_whole : {D : Type 0} {stands turns probes faults : D → ℕ} (h t : Inside D) (r m : ℕ) (x : RunNo) (d : DeviceNo) (deadline : ℕ)
+pub revokes_whole : {D : Type 0} {shows : D → Shown} (h t : Inside D) (r m : ℕ) (x : RunNo) (d : DeviceNo) (deadline : ℕ)
     (out : Option DeviceNo) → IsEntered h t r m (Doomed x (Revoked (run_no r) d deadline (max h.moment m)) ∷ []) Going
     → option_map (λ e. e.0) out ≡ grip_wait h.history.setting (configuration_of (open_of h)).grips x.0
-    → t.order.line ≡ h.order.line → ChangesEach (doomed_unless out x.0) h.order.table t.order.table → IsWhole stands turns probes faults h → IsWhole stands turns probes faults t
+    → t.order.line ≡ h.order.line → ChangesEach (doomed_unless out x.0) h.order.table t.order.table → IsWhole shows h → IsWhole shows t
 revokes_whole h t r m x d deadline out enters hand line table k = entered_whole h t r m _ Going enters (λ formed.
     order_lost h.history _ (configuration_of (open_of h)).grips r x.0 (Revoked (run_no r) d deadline (max h.moment m)) out h.order.line t.order.line h.order.table t.order.table (read_whole h k) k.shown.configuration.grips borrows.sound
     (out_commands h.history.setting (read_in h.history) (configuration_of (open_of h)).grips x.0 out k.shown.configuration.grips borrows.run borrows.sound hand) refl line table k.order) k

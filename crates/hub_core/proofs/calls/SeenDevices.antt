@@ -5,6 +5,7 @@ use Rattle.device_order.specs.LineEntries.{stage_of, usage}
 use Rattle.device_order.specs.LineWords.{CutAt}
 use Rattle.device_order.specs.RunStates.{uses_device}
 use Rattle.device_order.specs.Usages.{stage_is_open}
+use Rattle.device_states.specs.Devices.{Shown}
 use Rattle.history_book.specs.Readings.{Reading, is_doomed, is_live, next_of, pends, sees_down, view_of}
 use Rattle.history_book.specs.Settings.{Setting, is_device, is_weak}
 use Rattle.home_types.specs.declared.commands.Command.{Command}
@@ -20,7 +21,7 @@ use Rattle.lineage_table.specs.Lineages.{LineageState, accesses_at, lineage_at}
 use Rattle.lineage_table.specs.declared.accesses.Access.{Access}
 use Rattle.lock_leasing.proofs.Facts.{next_is_left}
 use Rattle.lock_leasing.proofs.Meetings.{item_there}
-use Rattle.lock_leasing.specs.Configurations.{Grips, grips_command, read_of}
+use Rattle.lock_leasing.specs.Configurations.{Grips, grips_command, point, read_of}
 use Rattle.lock_leasing.specs.Holders.{is_down_view, sees_it_down}
 use Rattle.lock_leasing.specs.Standings.{IsAtCommand}
 use Rattle.lock_leasing.specs.Tables.{uses, view_when}
@@ -39,7 +40,7 @@ use Rattle.window_order.specs.ReadWindows.{run_state}
 use Rattle.window_order.specs.TableKept.{LineageIsKept, access_read, accesses_along, accesses_read, commits_write}
 
 -- the access of a run that is open on the device tells whether it sees it down
-pub sees_read : (w : Setting) (n : Reading) (g : Grips) (held : ℕ → ℕ) (d r : ℕ) (s : LineageState) → IsRead w n → is_device w d ≡ true → OrderIsKept w n g held → is_live n r ≡ true → is_doomed n r ≡ false → pends w n r d ≡ true → LineageIsKept w n g d s
+pub sees_read : (w : Setting) (n : Reading) (g : Grips) (held : ℕ → ℕ) (d r : ℕ) (s : LineageState) → IsRead w n → is_device w d ≡ true → OrderIsKept (point w n g) held → is_live n r ≡ true → is_doomed n r ≡ false → pends w n r d ≡ true → LineageIsKept (point w n g) d s
     → unwrap_or (option_map sees_it_down (access_of r s.accesses)) false ≡ sees_down n r d
 sees_read w n g held d r s read device order live sound pending kept =
     ap (λ o. unwrap_or (option_map sees_it_down o) false) (ap (access_of r) around ∙ access_at r front own back (none_in_front w n g kept.passed d r cut) (eq-eqb r r refl))
@@ -50,23 +51,23 @@ sees_read w n g held d r s read device order live sound pending kept =
     cut = cut_live w n r read live
 
     own : Access
-    own = access_read w n g kept.passed d r
+    own = access_read (point w n g) kept.passed d r
 
     front : List Access
-    front = front_accesses (uses w n d) (commits_write n d) (access_read w n g kept.passed d) false cut.front
+    front = front_accesses (uses w n d) (commits_write n d) (access_read (point w n g) kept.passed d) false cut.front
 
     back : List Access
-    back = accesses_along (uses w n d) (commits_write n d) (access_read w n g kept.passed d) cut.back
+    back = accesses_along (uses w n d) (commits_write n d) (access_read (point w n g) kept.passed d) cut.back
 
-    opened : stage_is_open (usage w.kinds (run_state w n g r) d).stage ≡ true
+    opened : stage_is_open (usage w.kinds (run_state (point w n g) r) d).stage ≡ true
     opened = λ i. stage_is_open (stage_of (live_uncommitted n r live i) (sound i) ((ap (uses_device d) (rest_drop (commands_of w.runs r) (n.run r).answers) ∙ pending) i))
 
     unwritten : list_any (of_run (commits_write n d)) cut.back ≡ false
     unwritten = none_commits w n d cut.back read (open_behind w n g held d r cut read order device (pending_touches d (commands_of w.runs r) (next_of n r) pending) opened)
 
     around : s.accesses ≡ front ++ own ∷ back
-    around = kept.accesses ∙ ap (accesses_read w n g kept.passed d) cut.at
-        ∙ along_there (uses w n d) (commits_write n d) (access_read w n g kept.passed d) r cut.front cut.back (uses_now w n d r read live pending) (λ i. live_uncommitted n r live i && is_some ((n.run r).on d).wrote) unwritten
+    around = kept.accesses ∙ ap (accesses_read (point w n g) kept.passed d) cut.at
+        ∙ along_there (uses w n d) (commits_write n d) (access_read (point w n g) kept.passed d) r cut.front cut.back (uses_now w n d r read live pending) (λ i. live_uncommitted n r live i && is_some ((n.run r).on d).wrote) unwritten
 
     seen : (v : Option Bool) → unwrap_or (option_map is_down_view (option_map view_when v)) false ≡ unwrap_or (option_map not v) false
     seen None = refl
@@ -80,8 +81,8 @@ pub record IsSeenThere (w : Setting) (n : Reading) (table : List LineageState) (
   pub view : unwrap_or (option_map sees_it_down (access_of r (accesses_at table d))) false ≡ sees_down n r d
   pub up : (lineage_at table d).up ≡ n.up d
 
-seen_there : {D : Type 0} {stands turns probes faults : D → ℕ} (h : Inside D) (r k : ℕ) → IsAtCommand (configuration_of (open_of h)) r k
-    → is_weak h.history.setting.mode ≡ false → IsWhole stands turns probes faults h
+seen_there : {D : Type 0} {shows : D → Shown} (h : Inside D) (r k : ℕ) → IsAtCommand (configuration_of (open_of h)) r k
+    → is_weak h.history.setting.mode ≡ false → IsWhole shows h
     → IsSeenThere h.history.setting (read_in h.history) h.order.table r (command_at h.history.setting.runs r k).device.0
 seen_there h r k turn strong whole = record {
   strong = strong;
@@ -110,8 +111,8 @@ seen_there h r k turn strong whole = record {
         (ap (λ j. unwrap_or (option_map (is_on d) (slice_get (commands_of w.runs r) j)) false) turn.next ∙ ap (λ o. unwrap_or (option_map (is_on d) o) false) (item_there (commands_of w.runs r) k no_command turn.command) ∙ eq-eqb d d refl)
 
 -- .. as the hub is seen
-pub seen_at : {D : Type 0} {stands turns probes faults : D → ℕ} (h : Inside D) (s : OpenHub D) (r k : ℕ) (c : Command) → open_of h ≡ s
-    → IsAtCommand (configuration_of s) r k → command_at s.setting.runs r k ≡ c → is_weak h.history.setting.mode ≡ false → IsWhole stands turns probes faults h
+pub seen_at : {D : Type 0} {shows : D → Shown} (h : Inside D) (s : OpenHub D) (r k : ℕ) (c : Command) → open_of h ≡ s
+    → IsAtCommand (configuration_of s) r k → command_at s.setting.runs r k ≡ c → is_weak h.history.setting.mode ≡ false → IsWhole shows h
     → IsSeenThere s.setting (read_of (configuration_of s)) h.order.table r c.device.0
 seen_at {D = D} h s r k c seen turn command strong whole =
     subst (λ (x : Command). IsSeenThere s.setting (read_of (configuration_of s)) h.order.table r x.device.0) command

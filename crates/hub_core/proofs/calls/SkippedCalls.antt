@@ -1,5 +1,6 @@
 -- A run that skips its next command keeps what the type of a hub keeps.
 use Rattle.command_rules.specs.Rosters.{command_at, commands_of, is_run, run_no}
+use Rattle.device_states.specs.Devices.{Shown}
 use Rattle.history_book.specs.Histories.{entry}
 use Rattle.history_book.specs.Readings.{Reading, is_doomed, next_of, pends}
 use Rattle.history_book.specs.Settings.{Setting, is_weak}
@@ -36,7 +37,7 @@ pub record MaySkip {D : Type 0} (h : Inside D) (r k : ℕ) : Type 0 where
   pub homed : (command_at h.history.setting.runs r k).device.0 < length h.order.table
   pub turn : is_weak h.history.setting.mode ≡ false → IsUnreleased r (lineage_at h.order.table (command_at h.history.setting.runs r k).device.0)
 
-pub may_skip : {D : Type 0} {stands turns probes faults : D → ℕ} (h : Inside D) (r m k : ℕ) → choice_of (configuration_of (open_of h)) r m ≡ Moves (skip_entries r k) → IsWhole stands turns probes faults h → MaySkip h r k
+pub may_skip : {D : Type 0} {shows : D → Shown} (h : Inside D) (r m k : ℕ) → choice_of (configuration_of (open_of h)) r m ≡ Moves (skip_entries r k) → IsWhole shows h → MaySkip h r k
 may_skip h r m k is whole = record {
   run = live_run w n r (read_whole h whole).shaped skip.live;
   number = skip.number;
@@ -67,7 +68,7 @@ pub record IsSkippedSo {D : Type 0} (h t : Inside D) (r k : ℕ) (c : Command) (
   pub table : is_weak h.history.setting.mode ≡ false → t.order.table ≡ (if last then with_lineage h.order.table c.device.0 (left_by r (is_first r (lineage_at h.order.table c.device.0))) else h.order.table)
   pub same_table : is_weak h.history.setting.mode ≡ true → t.order.table ≡ h.order.table
 
-pub skips_whole : {D : Type 0} {stands turns probes faults : D → ℕ} (h t : Inside D) (r m k : ℕ) (c : Command) (last : Bool) → IsEntered h t r m (skip_entries r k) Going → IsSkippedSo h t r k c last → IsWhole stands turns probes faults h → IsWhole stands turns probes faults t
+pub skips_whole : {D : Type 0} {shows : D → Shown} (h t : Inside D) (r m k : ℕ) (c : Command) (last : Bool) → IsEntered h t r m (skip_entries r k) Going → IsSkippedSo h t r k c last → IsWhole shows h → IsWhole shows t
 skips_whole {D = D} h t r m k c last enters so whole = entered_whole h t r m (skip_entries r k) Going enters (λ formed.
     either_model (OrderIsBeside h.rounds (with_more h.history r (skip_entries r k)) g t.order.line t.order.table) w
     (λ weak. order_skipped_weakly h.history _ g r h.order.line t.order.line h.order.table t.order.table new so.line weak (so.same_table weak) whole.order)

@@ -3,6 +3,7 @@ use Rattle.device_gate.specs.Calls.{has_died}
 use Rattle.device_gate.specs.Grips.{Gripped}
 use Rattle.device_gate.specs.declared.grips.Done.{Done}
 use Rattle.device_gate.specs.declared.slips.Slip.{Slip}
+use Rattle.device_states.specs.Devices.{Shown}
 use Rattle.history_book.proofs.HistoryReads.{takes_first}
 use Rattle.history_book.specs.Histories.{entry}
 use Rattle.history_book.specs.ReadHistories.{read_in}
@@ -27,11 +28,10 @@ use Rattle.hub_core.specs.Bounds.{most_items}
 use Rattle.hub_core.specs.HubsKept.{IsWhole, open_of}
 use Rattle.hub_core.specs.KeptOrders.{MayTurn}
 use Rattle.hub_core.specs.OpenHubs.{configuration_of, events_in, held_in, progress_at}
-use Rattle.window_order.specs.KeptOrders.{purpose_of}
+use Rattle.lock_leasing.specs.declared.purposes.Purpose.{Purpose}
 use Rattle.hub_core.specs.declared.known.Events.{Events}
 use Rattle.hub_core.specs.declared.open_windows.OpenWindow.TheInside.{Inside}
-use Rattle.window_order.specs.declared.purposes.Purpose.{Purpose as KeptPurpose}
-use Rattle.lock_leasing.specs.Configurations.{Grips, read_of}
+use Rattle.lock_leasing.specs.Configurations.{Grips, point, read_of}
 use Rattle.serial_line.specs.Marks.{Mark, stands as stands_item}
 use Rattle.std.proofs.Common.{ap, arith, subst, sym, ◌∙◌}
 use Rattle.std.proofs.lemmas.Grind.{common_steps}
@@ -49,84 +49,84 @@ rose_line w n g d marks lines =
     sym (line_size (entry w n (Rose d)) g _ (marks_rose w n g d marks lines)) ∙ length_with (event_place_of w n d.0) (Back d (n.rose d.0 + 1)) marks ∙ ap (λ k. k + 1) (line_size n g marks lines)
 
 -- what a step back tells: an event of a device, and then entries that leave the line
-pub record TellsTurn {D : Type 0} (stands turns probes faults : D → ℕ) (h : Inside D) (why : KeptPurpose) (tag : ℕ) (grip : Gripped D Done) (e : Entry) (es : List Entry) : Type 0 where
-  pub returned : IsReturned stands turns probes faults h why tag grip
+pub record TellsTurn {D : Type 0} (shows : D → Shown) (h : Inside D) (why : Purpose) (grip : Gripped D Done) (e : Entry) (es : List Entry) : Type 0 where
+  pub returned : IsReturned shows h why grip
   pub gives : returned_entries (open_of h) grip why ≡ e ∷ es
   pub leave : (fold (entry h.history.setting) (entry h.history.setting (read_in h.history) e) es).line ≡ (entry h.history.setting (read_in h.history) e).line
 
-tells_comes : {D : Type 0} {stands turns probes faults : D → ℕ} (h : Inside D) (why : KeptPurpose) (tag : ℕ) (grip : Gripped D Done) (e : Entry)
-    (es : List Entry) → TellsTurn stands turns probes faults h why tag grip e es → IsWhole stands turns probes faults h
-    → ComesBack stands turns probes faults (open_of h) grip (e ∷ es) h.moment
-tells_comes {stands = stands} {turns = turns} {probes = probes} {faults = faults} h why tag grip e es tells k =
-    subst (λ x. ComesBack stands turns probes faults (open_of h) grip x h.moment) tells.gives (returned_comes h h.moment why tag grip tells.returned (omega arith) k)
+tells_comes : {D : Type 0} {shows : D → Shown} (h : Inside D) (why : Purpose) (grip : Gripped D Done) (e : Entry)
+    (es : List Entry) → TellsTurn shows h why grip e es → IsWhole shows h
+    → ComesBack shows (open_of h) grip (e ∷ es) h.moment
+tells_comes {shows = shows} h why grip e es tells k =
+    subst (λ x. ComesBack shows (open_of h) grip x h.moment) tells.gives (returned_comes h h.moment why grip tells.returned (omega arith) k)
 
 -- its event may stand where it stands
-pub tells_may : {D : Type 0} {stands turns probes faults : D → ℕ} (h : Inside D) (why : KeptPurpose) (tag : ℕ) (grip : Gripped D Done) (e : Entry)
-    (es : List Entry) → TellsTurn stands turns probes faults h why tag grip e es → IsWhole stands turns probes faults h
+pub tells_may : {D : Type 0} {shows : D → Shown} (h : Inside D) (why : Purpose) (grip : Gripped D Done) (e : Entry)
+    (es : List Entry) → TellsTurn shows h why grip e es → IsWhole shows h
     → may_follow h.history.setting (read_in h.history) e ≡ true
-tells_may h why tag grip e es tells k = takes_first h.history grip.slip.maker e es (tells_comes h why tag grip e es tells k).configuration.history.well_formed
+tells_may h why grip e es tells k = takes_first h.history grip.slip.maker e es (tells_comes h why grip e es tells k).configuration.history.well_formed
 
 -- so line and history have room
-turn_room : {D : Type 0} {stands turns probes faults : D → ℕ} (h : Inside D) (why : KeptPurpose) (tag : ℕ) (grip : Gripped D Done) (e : Entry) (es : List Entry) → TellsTurn stands turns probes faults h why tag grip e es
-    → length (entry h.history.setting (read_in h.history) e).line ≡ length (read_in h.history).line + 1 → IsWhole stands turns probes faults h → (0 < h.order.line.spare) × (0 < h.history.spare)
-turn_room h why tag grip e es tells longer k = (
+turn_room : {D : Type 0} {shows : D → Shown} (h : Inside D) (why : Purpose) (grip : Gripped D Done) (e : Entry) (es : List Entry) → TellsTurn shows h why grip e es
+    → length (entry h.history.setting (read_in h.history) e).line ≡ length (read_in h.history).line + 1 → IsWhole shows h → (0 < h.order.line.spare) × (0 < h.history.spare)
+turn_room h why grip e es tells longer k = (
   (let fits : length (read_of (after_back (open_of h) grip.slip (e ∷ es) h.moment)).line
       ≤ most_items (length h.history.setting.runs) (length h.history.setting.first) h.rounds = line_fits (after_back (open_of h) grip.slip (e ∷ es) h.moment)
-      h.rounds h.opened (put (held_in (open_of h)) grip.slip.device.0 (held_back (open_of h) grip)) (tells_comes h why tag grip e es tells k).configuration in
+      h.rounds h.opened (put (held_in (open_of h)) grip.slip.device.0 (held_back (open_of h) grip)) (tells_comes h why grip e es tells k).configuration in
       let now : length (read_of (after_back (open_of h) grip.slip (e ∷ es) h.moment)).line ≡ length (read_in h.history).line + 1 = ap (λ (n : Reading). length n.line) (read_with (configuration_of (open_of h)) grip.slip.maker (e ∷ es)) ∙ ap length tells.leave ∙ longer in
       let size = line_size (read_in h.history) (configuration_of (open_of h)).grips h.order.line.marks k.order.line_is in
       omega (arith, fits, now, size, k.order.room)),
-  (let places : length (e ∷ es) ≤ h.history.spare = subst (λ x. length x ≤ h.history.spare) tells.gives (returned_places h why tag grip tells.returned k) in
+  (let places : length (e ∷ es) ≤ h.history.spare = subst (λ x. length x ≤ h.history.spare) tells.gives (returned_places h why grip tells.returned k) in
       omega (arith, places)),
 )
 
 -- The counts of its events
 
 -- what is counted then, where it died that was counted up, or answered that was counted down
-turned_to : {D : Type 0} {stands turns probes faults : D → ℕ} (h : Inside D) (why : KeptPurpose) (tag : ℕ) (grip : Gripped D Done) (events : Events) (up died : Bool) → IsReturned stands turns probes faults h why tag grip → is_up_for (purpose_of why) ≡ up → has_died grip.stage.told ≡ died
-    → events ≡ events_after grip.task grip.stage.told (progress_at h.away.known.items grip.slip.device.0).events → IsWhole stands turns probes faults h → events ≡ turned up died (events_in (read_in h.history) grip.slip.device.0)
-turned_to h why tag grip events up died returned up_is died_is events_are k =
-    let for = returned_for h why tag grip returned k in
+turned_to : {D : Type 0} {shows : D → Shown} (h : Inside D) (why : Purpose) (grip : Gripped D Done) (events : Events) (up died : Bool) → IsReturned shows h why grip → is_up_for why ≡ up → has_died grip.stage.told ≡ died
+    → events ≡ events_after grip.task grip.stage.told (progress_at h.away.known.items grip.slip.device.0).events → IsWhole shows h → events ≡ turned up died (events_in (read_in h.history) grip.slip.device.0)
+turned_to h why grip events up died returned up_is died_is events_are k =
+    let for = returned_for h why grip returned k in
     events_are ∙ (λ i. turned ((for.up ∙ up_is) i) (died_is i) (k.shown.events grip.slip.device.0 for.below i))
 
 -- what the code counts of a failure
-pub record Falls {D : Type 0} (h : Inside D) (why : KeptPurpose) (grip : Gripped D Done) (sl : Slip) (events : Events) : Type 0 where
+pub record Falls {D : Type 0} (h : Inside D) (why : Purpose) (grip : Gripped D Done) (sl : Slip) (events : Events) : Type 0 where
   pub same : sl ≡ grip.slip
-  pub up : is_up_for (purpose_of why) ≡ true
+  pub up : is_up_for why ≡ true
   pub died : has_died grip.stage.told ≡ true
   pub events_are : events ≡ events_after grip.task grip.stage.told (progress_at h.away.known.items grip.slip.device.0).events
 
-pub fallen_number : {D : Type 0} {stands turns probes faults : D → ℕ} (h : Inside D) (why : KeptPurpose) (tag : ℕ) (grip : Gripped D Done) (sl : Slip)
-    (events : Events) → IsReturned stands turns probes faults h why tag grip → Falls h why grip sl events → IsWhole stands turns probes faults h
+pub fallen_number : {D : Type 0} {shows : D → Shown} (h : Inside D) (why : Purpose) (grip : Gripped D Done) (sl : Slip)
+    (events : Events) → IsReturned shows h why grip → Falls h why grip sl events → IsWhole shows h
     → events.fell ≡ (read_in h.history).fell grip.slip.device.0 + 1
-fallen_number h why tag grip sl events returned falls k = ap (λ (e : Events). e.fell) (turned_to h why tag grip events true true returned falls.up falls.died falls.events_are k)
+fallen_number h why grip sl events returned falls k = ap (λ (e : Events). e.fell) (turned_to h why grip events true true returned falls.up falls.died falls.events_are k)
 
 -- .. and of a restart
-pub record Rises {D : Type 0} (h : Inside D) (why : KeptPurpose) (grip : Gripped D Done) (sl : Slip) (events : Events) : Type 0 where
+pub record Rises {D : Type 0} (h : Inside D) (why : Purpose) (grip : Gripped D Done) (sl : Slip) (events : Events) : Type 0 where
   pub same : sl ≡ grip.slip
-  pub down : is_up_for (purpose_of why) ≡ false
+  pub down : is_up_for why ≡ false
   pub lives : has_died grip.stage.told ≡ false
   pub events_are : events ≡ events_after grip.task grip.stage.told (progress_at h.away.known.items grip.slip.device.0).events
 
-pub risen_number : {D : Type 0} {stands turns probes faults : D → ℕ} (h : Inside D) (why : KeptPurpose) (tag : ℕ) (grip : Gripped D Done) (sl : Slip)
-    (events : Events) → IsReturned stands turns probes faults h why tag grip → Rises h why grip sl events → IsWhole stands turns probes faults h
+pub risen_number : {D : Type 0} {shows : D → Shown} (h : Inside D) (why : Purpose) (grip : Gripped D Done) (sl : Slip)
+    (events : Events) → IsReturned shows h why grip → Rises h why grip sl events → IsWhole shows h
     → events.rose ≡ (read_in h.history).rose grip.slip.device.0 + 1
-risen_number h why tag grip sl events returned rises k = ap (λ (e : Events). e.rose) (turned_to h why tag grip events false false returned rises.down rises.lives rises.events_are k)
+risen_number h why grip sl events returned rises k = ap (λ (e : Events). e.rose) (turned_to h why grip events false false returned rises.down rises.lives rises.events_are k)
 
 -- Whether it may
 
 -- a device fails: it is counted up
-pub may_fall : {D : Type 0} {stands turns probes faults : D → ℕ} (h : Inside D) (why : KeptPurpose) (tag : ℕ) (grip : Gripped D Done) (es : List Entry) (sl : Slip) (events : Events) → TellsTurn stands turns probes faults h why tag grip (Fell grip.slip.device) es → Falls h why grip sl events
-    → IsWhole stands turns probes faults h → MayTurn true (Failed sl.device events.fell) h.history.spare sl.device h.order.line h.order.table
-may_fall h why tag grip es sl events tells falls k =
+pub may_fall : {D : Type 0} {shows : D → Shown} (h : Inside D) (why : Purpose) (grip : Gripped D Done) (es : List Entry) (sl : Slip) (events : Events) → TellsTurn shows h why grip (Fell grip.slip.device) es → Falls h why grip sl events
+    → IsWhole shows h → MayTurn true (Failed sl.device events.fell) h.history.spare sl.device h.order.line h.order.table
+may_fall h why grip es sl events tells falls k =
     subst (λ (z : Slip). MayTurn true (Failed z.device events.fell) h.history.spare z.device h.order.line h.order.table) (sym falls.same) (record {
       device = omega (arith, below, k.order.table_is.devices);
-      runs = no_detector w n g h.order.table d.0 (read_whole h k) below k.order.table_is;
-      counted = counted_told w n g h.order.table d.0 below k.order.table_is ∙ (let may : may_follow w n (Fell d) ≡ true = tells_may h why tag grip (Fell d) es tells k in grind (arith, common_steps));
+      runs = no_detector (point w n g) h.order.table d.0 (read_whole h k) below k.order.table_is;
+      counted = counted_told (point w n g) h.order.table d.0 below k.order.table_is ∙ (let may : may_follow w n (Fell d) ≡ true = tells_may h why grip (Fell d) es tells k in grind (arith, common_steps));
       place = room.0;
-      absent = (λ i. stands_in (fallen_number h why tag grip sl events tells.returned falls k i)) ∙ failure_absent w n g d h.order.line.marks (read_whole h k) k.order.line_is;
+      absent = (λ i. stands_in (fallen_number h why grip sl events tells.returned falls k i)) ∙ failure_absent w n g d h.order.line.marks (read_whole h k) k.order.line_is;
       sealed = k.order.sealed;
-      unsealed = table_unsealed w n g d.0 h.order.line h.order.table below k.order.table_is k.order.line_is k.order.sealed;
+      unsealed = table_unsealed (point w n g) d.0 h.order.line h.order.table below k.order.table_is k.order.line_is k.order.sealed;
       entry = room.1;
     })
   where
@@ -143,26 +143,26 @@ may_fall h why tag grip es sl events tells falls k =
     d = grip.slip.device
 
     below : d.0 < length w.first
-    below = (returned_for h why tag grip tells.returned k).below
+    below = (returned_for h why grip tells.returned k).below
 
     room : (0 < h.order.line.spare) × (0 < h.history.spare)
-    room = turn_room h why tag grip (Fell d) es tells (fell_line w n g d h.order.line.marks k.order.line_is) k
+    room = turn_room h why grip (Fell d) es tells (fell_line w n g d h.order.line.marks k.order.line_is) k
 
     stands_in : ℕ → Bool
     stands_in x = stands_item (Failed d x) h.order.line.marks
 
 -- a device is back: it is counted down
-pub may_rise : {D : Type 0} {stands turns probes faults : D → ℕ} (h : Inside D) (why : KeptPurpose) (tag : ℕ) (grip : Gripped D Done) (es : List Entry) (sl : Slip) (events : Events) → TellsTurn stands turns probes faults h why tag grip (Rose grip.slip.device) es → Rises h why grip sl events
-    → IsWhole stands turns probes faults h → MayTurn false (Back sl.device events.rose) h.history.spare sl.device h.order.line h.order.table
-may_rise h why tag grip es sl events tells rises k =
+pub may_rise : {D : Type 0} {shows : D → Shown} (h : Inside D) (why : Purpose) (grip : Gripped D Done) (es : List Entry) (sl : Slip) (events : Events) → TellsTurn shows h why grip (Rose grip.slip.device) es → Rises h why grip sl events
+    → IsWhole shows h → MayTurn false (Back sl.device events.rose) h.history.spare sl.device h.order.line h.order.table
+may_rise h why grip es sl events tells rises k =
     subst (λ (z : Slip). MayTurn false (Back z.device events.rose) h.history.spare z.device h.order.line h.order.table) (sym rises.same) (record {
       device = omega (arith, below, k.order.table_is.devices);
-      runs = no_detector w n g h.order.table d.0 (read_whole h k) below k.order.table_is;
-      counted = counted_told w n g h.order.table d.0 below k.order.table_is ∙ (let may : may_follow w n (Rose d) ≡ true = tells_may h why tag grip (Rose d) es tells k in grind (arith, common_steps));
+      runs = no_detector (point w n g) h.order.table d.0 (read_whole h k) below k.order.table_is;
+      counted = counted_told (point w n g) h.order.table d.0 below k.order.table_is ∙ (let may : may_follow w n (Rose d) ≡ true = tells_may h why grip (Rose d) es tells k in grind (arith, common_steps));
       place = room.0;
-      absent = (λ i. stands_in (risen_number h why tag grip sl events tells.returned rises k i)) ∙ restart_absent w n g d h.order.line.marks (read_whole h k) k.order.line_is;
+      absent = (λ i. stands_in (risen_number h why grip sl events tells.returned rises k i)) ∙ restart_absent w n g d h.order.line.marks (read_whole h k) k.order.line_is;
       sealed = k.order.sealed;
-      unsealed = table_unsealed w n g d.0 h.order.line h.order.table below k.order.table_is k.order.line_is k.order.sealed;
+      unsealed = table_unsealed (point w n g) d.0 h.order.line h.order.table below k.order.table_is k.order.line_is k.order.sealed;
       entry = room.1;
     })
   where
@@ -179,10 +179,10 @@ may_rise h why tag grip es sl events tells rises k =
     d = grip.slip.device
 
     below : d.0 < length w.first
-    below = (returned_for h why tag grip tells.returned k).below
+    below = (returned_for h why grip tells.returned k).below
 
     room : (0 < h.order.line.spare) × (0 < h.history.spare)
-    room = turn_room h why tag grip (Rose d) es tells (rose_line w n g d h.order.line.marks k.order.line_is) k
+    room = turn_room h why grip (Rose d) es tells (rose_line w n g d h.order.line.marks k.order.line_is) k
 
     stands_in : ℕ → Bool
     stands_in x = stands_item (Back d x) h.order.line.marks

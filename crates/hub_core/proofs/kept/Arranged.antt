@@ -23,7 +23,7 @@ use Rattle.home_types.specs.declared.modes.Visibility.{Visibility}
 use Rattle.hub_core.proofs.kept.SealedOrders.{sealed_is}
 use Rattle.hub_core.specs.KeptOrders.{IsOrderOf}
 use Rattle.lineage_table.specs.Lineages.{LineageState}
-use Rattle.lock_leasing.specs.Configurations.{Grips}
+use Rattle.lock_leasing.specs.Configurations.{Grips, point}
 use Rattle.lock_leasing.specs.Places.{GripsFit, in_order}
 use Rattle.serial_line.proofs.KeptRuns.{kept_meet}
 use Rattle.serial_line.proofs.Ties.{line_rearranged}
@@ -71,14 +71,14 @@ gap_length : (w : Setting) (n : Reading) (r m : ℕ) → length (gap_set w n r m
 unfolding gap_set
 gap_length w n r m = sym (part_length (base_of w n r) (grown (meet w.runs) (base_of w n r) (bars w n r m) n.line) (grown_holds (meet w.runs) (base_of w n r) (bars w n r m) n.line (base_length w n r))) ∙ base_length w n r
 
-pub may_arrange : {rounds : ℕ} (w : Setting) (n : Reading) (g : Grips) (r m : ℕ) (set : List Bool) (line : Marked) (table : List LineageState) → IsRead w n → set ≡ gap_set w n r m → IsOrderOf rounds w n g line table → MayArrange set line
+pub may_arrange : {rounds : ℕ} (w : Setting) (n : Reading) (g : Grips) (r m : ℕ) (set : List Bool) (line : Marked) (table : List LineageState) → IsRead w n → set ≡ gap_set w n r m → IsOrderOf rounds (point w n g) line table → MayArrange set line
 may_arrange w n g r m set line table read is kept = record {
   size = ap length is ∙ gap_length w n r m ∙ sym (ap length kept.line_is.items) ∙ length-map line.marks (λ (x : Mark). x.item);
   closed =
       subst (λ (m : Item → Item → Bool). IsClosed m set (items_of line.marks)) (sym (kept_meet w.runs line.runs kept.runs))
       (subst (λ (bs : List Bool). IsClosed (meet w.runs) bs (items_of line.marks)) (sym is)
       (subst (IsClosed (meet w.runs) (gap_set w n r m)) (sym kept.line_is.items) (gap_closed w n r m)));
-  sealed = subst (λ (bs : List Bool). HoldsFirst line.sealed bs) (sym is) (subst (λ k. HoldsFirst k (gap_set w n r m)) (sym (sealed_is w n g line read kept.line_is kept.sealed)) (gap_first w n r m));
+  sealed = subst (λ (bs : List Bool). HoldsFirst line.sealed bs) (sym is) (subst (λ k. HoldsFirst k (gap_set w n r m)) (sym (sealed_is (point w n g) line read kept.line_is kept.sealed)) (gap_first w n r m));
 }
 
 -- Marks in the new order
@@ -132,7 +132,7 @@ marks_arranged w n g r m marks kept = subst (λ l. MarksAreKept (in_order n l) g
     by_scheduler Timeline = line_rearranged (gap_set w n r m) kept
 
 -- .. with the run at its place
-pub marks_joined : (w : Setting) (n : Reading) (g : Grips) (r at m : ℕ) (marks : List Mark) → IsRead w n → GripsFit w n g → may_follow w n (Placed (run_no r) at m) ≡ true → MarksAreKept n g marks
+pub marks_joined : (w : Setting) (n : Reading) (g : Grips) (r at m : ℕ) (marks : List Mark) → IsRead w n → GripsFit (point w n g) → may_follow w n (Placed (run_no r) at m) ≡ true → MarksAreKept n g marks
     → MarksAreKept (entry w n (Placed (run_no r) at m)) g (with_item at (Ran (run_no r)) (marks_for w n r m marks))
 unfolding split_of
 marks_joined w n g r at m marks read fit may kept =

@@ -13,7 +13,7 @@ use Rattle.hub_core.proofs.kept.Followed.{followed_step}
 use Rattle.hub_core.proofs.kept.HistoryKept.{AreFewer, MayAdd, first_less, turn_less}
 use Rattle.hub_core.proofs.kept.LineOrder.{same_order}
 use Rattle.hub_core.specs.HubKept.{ActsInTurn, HistoryIsKept, is_placed_later, placed_in_order}
-use Rattle.lock_leasing.specs.Configurations.{Configuration, Grips, read_of}
+use Rattle.lock_leasing.specs.Configurations.{Configuration, Grips, point, read_of}
 use Rattle.lock_leasing.specs.Words.{live_runs, stamp_of}
 use Rattle.std.proofs.Common.{ap, cond, refl, sym, ◌∙◌}
 use Rattle.std.proofs.lemmas.List.Sums.{take_while-cons}
@@ -92,7 +92,7 @@ record HasEvent (n m : Reading) : Type 0 where
 event_order : (n m : Reading) → HasEvent n m → IsTrue (placed_in_order n n.line) → IsTrue (placed_in_order m m.line)
 event_order n m has ordered = ap (placed_in_order m) has.line ∙ order_with m has.test has.item n.line has.event ∙ same_order n m n.line (λ q i. stamp_of (record n { run = has.run i }) q) ∙ ordered
 
-event_turn : (w : Setting) (n m : Reading) (g h : Grips) → HasEvent n m → AreFewer h g → ActsInTurn w n g → ActsInTurn w m h
+event_turn : (w : Setting) (n m : Reading) (g h : Grips) → HasEvent n m → AreFewer h g → ActsInTurn (point w n g) → ActsInTurn (point w m h)
 event_turn w n m g h has less turn = turn_less w n m g h (λ q now. ap (λ l. live_runs m (before q l)) has.line ∙ front_with m q has.test has.item n.line has.event) (λ q now. sym (same_live q) ∙ now) same_did less turn
   where
     same_live : (q : ℕ) → is_live m q ≡ is_live n q

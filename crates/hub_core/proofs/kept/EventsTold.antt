@@ -20,7 +20,8 @@ use Rattle.lineage_table.specs.declared.accesses.Access.{Access}
 use Rattle.lineage_table.specs.declared.accesses.Status.TheVariants.{Acquired, Released, Scheduled}
 use Rattle.lock_leasing.proofs.Effects.{live_runs_live}
 use Rattle.lock_leasing.proofs.EventRuns.{run_place}
-use Rattle.lock_leasing.specs.Configurations.{Grip, Grips, Probes, grips_command, is_command}
+use Rattle.lock_leasing.specs.Configurations.{Grip, Grips, Point, grips_command, is_command, point}
+use Rattle.lock_leasing.specs.declared.purposes.Purpose.TheVariants.{Probes}
 use Rattle.lock_leasing.specs.Tables.{status_by_answers, uses}
 use Rattle.lock_leasing.specs.Waits.{lost_by}
 use Rattle.lock_leasing.specs.Words.{live_runs}
@@ -45,14 +46,14 @@ use Rattle.window_order.specs.OrderKept.{OrderIsKept}
 use Rattle.window_order.specs.TableKept.{LineageIsKept, access_read, commits_write}
 
 -- no access is of no run
-pub none_of_detector : (w : Setting) (n : Reading) (g : Grips) (d : ℕ) (s : LineageState) → IsRead w n → LineageIsKept w n g d s → has_access 0 s.accesses ≡ false
-none_of_detector w n g d s read own = ap (has_access 0) own.accesses ∙ along_none (uses w n d) (commits_write n d) (access_read w n g own.passed d) (is_of 0) n.line (λ x there used. by_number x (x == 0) refl used)
+pub none_of_detector : (p : Point) (d : ℕ) (s : LineageState) → IsRead p.setting p.reading → LineageIsKept p d s → has_access 0 s.accesses ≡ false
+none_of_detector p d s read own = ap (has_access 0) own.accesses ∙ along_none (uses p.setting p.reading d) (commits_write p.reading d) (access_read p own.passed d) (is_of 0) p.reading.line (λ x there used. by_number x (x == 0) refl used)
   where
-    by_number : (x : ℕ) (b : Bool) → (x == 0) ≡ b → uses w n d x ≡ true → (x == 0) ≡ false
-    by_number x true e used = absurd (no_run (ap (is_live n) (sym (eqb-true x 0 e)) ∙ (three (is_live n x) _ _ used).0))
+    by_number : (x : ℕ) (b : Bool) → (x == 0) ≡ b → uses p.setting p.reading d x ≡ true → (x == 0) ≡ false
+    by_number x true e used = absurd (no_run (ap (is_live p.reading) (sym (eqb-true x 0 e)) ∙ (three (is_live p.reading x) _ _ used).0))
       where
-        no_run : is_live n 0 ≡ true → ⊥
-        no_run live = let run = live_run w n 0 read live in absurd (cc)
+        no_run : is_live p.reading 0 ≡ true → ⊥
+        no_run live = let run = live_run p.setting p.reading 0 read live in absurd (cc)
     by_number x false e used = e
 
 -- the dooms of the history are those of its reading
@@ -68,7 +69,7 @@ pub line_size : (n : Reading) (g : Grips) (marks : List Mark) → MarksAreKept n
 line_size n g marks lines = sym (length-map marks (λ (x : Mark). x.item)) ∙ ap length lines.items
 
 -- the event of the device stands where the definition puts it
-pub event_told : (w : Setting) (n : Reading) (g : Grips) (held : ℕ → ℕ) (d : ℕ) (h : List Kept) (s : LineageState) (marks : List Mark) → IsRead w n → is_weak w.mode ≡ false → is_device w d ≡ true → OrderIsKept w n g held → LineageIsKept w n g d s → MarksAreKept n g marks
+pub event_told : (w : Setting) (n : Reading) (g : Grips) (held : ℕ → ℕ) (d : ℕ) (h : List Kept) (s : LineageState) (marks : List Mark) → IsRead w n → is_weak w.mode ≡ false → is_device w d ≡ true → OrderIsKept (point w n g) held → LineageIsKept (point w n g) d s → MarksAreKept n g marks
     → ((r : ℕ) → is_none (doom_of h r) ≡ not (is_doomed n r)) → event_place h None s.accesses marks ≡ event_place_of w n d
 event_told w n g held d h s marks read strong device order own lines sound = ap (λ o. place_or_end (option_map (λ (x : Access). x.run) o) marks) same_found ∙ by_found (find (is_access_waiting (is_doomed n)) s.accesses) refl
   where
@@ -91,7 +92,7 @@ event_told w n g held d h s marks read strong device order own lines sound = ap 
 -- The run that is lost
 
 -- an acquired access on a device that is out for no command is of a run that is not doomed
-unacquired : (w : Setting) (n : Reading) (g : Grips) (passed : ℕ → Bool) (d r : ℕ) → grips_command g r d ≡ false → is_doomed n r ≡ true → is_acquired (if passed r then Released else status_by_answers w n g r d) ≡ false
+unacquired : (w : Setting) (n : Reading) (g : Grips) (passed : ℕ → Bool) (d r : ℕ) → grips_command g r d ≡ false → is_doomed n r ≡ true → is_acquired (if passed r then Released else status_by_answers (point w n g) r d) ≡ false
 unacquired w n g passed d r free doomed = by_tests (passed r) (did n r d) (is_doomed n r) (pends w n r d) (grips_command g r d) doomed free
   where
     by_tests : (p v x l c : Bool) → x ≡ true → c ≡ false → is_acquired (if p then Released else (if v then (if (not x && l) || c then Acquired else Released) else Scheduled)) ≡ false
@@ -102,11 +103,11 @@ unacquired w n g passed d r free doomed = by_tests (passed r) (did n r d) (is_do
     by_tests false true true l false h k = refl
 
 -- the run that the code finds is the one of the definition, where the device is out for no command
-pub lost_told : (w : Setting) (n : Reading) (g : Grips) (held : ℕ → ℕ) (d : ℕ) (h : List Kept) (s : LineageState) → IsRead w n → is_weak w.mode ≡ false → is_device w d ≡ true → ((q : ℕ) → grips_command g q d ≡ false) → OrderIsKept w n g held → LineageIsKept w n g d s
-    → ((r : ℕ) → is_none (doom_of h r) ≡ not (is_doomed n r)) → option_map (λ r. r.0) (lost_run h s.accesses) ≡ lost_by w n d
-lost_told w n g held d h s read strong device free order own sound =
+pub lost_told : (p : Point) (held : ℕ → ℕ) (d : ℕ) (h : List Kept) (s : LineageState) → IsRead p.setting p.reading → is_weak p.setting.mode ≡ false → is_device p.setting d ≡ true → ((q : ℕ) → grips_command p.grips q d ≡ false) → OrderIsKept p held → LineageIsKept p d s
+    → ((r : ℕ) → is_none (doom_of h r) ≡ not (is_doomed p.reading r)) → option_map (λ r. r.0) (lost_run h s.accesses) ≡ lost_by p.setting p.reading d
+lost_told p held d h s read strong device free order own sound =
     ap (option_map (λ (r : RunNo). r.0)) (lost_acquired h s.accesses none ∙ ap (option_map (λ (x : Access). x.run)) (λ i. find (λ (x : Access). is_acquired x.status && seen x.view i) s.accesses))
-    ∙ number (find is_lost_access s.accesses) ∙ sym (lost_read w n g held d s read strong device free order own)
+    ∙ number (find is_lost_access s.accesses) ∙ sym (lost_read p.setting p.reading p.grips held d s read strong device free order own)
   where
     number : (o : Option Access) → option_map (λ (r : RunNo). r.0) (option_map (λ (x : Access). x.run) o) ≡ option_map (λ x. x.run.0) o
     number None = refl
@@ -117,13 +118,13 @@ lost_told w n g held d h s read strong device free order own sound =
     seen (Some Up) = refl
     seen (Some Down) = refl
 
-    sound_one : (x : ℕ) (b : Bool) → is_doomed n x ≡ b → (is_acquired (if own.passed x then Released else status_by_answers w n g x d) && not (is_none (doom_of h x))) ≡ false
-    sound_one x true e = ap (λ a. a && not (is_none (doom_of h x))) (unacquired w n g own.passed d x (free x) e)
-    sound_one x false e = ap (λ b. is_acquired (if own.passed x then Released else status_by_answers w n g x d) && not b) (sound x ∙ ap not e) ∙ and-false (is_acquired (if own.passed x then Released else status_by_answers w n g x d))
+    sound_one : (x : ℕ) (b : Bool) → is_doomed p.reading x ≡ b → (is_acquired (if own.passed x then Released else status_by_answers p x d) && not (is_none (doom_of h x))) ≡ false
+    sound_one x true e = ap (λ a. a && not (is_none (doom_of h x))) (unacquired p.setting p.reading p.grips own.passed d x (free x) e)
+    sound_one x false e = ap (λ b. is_acquired (if own.passed x then Released else status_by_answers p x d) && not b) (sound x ∙ ap not e) ∙ and-false (is_acquired (if own.passed x then Released else status_by_answers p x d))
 
     none : list_any (λ x. is_acquired x.status && not (is_sound h x)) s.accesses ≡ false
     none = ap (list_any (λ (x : Access). is_acquired x.status && not (is_sound h x))) own.accesses
-        ∙ along_none (uses w n d) (commits_write n d) (access_read w n g own.passed d) (λ (x : Access). is_acquired x.status && not (is_sound h x)) n.line (λ x there used. sound_one x (is_doomed n x) refl)
+        ∙ along_none (uses p.setting p.reading d) (commits_write p.reading d) (access_read p own.passed d) (λ (x : Access). is_acquired x.status && not (is_sound h x)) p.reading.line (λ x there used. sound_one x (is_doomed p.reading x) refl)
 
 -- the detector's grip is for no command
 pub probe_commands : (g : Grips) (d m : ℕ) (v : Option ℕ) → g d ≡ Some (record { maker = m; purpose = Probes v }) → (q : ℕ) → grips_command g q d ≡ false

@@ -27,7 +27,8 @@ use Rattle.window_order.specs.KeptOrders.{MayNote, is_first, noted_first}
 use Rattle.history_book.specs.ReadHistories.{HistoryState, read_in, with_entry}
 use Rattle.lineage_table.specs.Lineages.{LineageState, accesses_at, counted_up, lineage_at, with_lineage}
 use Rattle.lineage_table.specs.declared.accesses.Status.TheVariants.{Acquired, Scheduled}
-use Rattle.lock_leasing.specs.Configurations.{Commands, Grips, Undoes}
+use Rattle.lock_leasing.specs.Configurations.{Grips, point}
+use Rattle.lock_leasing.specs.declared.purposes.Purpose.TheVariants.{Commands, Undoes}
 use Rattle.serial_line.specs.KeptRuns.{AreKeptOf}
 use Rattle.serial_line.specs.Marks.{Mark, Marked, with_item}
 use Rattle.std.proofs.Common.{ap, arith, refl, subst, sym, ◌∙◌}
@@ -66,18 +67,18 @@ counted_noted r false false s = refl
 
 -- a command is answered Down whose device died
 pub order_died : {rounds : ℕ} (h h₁ h₂ : HistoryState) (g f : Grips) (held : ℕ → ℕ) (d : DeviceNo) (r k number : ℕ) (first last : Bool) (line fallen after : Marked) (table between later : List LineageState)
-    → IsRead h.setting (read_in h) → is_weak h.setting.mode ≡ false → OrderIsKept h.setting (read_in h) g held → IsWellFormed h.setting (entries_of h.history) → is_device h.setting d.0 ≡ true → g d.0 ≡ Some (record { maker = r; purpose = Commands k }) → d.0 < length h.setting.first
+    → IsRead h.setting (read_in h) → is_weak h.setting.mode ≡ false → OrderIsKept (point h.setting (read_in h) g) held → IsWellFormed h.setting (entries_of h.history) → is_device h.setting d.0 ≡ true → g d.0 ≡ Some (record { maker = r; purpose = Commands k }) → d.0 < length h.setting.first
     → h₁ ≡ with_entry h r (Fell d) → h₂ ≡ with_entry h₁ r (Did (run_no r) k Down) → f ≡ put g d.0 None
     → number ≡ (read_in h).fell d.0 + 1 → first ≡ is_first r (lineage_at table d.0) → HasFallen h d (if first then Some (run_no r) else None) number line fallen table between
     → last ≡ is_done_there h.setting (read_in h) r k → after ≡ fallen → later ≡ with_lineage between d.0 (noted_first r (is_first r (lineage_at between d.0)) ViewedDown None last)
     → OrderIsBeside rounds h g line table → OrderIsBeside rounds h₂ f after later
 order_died {rounds = rounds} h h₁ h₂ g f held d r k number first last line fallen after table between later read strong order formed device at below one two home number_is first_is fell last_is same noted kept =
     entry_kept h₁ h₂ f r (Did (run_no r) k Down) after later two
-    (subst (λ (x : HistoryState). IsOrderOf rounds x.setting (entry x.setting (read_in x) (Did (run_no r) k Down)) f after later) (sym one)
-    (subst (λ m. IsOrderOf rounds w (entry w m (Did (run_no r) k Down)) f after later) (sym (read_more w h.history r (Fell d)))
-    (subst (λ (x : Grips). IsOrderOf rounds w (entry w (entry w n (Fell d)) (Did (run_no r) k Down)) x after later) (sym home)
-    (subst (λ (x : Marked). IsOrderOf rounds w (entry w (entry w n (Fell d)) (Did (run_no r) k Down)) (put g d.0 None) x later) (sym same) (record {
-      table_is = fits_ordered w _ _ later strong (died_table w n g held d.0 r k d Down table later refl read order at changes (kept.table_is.ordered strong));
+    (subst (λ (x : HistoryState). IsOrderOf rounds (point x.setting (entry x.setting (read_in x) (Did (run_no r) k Down)) f) after later) (sym one)
+    (subst (λ m. IsOrderOf rounds (point w (entry w m (Did (run_no r) k Down)) f) after later) (sym (read_more w h.history r (Fell d)))
+    (subst (λ (x : Grips). IsOrderOf rounds (point w (entry w (entry w n (Fell d)) (Did (run_no r) k Down)) x) after later) (sym home)
+    (subst (λ (x : Marked). IsOrderOf rounds (point w (entry w (entry w n (Fell d)) (Did (run_no r) k Down)) (put g d.0 None)) x later) (sym same) (record {
+      table_is = fits_ordered (point w _ _) later strong (died_table w n g held d.0 r k d Down table later refl read order at changes (kept.table_is.ordered strong));
       line_is = subst (MarksAreKept (entry w (entry w n (Fell d)) (Did (run_no r) k Down)) (put g d.0 None)) (sym (fell.marks ∙ (λ i. with_item (place i) (Failed d (number_is i)) line.marks))) (marks_died w n g d.0 r k d Down line.marks refl out at kept.line_is);
       sealed = fell.sealed;
       runs = subst (AreKeptOf w.runs) (sym fell.runs) kept.runs;
@@ -93,7 +94,7 @@ order_died {rounds = rounds} h h₁ h₂ g f held d r k number first last line f
     out : IsOut w n d.0 r k
     out = out_is w n g d.0 r k order.grips at
 
-    own : LineageIsKept w n g d.0 (lineage_at table d.0)
+    own : LineageIsKept (point w n g) d.0 (lineage_at table d.0)
     own = (kept.table_is.ordered strong).each d.0 below
 
     turn : (is_first r (lineage_at table d.0) ≡ not (did n r d.0)) × MayNote r (lineage_at table d.0)
@@ -141,7 +142,7 @@ weak_place w n g d h accesses marks weak none lines =
 
 -- a command is answered Down whose device died
 pub order_died_weakly : {rounds : ℕ} (h h₁ h₂ : HistoryState) (g f : Grips) (d : DeviceNo) (r k number : ℕ) (first : Bool) (line fallen after : Marked) (table between later : List LineageState)
-    → is_weak h.setting.mode ≡ true → GripsFit h.setting (read_in h) g → g d.0 ≡ Some (record { maker = r; purpose = Commands k }) → d.0 < length h.setting.first
+    → is_weak h.setting.mode ≡ true → GripsFit (point h.setting (read_in h) g) → g d.0 ≡ Some (record { maker = r; purpose = Commands k }) → d.0 < length h.setting.first
     → h₁ ≡ with_entry h r (Fell d) → h₂ ≡ with_entry h₁ r (Did (run_no r) k Down) → f ≡ put g d.0 None
     → number ≡ (read_in h).fell d.0 + 1 → first ≡ is_first r (lineage_at table d.0) → HasFallen h d (if first then Some (run_no r) else None) number line fallen table between
     → after ≡ fallen → later ≡ between → OrderIsBeside rounds h g line table → OrderIsBeside rounds h₂ f after later
@@ -165,20 +166,20 @@ order_died_weakly {rounds = rounds} h h₁ h₂ g f d r k number first line fall
     place : event_place h.history (if first then Some (run_no r) else None) (accesses_at table d.0) line.marks ≡ event_place_of w n d.0
     place = ap (λ b. event_place h.history (if b then Some (run_no r) else None) (accesses_at table d.0) line.marks) not_first ∙ weak_place w n g d.0 h.history (accesses_at table d.0) line.marks weak bare kept.line_is
 
-    fit_then : GripsFit h₁.setting (read_in h₁) g
-    fit_then = subst (λ (x : HistoryState). GripsFit x.setting (read_in x) g) (sym one) (subst (λ m. GripsFit w m g) (sym (read_more w h.history r (Fell d))) (fits_same w n (entry w n (Fell d)) g (λ q e j. refl) (λ q e. refl) fit))
+    fit_then : GripsFit (point h₁.setting (read_in h₁) g)
+    fit_then = subst (λ (x : HistoryState). GripsFit (point x.setting (read_in x) g)) (sym one) (subst (λ m. GripsFit (point w m g)) (sym (read_more w h.history r (Fell d))) (fits_same w n (entry w n (Fell d)) g (λ q e j. refl) (λ q e. refl) fit))
 
 -- a write is dropped that was to be undone on a device which died
 pub order_undo_died : {rounds : ℕ} (h h₁ h₂ : HistoryState) (g f : Grips) (held : ℕ → ℕ) (d : DeviceNo) (r v number : ℕ) (line after : Marked) (table later : List LineageState)
-    → IsRead h.setting (read_in h) → is_weak h.setting.mode ≡ false → OrderIsKept h.setting (read_in h) g held → IsWellFormed h.setting (entries_of h.history) → is_device h.setting d.0 ≡ true → g d.0 ≡ Some (record { maker = r; purpose = Undoes v }) → d.0 < length h.setting.first
+    → IsRead h.setting (read_in h) → is_weak h.setting.mode ≡ false → OrderIsKept (point h.setting (read_in h) g) held → IsWellFormed h.setting (entries_of h.history) → is_device h.setting d.0 ≡ true → g d.0 ≡ Some (record { maker = r; purpose = Undoes v }) → d.0 < length h.setting.first
     → h₁ ≡ with_entry h r (Fell d) → h₂ ≡ with_entry h₁ r (Undid (run_no r) d false) → f ≡ put g d.0 None → number ≡ (read_in h).fell d.0 + 1 → HasFallen h d None number line after table later
     → OrderIsBeside rounds h g line table → OrderIsBeside rounds h₂ f after later
 order_undo_died {rounds = rounds} h h₁ h₂ g f held d r v number line after table later read strong order formed device at below one two home number_is fell kept =
     entry_kept h₁ h₂ f r (Undid (run_no r) d false) after later two
-    (subst (λ (x : HistoryState). IsOrderOf rounds x.setting (entry x.setting (read_in x) (Undid (run_no r) d false)) f after later) (sym one)
-    (subst (λ m. IsOrderOf rounds w (entry w m (Undid (run_no r) d false)) f after later) (sym (read_more w h.history r (Fell d)))
-    (subst (λ (x : Grips). IsOrderOf rounds w (entry w (entry w n (Fell d)) (Undid (run_no r) d false)) x after later) (sym home) (record {
-      table_is = fits_ordered w _ _ later strong (undo_died_table w n g d.0 r v false table later at counted (kept.table_is.ordered strong));
+    (subst (λ (x : HistoryState). IsOrderOf rounds (point x.setting (entry x.setting (read_in x) (Undid (run_no r) d false)) f) after later) (sym one)
+    (subst (λ m. IsOrderOf rounds (point w (entry w m (Undid (run_no r) d false)) f) after later) (sym (read_more w h.history r (Fell d)))
+    (subst (λ (x : Grips). IsOrderOf rounds (point w (entry w (entry w n (Fell d)) (Undid (run_no r) d false)) x) after later) (sym home) (record {
+      table_is = fits_ordered (point w _ _) later strong (undo_died_table w n g d.0 r v false table later at counted (kept.table_is.ordered strong));
       line_is = subst (MarksAreKept (entry w (entry w n (Fell d)) (Undid (run_no r) d false)) (put g d.0 None)) (sym (fell.marks ∙ (λ i. with_item (place i) (Failed d (number_is i)) line.marks)))
           (marks_undone w (entry w n (Fell d)) (put g d.0 None) r d.0 false _ (marks_undo_home (entry w n (Fell d)) g r d.0 v _ at (marks_fell w n g d line.marks kept.line_is)));
       sealed = fell.sealed;

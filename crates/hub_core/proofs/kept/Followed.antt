@@ -22,7 +22,7 @@ use Rattle.home_types.specs.declared.items.Item.TheVariants.{Back, Failed, Ran}
 use Rattle.home_types.specs.declared.numbers.RunNo.{RunNo}
 use Rattle.hub_core.proofs.windows.StrongChoices.{IsPlacing}
 use Rattle.hub_core.specs.HubKept.{FollowersStand}
-use Rattle.lock_leasing.specs.Configurations.{Grips}
+use Rattle.lock_leasing.specs.Configurations.{Grips, point}
 use Rattle.lock_leasing.specs.Order.{is_in_line}
 use Rattle.lock_leasing.specs.Places.{binds, in_order}
 use Rattle.lock_leasing.specs.Waits.{follow_wait}
@@ -170,7 +170,7 @@ leader_ended w n r f none leads = by_end (n.run f.0).ended (ap unended (sym lead
     by_end (Some x) e = refl
 
 -- a run that binds is none of the items that do not
-unbound : (w : Setting) (n : Reading) (g : Grips) (r f : ℕ) (items : List Item) → (follows w.runs r f && is_committed n f) ≡ true → list_any (binds w n g r) items ≡ false → list_any (is_ran f) items ≡ false
+unbound : (w : Setting) (n : Reading) (g : Grips) (r f : ℕ) (items : List Item) → (follows w.runs r f && is_committed n f) ≡ true → list_any (binds (point w n g) r) items ≡ false → list_any (is_ran f) items ≡ false
 unbound w n g r f [] bound none = refl
 unbound w n g r f (Ran x ∷ is) bound none = elim (x.0 == f) as (λ b. (x.0 == f) ≡ b → (b || list_any (is_ran f) is) ≡ false) [
   | true ↦ (λ e. let same : x.0 ≡ f = grind (arith, common_steps) in let here : (follows w.runs r x.0 && is_committed n x.0) ≡ true = ap (λ k. follows w.runs r k && is_committed n k) same ∙ bound in absurd (grind (arith, common_steps)))
@@ -179,7 +179,7 @@ unbound w n g r f (Ran x ∷ is) bound none = elim (x.0 == f) as (λ b. (x.0 == 
 unbound w n g r f (Failed d k ∷ is) bound none = unbound w n g r f is bound (grind (arith, common_steps))
 unbound w n g r f (Back d k ∷ is) bound none = unbound w n g r f is bound (grind (arith, common_steps))
 
-pub followed_placed : (w : Setting) (n : Reading) (g : Grips) (r at m : ℕ) → Standing n → is_none (n.run r).placed ≡ true → IsPlacing w n g r at m → FollowersStand w n → FollowersStand w (entry w n (Placed (run_no r) at m))
+pub followed_placed : (w : Setting) (n : Reading) (g : Grips) (r at m : ℕ) → Standing n → is_none (n.run r).placed ≡ true → IsPlacing (point w n g) r at m → FollowersStand w n → FollowersStand w (entry w n (Placed (run_no r) at m))
 unfolding split_of
 followed_placed w n g r at m stands unplaced place all = record { ended = ends; behind_it = stands_behind }
   where

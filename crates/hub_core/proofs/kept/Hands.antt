@@ -9,7 +9,8 @@ use Rattle.hub_core.proofs.kept.Finds.{find_first, find_none, find_same, none_do
 use Rattle.hub_core.proofs.kept.SetPlaces.{get_set}
 use Rattle.hub_core.specs.Away.{with_hand}
 use Rattle.hub_core.specs.HubsKept.{HandsAre}
-use Rattle.lock_leasing.specs.Configurations.{Grip, Grips, Purpose, has_grip}
+use Rattle.lock_leasing.specs.Configurations.{Grip, Grips, has_grip, point}
+use Rattle.lock_leasing.specs.declared.purposes.Purpose.{Purpose}
 use Rattle.lock_leasing.specs.Places.{GripsFit}
 use Rattle.lock_leasing.specs.Waits.{grip_wait}
 use Rattle.std.proofs.Common.{ap, arith, inl, inr, refl, subst, sym, ◌∙◌}
@@ -86,7 +87,7 @@ hand_goes w g f r d purpose hands after run within free home gone set k =
         (λ y before. ap (λ o. unwrap_or (option_map (λ p. p.maker == r) o) false) (put_other g d.0 (Some grip) y (λ same. absurd (omega (arith, same, before)))) ∙ none_does (has_grip g r) 0 (length w.first) free y (omega arith) (omega (arith, before, within)))
 
 -- .. and comes back to one that holds no other
-pub hand_comes : (w : Setting) (n : Reading) (g f : Grips) (r d : ℕ) (purpose : Purpose) (hands after : List (Option DeviceNo)) → is_run w.runs r ≡ true → g d ≡ Some (record { maker = r; purpose = purpose }) → GripsFit w n g → f ≡ put g d None → after ≡ slice_set hands (r - 1) None
+pub hand_comes : (w : Setting) (n : Reading) (g f : Grips) (r d : ℕ) (purpose : Purpose) (hands after : List (Option DeviceNo)) → is_run w.runs r ≡ true → g d ≡ Some (record { maker = r; purpose = purpose }) → GripsFit (point w n g) → f ≡ put g d None → after ≡ slice_set hands (r - 1) None
     → HandsAre w g hands → HandsAre w f after
 hand_comes w n g f r d purpose hands after run out fit home set k =
     subst (λ (x : Grips). HandsAre w x after) (sym home) (subst (HandsAre w new) (sym set)
@@ -123,7 +124,7 @@ probe_comes w g f d purpose hands out home k = subst (λ (x : Grips). HandsAre w
 
 -- whoever's grip it was
 pub hands_come : (w : Setting) (n : Reading) (g : Grips) (maker d : ℕ) (purpose : Purpose) (hands : List (Option DeviceNo))
-    → (nat_lt 0 maker ≡ true → is_run w.runs maker ≡ true) → g d ≡ Some (record { maker = maker; purpose = purpose }) → GripsFit w n g → HandsAre w g hands
+    → (nat_lt 0 maker ≡ true → is_run w.runs maker ≡ true) → g d ≡ Some (record { maker = maker; purpose = purpose }) → GripsFit (point w n g) → HandsAre w g hands
     → HandsAre w (put g d None) (with_hand hands maker None)
 hands_come w n g maker d purpose hands run out fit k = elim (nat_lt 0 maker) as (λ b. nat_lt 0 maker ≡ b → HandsAre w (put g d None) (if b then slice_set hands (maker - 1) None else hands)) [
   | true ↦ (λ some. hand_comes w n g (put g d None) maker d purpose hands (slice_set hands (maker - 1) None) (run some) out fit refl refl k)

@@ -32,7 +32,9 @@ use Rattle.hub_core.specs.HubKept.{ActsInTurn, FollowersStand, HistoryIsKept, No
 use Rattle.legal_days.specs.Isolation.{is_alone, is_isolated}
 use Rattle.legal_days.specs.JustifiedAborts.{abort_is_justified, shows}
 use Rattle.hub_core.specs.Openings.{MayOpen, is_fcfs, is_mode}
-use Rattle.lock_leasing.specs.Configurations.{Commands, Configuration, Grip, Grips, Purpose, grips_command, has_grip, is_command, read_of}
+use Rattle.lock_leasing.specs.Configurations.{Configuration, Grip, Grips, grips_command, has_grip, is_command, point, point_of, read_of}
+use Rattle.lock_leasing.specs.declared.purposes.Purpose.TheVariants.{Commands}
+use Rattle.lock_leasing.specs.declared.purposes.Purpose.{Purpose}
 use Rattle.lock_leasing.specs.Places.{IsScheduled, PlacesAreScheduled}
 use Rattle.lock_leasing.specs.Waits.{down_at_end, strict_wait}
 use Rattle.lock_leasing.specs.Words.{has_touched, live_before, live_runs, stamp_of}
@@ -56,7 +58,7 @@ pub record MayAdd (s : Configuration) (e : Entry) (m : ℕ) (g : Grips) : Type 0
   pub moment : (entry s.setting (read_of s) e).moment ≤ m
   pub in_order : s.setting.mode.scheduler ≡ Fcfs → IsTrue (placed_in_order (entry s.setting (read_of s) e) (entry s.setting (read_of s) e).line)
   pub followed : FollowersStand s.setting (entry s.setting (read_of s) e)
-  pub in_turn : ActsInTurn s.setting (entry s.setting (read_of s) e) g
+  pub in_turn : ActsInTurn (point s.setting (entry s.setting (read_of s) e) g)
   pub first : NoneAnsweredDoomed (entry s.setting (read_of s) e) g
 
 -- the configuration with one entry more
@@ -75,7 +77,7 @@ history_added s maker m g e may kept =
       unrevoked = λ first_come. subst (λ h. IsTrue (list_all keeps_leases h)) (sym entries) (list_all-append keeps_leases (entries_of s.history) (e ∷ []) ∙ rw (kept.unrevoked first_come, may.unrevoked first_come) refl);
       in_order = λ first_come. subst (λ n. IsTrue (placed_in_order n n.line)) (sym read) (may.in_order first_come);
       followed = subst (λ n. FollowersStand s.setting n) (sym read) may.followed;
-      in_turn = subst (λ n. ActsInTurn s.setting n g) (sym read) may.in_turn;
+      in_turn = subst (λ n. ActsInTurn (point s.setting n g)) (sym read) may.in_turn;
       first = subst (λ n. NoneAnsweredDoomed n g) (sym read) may.first;
     }
   where
@@ -90,7 +92,7 @@ history_added s maker m g e may kept =
 -- where a run acts it waits for none, also when fewer runs are live and no other one stands before it
 turn_by : (w : Setting) (n m : Reading) (h : Grips) → ((q : ℕ) → is_live m q ≡ true → live_before m q ≡ live_runs m (before q n.line))
     → ((q : ℕ) → is_live m q ≡ true → is_live n q ≡ true)
-    → ((q d : ℕ) → IsTrue (is_live m q && (has_touched m h q d || has_grip h q d)) → strict_wait w n q ≡ None) → ActsInTurn w m h
+    → ((q d : ℕ) → IsTrue (is_live m q && (has_touched m h q d || has_grip h q d)) → strict_wait w n q ≡ None) → ActsInTurn (point w m h)
 turn_by w n m h line fewer waitless q d acts = strict_fewer_by w.runs w.kinds w.first w.mode.model w.mode.scheduler n m q (line q (and_parts (is_live m q) (has_touched m h q d || has_grip h q d) acts).0) (λ x there now. fewer x now) (waitless q d acts)
 
 -- a run that acts with less acts with more
@@ -120,7 +122,9 @@ fewer_pass g h test d less = by_grip (h d) refl
     by_grip (Some p) at e = ap (λ o. unwrap_or (option_map test o) false) (less d p at) ∙ e
 
 -- where no run becomes live or has an answer or a grip more, and no other one stands before a live run
-pub turn_less : (w : Setting) (n m : Reading) (g h : Grips) → ((q : ℕ) → is_live m q ≡ true → live_before m q ≡ live_runs m (before q n.line)) → ((q : ℕ) → is_live m q ≡ true → is_live n q ≡ true) → ((q d : ℕ) → did m q d ≡ did n q d) → AreFewer h g → ActsInTurn w n g → ActsInTurn w m h
+pub turn_less : (w : Setting) (n m : Reading) (g h : Grips) → ((q : ℕ) → is_live m q ≡ true → live_before m q ≡ live_runs m (before q n.line))
+    → ((q : ℕ) → is_live m q ≡ true → is_live n q ≡ true) → ((q d : ℕ) → did m q d ≡ did n q d) → AreFewer h g → ActsInTurn (point w n g)
+    → ActsInTurn (point w m h)
 turn_less w n m g h line fewer same less turn = turn_by w n m h line fewer (λ q d acts. turn q d (acts_more _ _ _ _ _ _ _ _ (fewer q) (same_true (same q d)) (fewer_pass g h (λ p. (p.maker == q) && is_command p.purpose) d less) (fewer_pass g h (λ p. p.maker == q) d less) acts))
 
 -- a command that is out is still the first one since a doom
@@ -137,7 +141,7 @@ stamp_in o = unwrap_or (option_map (λ p. p.stamp) o.placed) 0
 order_kept : (n m : Reading) → m.line ≡ n.line → ((q : ℕ) → stamp_of m q ≡ stamp_of n q) → IsTrue (placed_in_order n n.line) → IsTrue (placed_in_order m m.line)
 order_kept n m line same ordered = ap (placed_in_order m) line ∙ same_order n m n.line same ∙ ordered
 
-arrival_turn : (w : Setting) (n : Reading) (g : Grips) (r m : ℕ) → ActsInTurn w n g → ActsInTurn w (entry w n (Arrived (run_no r) m)) g
+arrival_turn : (w : Setting) (n : Reading) (g : Grips) (r m : ℕ) → ActsInTurn (point w n g) → ActsInTurn (point w (entry w n (Arrived (run_no r) m)) g)
 arrival_turn w n g r m turn = turn_less w n (entry w n (Arrived (run_no r) m)) g g (λ q now. refl) (λ q. same_true (put_keeps (λ o. is_some o.placed && is_none o.ended) n.run r _ refl q)) (λ q d. put_keeps (λ o. is_some (o.on d).view) n.run r _ refl q) (same_grips g) turn
 
 has_none : (g : Grips) (r : ℕ) → ((d : ℕ) → has_grip g r d ≡ false) → (d : ℕ) → grips_command g r d ≡ false
@@ -148,7 +152,9 @@ has_none g r none d = by_grip (g d) (none d)
     by_grip (Some p) e = grind (arith, common_steps)
 
 -- a run is placed at the end
-last_turn : (w : Setting) (n : Reading) (g : Grips) (r m : ℕ) → scheduler_of w.mode ≡ Fcfs → Standing n → is_none (n.run r).placed ≡ true → ((d : ℕ) → did n r d ≡ false) → ((d : ℕ) → has_grip g r d ≡ false) → ActsInTurn w n g → ActsInTurn w (entry w n (Placed (run_no r) (length n.line) m)) g
+last_turn : (w : Setting) (n : Reading) (g : Grips) (r m : ℕ) → scheduler_of w.mode ≡ Fcfs → Standing n → is_none (n.run r).placed ≡ true
+    → ((d : ℕ) → did n r d ≡ false) → ((d : ℕ) → has_grip g r d ≡ false) → ActsInTurn (point w n g)
+    → ActsInTurn (point w (entry w n (Placed (run_no r) (length n.line) m)) g)
 last_turn w n g r m first stands unplaced untouched' gripless turn q d acts = elim (q == r) as (λ b. (q == r) ≡ b → strict_wait w then' q ≡ None) [
   | true ↦ (λ at. absurd (idle (grind (arith, common_steps))))
   | false ↦ (λ at. others (grind (arith, common_steps)))
@@ -188,9 +194,11 @@ last_turn w n g r m first stands unplaced untouched' gripless turn q d acts = el
 
 -- .. or anywhere, where no run waits for another one by its model
 placing_turn : (w : Setting) (n : Reading) (g : Grips) (r at m : ℕ) → Standing n → is_none (n.run r).placed ≡ true → ((d : ℕ) → did n r d ≡ false)
-    → ((d : ℕ) → has_grip g r d ≡ false) → (scheduler_of w.mode ≡ Fcfs → at ≡ length n.line) → ActsInTurn w n g
-    → ActsInTurn w (entry w n (Placed (run_no r) at m)) g
-placing_turn w n g r at m stands unplaced untouched' gripless last turn q d acts = by_model w.mode.model w.mode.scheduler last (λ first end. subst (λ k. ActsInTurn w (entry w n (Placed (run_no r) k m)) g) (sym end) (last_turn w n g r m first stands unplaced untouched' gripless turn) q d acts)
+    → ((d : ℕ) → has_grip g r d ≡ false) → (scheduler_of w.mode ≡ Fcfs → at ≡ length n.line) → ActsInTurn (point w n g)
+    → ActsInTurn (point w (entry w n (Placed (run_no r) at m)) g)
+placing_turn w n g r at m stands unplaced untouched' gripless last turn q d acts =
+    by_model w.mode.model w.mode.scheduler last (λ first end. subst (λ k. ActsInTurn (point w (entry w n (Placed (run_no r) k m)) g)) (sym end)
+    (last_turn w n g r m first stands unplaced untouched' gripless turn) q d acts)
   where
     then' : Reading
     then' = entry w n (Placed (run_no r) at m)
@@ -212,7 +220,7 @@ holds_is g r d p out = ap (λ o. unwrap_or (option_map (λ x. x.maker == r) o) f
     self = grind (arith, common_steps)
 
 -- a run that waits for none is answered, and fewer grips are out
-answer_turn : (w : Setting) (n : Reading) (g h : Grips) (r k : ℕ) (a : Answer) → AreFewer h g → strict_wait w n r ≡ None → ActsInTurn w n g → ActsInTurn w (entry w n (Did (run_no r) k a)) h
+answer_turn : (w : Setting) (n : Reading) (g h : Grips) (r k : ℕ) (a : Answer) → AreFewer h g → strict_wait w n r ≡ None → ActsInTurn (point w n g) → ActsInTurn (point w (entry w n (Did (run_no r) k a)) h)
 answer_turn w n g h r k a less waitless turn = turn_by w n (entry w n (Did (run_no r) k a)) h (λ q now. refl) (λ q. same_true (live q)) (λ q e acts. elim (q == r) as (λ b. (q == r) ≡ b → strict_wait w n q ≡ None) [
   | true ↦ (λ at. let same : q ≡ r = grind (arith, common_steps) in subst (λ x. strict_wait w n x ≡ None) (sym same) waitless)
   | false ↦ (λ at. turn q e (acts_more _ _ _ _ _ _ _ _ (same_true (live q)) (same_true (did_is q e (grind (arith, common_steps)))) (fewer_pass g h (λ p. (p.maker == q) && is_command p.purpose) e less) (fewer_pass g h (λ p. p.maker == q) e less) acts))
@@ -241,11 +249,11 @@ ends_live n r o over q = elim (q == r) as (λ b. (is_some (if b then o else n.ru
   | false ↦ (λ e. e)
 ]
 
-commit_turn : (w : Setting) (n : Reading) (g : Grips) (r : ℕ) → ActsInTurn w n g → ActsInTurn w (entry w n (Ended (run_no r) Committed)) g
+commit_turn : (w : Setting) (n : Reading) (g : Grips) (r : ℕ) → ActsInTurn (point w n g) → ActsInTurn (point w (entry w n (Ended (run_no r) Committed)) g)
 commit_turn w n g r turn = turn_less w n (entry w n (Ended (run_no r) Committed)) g g (λ q now. refl) (ends_live n r (record (n.run r) { ended = Some Committed }) refl) (λ q d. put_keeps (λ o. is_some (o.on d).view) n.run r _ refl q) (same_grips g) turn
 
 -- a run that is aborted stands before no run
-aborted_turn : (w : Setting) (n : Reading) (g : Grips) (r : ℕ) (cause : Cause) → ActsInTurn w n g → ActsInTurn w (entry w n (Ended (run_no r) (Aborted cause))) g
+aborted_turn : (w : Setting) (n : Reading) (g : Grips) (r : ℕ) (cause : Cause) → ActsInTurn (point w n g) → ActsInTurn (point w (entry w n (Ended (run_no r) (Aborted cause))) g)
 aborted_turn w n g r cause turn = turn_less w n m g g (λ q now. live_before_without n m r q refl gone (stays q now)) fewer (λ q d. put_keeps (λ o. is_some (o.on d).view) n.run r new refl q) (same_grips g) turn
   where
     m : Reading
@@ -263,17 +271,17 @@ aborted_turn w n g r cause turn = turn_less w n m g g (λ q now. live_before_wit
     stays : (q : ℕ) → is_live m q ≡ true → q ≢ r
     stays q now same = let both : true ≡ false = sym now ∙ ap (is_live m) same ∙ gone in absurd (cc)
 
-doom_turn : (w : Setting) (n : Reading) (g : Grips) (r : ℕ) (cause : Cause) → ActsInTurn w n g → ActsInTurn w (entry w n (Doomed (run_no r) cause)) g
+doom_turn : (w : Setting) (n : Reading) (g : Grips) (r : ℕ) (cause : Cause) → ActsInTurn (point w n g) → ActsInTurn (point w (entry w n (Doomed (run_no r) cause)) g)
 doom_turn w n g r cause turn = turn_less w n (entry w n (Doomed (run_no r) cause)) g g (λ q now. refl) (λ q. same_true (doomed_live w n (run_no r) cause q)) (λ q d. put_keeps (λ o. is_some (o.on d).view) n.run r _ refl q) (same_grips g) turn
 
-undo_turn : (w : Setting) (n : Reading) (g h : Grips) (r d : ℕ) (drove : Bool) → AreFewer h g → ActsInTurn w n g → ActsInTurn w (entry w n (Undid (run_no r) (device_no d) drove)) h
+undo_turn : (w : Setting) (n : Reading) (g h : Grips) (r d : ℕ) (drove : Bool) → AreFewer h g → ActsInTurn (point w n g) → ActsInTurn (point w (entry w n (Undid (run_no r) (device_no d) drove)) h)
 undo_turn w n g h r d drove less turn =
     turn_less w n (entry w n (Undid (run_no r) (device_no d) drove)) g h (λ q now. refl)
     (λ q. same_true (put_keeps (λ o. is_some o.placed && is_none o.ended) n.run r _ refl q))
     (λ q e. put_keeps (λ o. is_some (o.on e).view) n.run r _ (put_keeps (λ x. is_some x.view) (n.run r).on d _ refl e) q) less turn
 
 -- one device more is out: its maker waits for none, where it is a live run
-pub grip_turn : (w : Setting) (n : Reading) (g : Grips) (r d : ℕ) (p : Purpose) → (is_live n r ≡ true → strict_wait w n r ≡ None) → ActsInTurn w n g → ActsInTurn w n (put g d (Some (record { maker = r; purpose = p })))
+pub grip_turn : (w : Setting) (n : Reading) (g : Grips) (r d : ℕ) (p : Purpose) → (is_live n r ≡ true → strict_wait w n r ≡ None) → ActsInTurn (point w n g) → ActsInTurn (point w n (put g d (Some (record { maker = r; purpose = p }))))
 grip_turn w n g r d p alone turn q e acts = elim (q == r) as (λ b. (q == r) ≡ b → strict_wait w n q ≡ None) [
   | true ↦ (λ at. let same : q ≡ r = grind (arith, common_steps) in subst (λ x. strict_wait w n x ≡ None) (sym same) (alone (subst (λ x. is_live n x ≡ true) same (and_parts (is_live n q) (has_touched n (put g d (Some new)) q e || has_grip (put g d (Some new)) q e) acts).0)))
   | false ↦ (λ at. turn q e (acts_more _ _ _ _ _ _ _ _ (λ x. x) (λ x. x) (other_command (grind (arith, common_steps))) (other_grip (grind (arith, common_steps))) acts))
@@ -355,7 +363,7 @@ first_served Global scheduler e = refl
 first_served Partitioned scheduler e = refl
 first_served Eventual scheduler e = e
 
-pub placing_may : (s : Configuration) (r at m : ℕ) → may_follow s.setting (read_of s) (Placed (run_no r) at m) ≡ true → (read_of s).moment ≤ m → IsScheduled s.setting (read_of s) (Placed (run_no r) at m) → IsPlacing s.setting (read_of s) s.grips r at m
+pub placing_may : (s : Configuration) (r at m : ℕ) → may_follow s.setting (read_of s) (Placed (run_no r) at m) ≡ true → (read_of s).moment ≤ m → IsScheduled s.setting (read_of s) (Placed (run_no r) at m) → IsPlacing (point_of s) r at m
     → is_none ((read_of s).run r).placed ≡ true → ((d : ℕ) → has_grip s.grips r d ≡ false) → HistoryIsKept s → MayAdd s (Placed (run_no r) at m) m s.grips
 placing_may s r at m follows later scheduled place unplaced gripless kept =
     record {
@@ -469,7 +477,7 @@ ends_up n g r (d ∷ ds) none = elim (has_touched n g r d && not (n.up d)) as (�
     here : (t c u : Bool) → ((t || c) && not u) ≡ false → (not t || u) ≡ true
     here t c u e = grind (arith, common_steps)
 
-pub commit_may : (s : Configuration) (r m : ℕ) → may_follow s.setting (read_of s) (Ended (run_no r) Committed) ≡ true → (read_of s).moment ≤ m → down_at_end s.setting (read_of s) s.grips r ≡ None → HistoryIsKept s → MayAdd s (Ended (run_no r) Committed) m s.grips
+pub commit_may : (s : Configuration) (r m : ℕ) → may_follow s.setting (read_of s) (Ended (run_no r) Committed) ≡ true → (read_of s).moment ≤ m → down_at_end (point_of s) r ≡ None → HistoryIsKept s → MayAdd s (Ended (run_no r) Committed) m s.grips
 commit_may s r m follows later up kept =
     record {
       follows = follows;

@@ -34,7 +34,9 @@ use Rattle.hub_core.specs.Openings.{MayOpen, names_values_of}
 use Rattle.hub_core.specs.Steps.{HandsOut, Moves, after_choice, after_take, answers_down, at_moment, down_entries, opened}
 use Rattle.lock_leasing.proofs.ClearPlaces.{scheduled_is_clear, scheduled_stands}
 use Rattle.lock_leasing.proofs.Effects.{effect_is}
-use Rattle.lock_leasing.specs.Configurations.{Commands, Configuration, Grip, Grips, Probes, Purpose, Undoes, has_grip, is_command, is_out, read_of}
+use Rattle.lock_leasing.specs.Configurations.{Configuration, Grip, Grips, Point, has_grip, is_command, is_out, point, read_of}
+use Rattle.lock_leasing.specs.declared.purposes.Purpose.TheVariants.{Commands, Probes, Undoes}
+use Rattle.lock_leasing.specs.declared.purposes.Purpose.{Purpose}
 use Rattle.lock_leasing.specs.Places.{At, DeniedBy, GripsFit, IsScheduled, MayBeOut, Placing, at_end, scheduled_place}
 use Rattle.lock_leasing.specs.Waits.{busy_wait, strict_wait}
 use Rattle.lock_leasing.specs.Words.{lease_deadline, overdue_for, value_without}
@@ -88,7 +90,7 @@ probes_out s m d new of_run = probes_fewer s s.history m (put s.grips d (Some ne
 pub kept_after : (s : Configuration) (rounds opened : ℕ) (held after : ℕ → ℕ) (h : List Kept) (m : ℕ) (g : Grips)
     → HistoryIsKept (record s { history = h; moment = m; grips = g })
     → ((d : ℕ) → probes_of (record s { history = h; moment = m; grips = g }) d ≤ probes_of s d) → UndosFit s.setting g
-    → OrderIsKept s.setting (reading s.setting (entries_of h)) g after → ConfigurationIsKept s rounds opened held
+    → OrderIsKept (point s.setting (reading s.setting (entries_of h)) g) after → ConfigurationIsKept s rounds opened held
     → ConfigurationIsKept (record s { history = h; moment = m; grips = g }) rounds opened after
 kept_after s rounds opened held after h m g history fewer undos order kept =
     record {
@@ -103,7 +105,7 @@ kept_after s rounds opened held after h m g history fewer undos order kept =
     }
 
 -- the moment and the grips alone
-pub history_same : (s : Configuration) (m : ℕ) (g : Grips) → (read_of s).moment ≤ m → ActsInTurn s.setting (read_of s) g → NoneAnsweredDoomed (read_of s) g → HistoryIsKept s → HistoryIsKept (record s { moment = m; grips = g })
+pub history_same : (s : Configuration) (m : ℕ) (g : Grips) → (read_of s).moment ≤ m → ActsInTurn (point s.setting (read_of s) g) → NoneAnsweredDoomed (read_of s) g → HistoryIsKept s → HistoryIsKept (record s { moment = m; grips = g })
 history_same s m g later turn first kept =
     record {
       well_formed = kept.well_formed;
@@ -129,21 +131,21 @@ kept_at s rounds opened m held kept =
 
 -- one entry more
 pub kept_with : (s : Configuration) (rounds opened maker m : ℕ) (held after : ℕ → ℕ) (g : Grips) (e : Entry) → MayAdd s e m g
-    → ((d : ℕ) → probes_of (added s maker m g e) d ≤ probes_of s d) → UndosFit s.setting g → OrderIsKept s.setting (entry s.setting (read_of s) e) g after
+    → ((d : ℕ) → probes_of (added s maker m g e) d ≤ probes_of s d) → UndosFit s.setting g → OrderIsKept (point s.setting (entry s.setting (read_of s) e) g) after
     → ConfigurationIsKept s rounds opened held → ConfigurationIsKept (added s maker m g e) rounds opened after
 kept_with s rounds opened maker m held after g e may fewer undos order kept =
-    kept_after s rounds opened held after (s.history ++ kept_by maker (e ∷ [])) m g (history_added s maker m g e may kept.history) fewer undos (subst (λ n. OrderIsKept s.setting n g after) (sym (read_with s maker (e ∷ []))) order) kept
+    kept_after s rounds opened held after (s.history ++ kept_by maker (e ∷ [])) m g (history_added s maker m g e may kept.history) fewer undos (subst (λ n. OrderIsKept (point s.setting n g) after) (sym (read_with s maker (e ∷ []))) order) kept
 
 -- two entries more
 pub kept_with_two : (s : Configuration) (rounds opened maker m : ℕ) (held after : ℕ → ℕ) (g : Grips) (e f : Entry) → MayAdd s e m g
     → MayAdd (added s maker m g e) f m g
     → ((d : ℕ) → probes_of (record s { history = s.history ++ kept_by maker (e ∷ f ∷ []); moment = m; grips = g }) d ≤ probes_of s d) → UndosFit s.setting g
-    → OrderIsKept s.setting (entry s.setting (entry s.setting (read_of s) e) f) g after → ConfigurationIsKept s rounds opened held
+    → OrderIsKept (point s.setting (entry s.setting (entry s.setting (read_of s) e) f) g) after → ConfigurationIsKept s rounds opened held
     → ConfigurationIsKept (record s { history = s.history ++ kept_by maker (e ∷ f ∷ []); moment = m; grips = g }) rounds opened after
 kept_with_two s rounds opened maker m held after g e f may next fewer undos order kept =
     kept_after s rounds opened held after (s.history ++ kept_by maker (e ∷ f ∷ [])) m g
     (subst (λ h. HistoryIsKept (record s { history = h; moment = m; grips = g })) (append_assoc s.history (kept_by maker (e ∷ [])) (kept_by maker (f ∷ []))) (history_added (added s maker m g e) maker m g f next (history_added s maker m g e may kept.history)))
-    fewer undos (subst (λ n. OrderIsKept s.setting n g after) (sym (read_with s maker (e ∷ f ∷ []))) order) kept
+    fewer undos (subst (λ n. OrderIsKept (point s.setting n g) after) (sym (read_with s maker (e ∷ f ∷ []))) order) kept
 
 -- one device more is out
 pub out_with : (g : Grips) (test : ℕ → Grip → Bool) (d : ℕ) (new : Grip) → test d new ≡ true → EachOut g test → EachOut (put g d (Some new)) test
@@ -157,7 +159,7 @@ pub out_less : (g : Grips) (test : ℕ → Grip → Bool) (d : ℕ) → EachOut 
 out_less g test d all e p at = all e p (less_one g d e p at)
 
 -- a run that is not live has no grip
-pub gripless : (w : Setting) (n : Reading) (g : Grips) (r d : ℕ) → GripsFit w n g → is_run w.runs r ≡ true → is_live n r ≡ false → has_grip g r d ≡ false
+pub gripless : (w : Setting) (n : Reading) (g : Grips) (r d : ℕ) → GripsFit (point w n g) → is_run w.runs r ≡ true → is_live n r ≡ false → has_grip g r d ≡ false
 gripless w n g r d fit run gone = by_grip (g d) refl
   where
     not_live : is_live n r ≡ true → ⊥
@@ -179,21 +181,21 @@ gripless w n g r d fit run gone = by_grip (g d) refl
     ] refl
 
 -- a place that the scheduler gives to a run that enters
-pub enters_place : (w : Setting) (n : Reading) (g : Grips) (r m : ℕ) (x : Split) → MayBeOut w n g → Enters w n g r m x → IsPlacing w n g r (length x.front) m
-enters_place w n g r m x out enters = let is = scheduled_stands w n g r m x enters.place in record { leader = enters.leader; clear = scheduled_is_clear w n g r m x out enters.place; sealed = is.sealed; within = is.within; last = λ first. last first }
+pub enters_place : (p : Point) (r m : ℕ) (x : Split) → MayBeOut p → Enters p r m x → IsPlacing p r (length x.front) m
+enters_place p r m x out enters = let is = scheduled_stands p.setting p.reading p.grips r m x enters.place in record { leader = enters.leader; clear = scheduled_is_clear p.setting p.reading p.grips r m x out enters.place; sealed = is.sealed; within = is.within; last = λ first. last first }
   where
     front_of : Placing → ℕ
     front_of (At s) = length s.front
     front_of (DeniedBy d x) = 0
 
-    at_the_end : scheduler_of w.mode ≡ Fcfs → scheduled_place w n g r m ≡ at_end n
+    at_the_end : scheduler_of p.setting.mode ≡ Fcfs → scheduled_place p r m ≡ at_end p.reading
     at_the_end first = rw first refl
 
-    last : scheduler_of w.mode ≡ Fcfs → length x.front ≡ length n.line
-    last first = ap front_of (sym enters.place ∙ at_the_end first) ∙ take_all n.line
+    last : scheduler_of p.setting.mode ≡ Fcfs → length x.front ≡ length p.reading.line
+    last first = ap front_of (sym enters.place ∙ at_the_end first) ∙ take_all p.reading.line
 
 -- .. is the scheduler's
-entered_is_scheduled : (w : Setting) (n : Reading) (g : Grips) (r m : ℕ) (x : Split) → MayBeOut w n g → Enters w n g r m x → IsScheduled w n (Placed (run_no r) (length x.front) m)
+entered_is_scheduled : (w : Setting) (n : Reading) (g : Grips) (r m : ℕ) (x : Split) → MayBeOut (point w n g) → Enters (point w n g) r m x → IsScheduled w n (Placed (run_no r) (length x.front) m)
 unfolding split_of
 entered_is_scheduled w n g r m x out enters = let is = scheduled_stands w n g r m x enters.place in (g, out, enters.place ∙ ap At is.parted, ap (λ y. length y.front) (sym is.parted))
 
@@ -218,7 +220,7 @@ take_kept s rounds opened held r m kept =
       arrives = λ run none ok shown clean. let follows : may_follow w n (Arrived (run_no r) now) ≡ true = first_follows w n (Arrived (run_no r) now) ok in
           moves (Arrived (run_no r) now) refl (arrival_may s r now follows later kept.history) (arrives_kept w n s.grips held r now read follows kept.order);
       enters = λ x enters ok shown clean. let follows : may_follow w n (Placed (run_no r) (length x.front) now) ≡ true = first_follows w n (Placed (run_no r) (length x.front) now) ok in
-          let place = enters_place w n s.grips r now x kept.order.grips.runs enters in
+          let place = enters_place (point w n s.grips) r now x kept.order.grips.runs enters in
           moves (Placed (run_no r) (length x.front) now) refl
           (placing_may s r (length x.front) now follows later (entered_is_scheduled w n s.grips r now x kept.order.grips.runs enters) place enters.unplaced
           (λ d. gripless w n s.grips r d kept.order.grips enters.run (unplaced (n.run r).placed enters.unplaced)) kept.history)
@@ -227,7 +229,7 @@ take_kept s rounds opened held r m kept =
           moves (Ended (run_no r) (Aborted cause)) refl (aborted_may s r now cause follows later kept.history) (aborts_kept w n s.grips held r cause read follows act.free (over kept.strong) kept.order);
       drops = λ cause d undoing down ok shown clean. let follows : may_follow w n (Undid (run_no r) (device_no d) false) ≡ true = first_follows w n (Undid (run_no r) (device_no d) false) ok in
           moves (Undid (run_no r) (device_no d) false) refl (drop_may s r d now follows later served kept.history) (dropped_kept w n s.grips held r d read undoing.act.live (ap is_some undoing.doomed) undoing.act.free undoing.next undoing.home down kept.order);
-      undoes = λ cause d undoing up ok shown clean. goes d (Undoes (value_without w n s.grips r d)) refl (undo_value w n s.grips r d (writes_fit w (entries_of s.history) values kept.history.well_formed) (values.first d undoing.device)) refl
+      undoes = λ cause d undoing up ok shown clean. goes d (Undoes (value_without (point w n s.grips) r d)) refl (undo_value (point w n s.grips) r d (writes_fit w (entries_of s.history) values kept.history.well_formed) (values.first d undoing.device)) refl
           (in_turn_wrote s r d undoing.act.live (effect_is n s.grips r d undoing.effect).0 kept.history)
           (undo_goes_kept w n s.grips held r d read undoing.act.live (ap is_some undoing.doomed) undoing.act.free undoing.next undoing.home up kept.order);
       revokes = λ c x run strong at ok shown clean. revokes c x run at (first_follows w n (Doomed (run_no x) (Revoked (run_no r) c.device (lease_deadline w n x c.device.0) now)) ok) (both (shows w n x (Revoked (run_no r) c.device (lease_deadline w n x c.device.0) now)) true shown).0;
@@ -243,7 +245,7 @@ take_kept s rounds opened held r m kept =
           (doomed_kept w n s.grips held r (DownAtEnd (device_no d)) read all.act.live kept.order);
       commits = λ all up ok shown clean. let follows : may_follow w n (Ended (run_no r) Committed) ≡ true = first_follows w n (Ended (run_no r) Committed) ok in
           moves (Ended (run_no r) Committed) refl (commit_may s r now follows later up kept.history) (commits_kept w n s.grips held r read follows all.act.free kept.order);
-    }) (take_follows w n s.grips r now (record { shaped = read.shaped; homed = staged.homed; moment = grind (arith, common_steps, later) })) (take_shows w n s.grips r now kept.strong) (take_is_clean w n s.grips r now kept.strong)
+    }) (take_follows w n s.grips r now (record { shaped = read.shaped; homed = staged.homed; moment = grind (arith, common_steps, later) })) (take_shows (point w n s.grips) r now kept.strong) (take_is_clean (point w n s.grips) r now kept.strong)
   where
     w : Setting
     w = s.setting
@@ -286,10 +288,10 @@ take_kept s rounds opened held r m kept =
     reached weak sees out up strong home answers = (grind (arith, common_steps), grind (arith, common_steps), grind (arith, common_steps))
 
     -- a step with one entry
-    moves : (e : Entry) → (entry w n e).rose ≡ n.rose → MayAdd s e now s.grips → OrderIsKept w (entry w n e) s.grips held → ConfigurationIsKept (added s r now s.grips e) rounds opened held
+    moves : (e : Entry) → (entry w n e).rose ≡ n.rose → MayAdd s e now s.grips → OrderIsKept (point w (entry w n e) s.grips) held → ConfigurationIsKept (added s r now s.grips e) rounds opened held
     moves e none may order = kept_with s rounds opened r now held held s.grips e may (probes_told s r now (e ∷ []) none) kept.undos order kept
 
-    goes : (d : ℕ) (p : Purpose) → is_of_run p ≡ true → undo_fits (kind_at w.kinds d) p ≡ true → not (is_command p && (n.run r).answered_doomed) ≡ true → strict_wait w n r ≡ None → OrderIsKept w n (put s.grips d (Some (record { maker = r; purpose = p }))) held
+    goes : (d : ℕ) (p : Purpose) → is_of_run p ≡ true → undo_fits (kind_at w.kinds d) p ≡ true → not (is_command p && (n.run r).answered_doomed) ≡ true → strict_wait w n r ≡ None → OrderIsKept (point w n (put s.grips d (Some (record { maker = r; purpose = p })))) held
         → ConfigurationIsKept (after_choice (at_moment s m) r (HandsOut d p)) rounds opened held
     goes d p of_run fits first alone order =
         kept_after s rounds opened held held s.history now (put s.grips d (Some (record { maker = r; purpose = p })))
@@ -299,7 +301,7 @@ take_kept s rounds opened held r m kept =
         (probes_out s now d (record { maker = r; purpose = p }) of_run) (out_with s.grips (λ e q. undo_fits (kind_at w.kinds e) q.purpose) d (record { maker = r; purpose = p }) fits kept.undos) order kept
 
     -- the doom of a borrower, whose lease is overdue
-    revokes : (c : Command) (x : ℕ) → Commanding w n s.grips r c → overdue_for w n s.grips r c.device.0 now ≡ Some x → may_follow w n (Doomed (run_no x) (Revoked (run_no r) c.device (lease_deadline w n x c.device.0) now)) ≡ true
+    revokes : (c : Command) (x : ℕ) → Commanding (point w n s.grips) r c → overdue_for (point w n s.grips) r c.device.0 now ≡ Some x → may_follow w n (Doomed (run_no x) (Revoked (run_no r) c.device (lease_deadline w n x c.device.0) now)) ≡ true
         → shows w n x (Revoked (run_no r) c.device (lease_deadline w n x c.device.0) now) ≡ true → ConfigurationIsKept (added s r now s.grips (Doomed (run_no x) (Revoked (run_no r) c.device (lease_deadline w n x c.device.0) now))) rounds opened held
     revokes c x run at follows shown =
         moves (Doomed (run_no x) cause) refl (doom_may s x now cause follows (λ first. absurd (let never : None ≡ Some x = sym (served_in_turn s rounds opened held r c.device.0 kept first run.act.live now) ∙ at in cc)) shown (omega (arith, later)) kept.history)
@@ -312,7 +314,7 @@ take_kept s rounds opened held r m kept =
         live = grind (arith, common_steps, follows)
 
     -- a command that is skipped
-    skipping : (c : Command) → Skipping w n s.grips r c → IsSkipped w n s.grips held r c
+    skipping : (c : Command) → Skipping (point w n s.grips) r c → IsSkipped w n s.grips held r c
     skipping c skip = record {
       read = read;
       live = skip.act.live;
@@ -325,7 +327,7 @@ take_kept s rounds opened held r m kept =
     }
 
     -- the answer Down with no call, and the doom of a must command
-    downs : (c : Command) → Commanding w n s.grips r c → IsNext w n s.grips r now c → busy_wait w n s.grips r c.device.0 ≡ false → answers_down w n r c.device.0 ≡ true
+    downs : (c : Command) → Commanding (point w n s.grips) r c → IsNext (point w n s.grips) r now c → busy_wait (point w n s.grips) r c.device.0 ≡ false → answers_down w n r c.device.0 ≡ true
         → Follows w n (Moves (down_entries r (next_of n r) c)) → Shows w n (Moves (down_entries r (next_of n r) c)) → IsClean w n (Moves (down_entries r (next_of n r) c)) → ConfigurationIsKept (after_choice (at_moment s m) r (Moves (down_entries r (next_of n r) c))) rounds opened held
     downs c run next home down ok shown clean =
         elim c.must as (λ b. c.must ≡ b → IsTrue (along w (may_follow w) n (entries b)) → IsTrue (along w (abort_is_justified w) n (entries b))

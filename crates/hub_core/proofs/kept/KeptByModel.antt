@@ -21,7 +21,8 @@ use Rattle.hub_core.specs.KeptByModel.{IsKeptByModel}
 use Rattle.hub_core.specs.Openings.{MayOpen}
 use Rattle.hub_core.specs.Steps.{after_give, after_take, after_take_probe, at_moment, opened}
 use Rattle.hub_core.specs.WeakKept.{WeakIsKept}
-use Rattle.lock_leasing.specs.Configurations.{Configuration, Grip, Probes, Undoes, read_of}
+use Rattle.lock_leasing.specs.Configurations.{Configuration, Grip, point_of, read_of}
+use Rattle.lock_leasing.specs.declared.purposes.Purpose.TheVariants.{Probes, Undoes}
 use Rattle.std.proofs.Common.{arith, refl, subst, sym, ◌∙◌}
 use Rattle.std.proofs.lemmas.Bool.{ltb-true}
 use Rattle.std.proofs.lemmas.Grind.{common_steps}
@@ -104,8 +105,8 @@ probe_taken_kept s rounds opened held d kept = by_model (IsKeptByModel (after_ta
 -- Where devices stand
 
 -- a device that is home, and counted up, is known to stand at its standing value
-pub stands_at_home : (s : Configuration) (rounds opened : ℕ) (held : ℕ → ℕ) (d : ℕ) → IsKeptByModel s rounds opened held → is_device s.setting d ≡ true → s.grips d ≡ None → (read_of s).up d ≡ true → held d ≡ standing_value s.setting (read_of s) s.grips d
-stands_at_home s rounds opened held d kept device home up = by_model (held d ≡ standing_value s.setting (read_of s) s.grips d) s rounds opened held kept
+pub stands_at_home : (s : Configuration) (rounds opened : ℕ) (held : ℕ → ℕ) (d : ℕ) → IsKeptByModel s rounds opened held → is_device s.setting d ≡ true → s.grips d ≡ None → (read_of s).up d ≡ true → held d ≡ standing_value (point_of s) d
+stands_at_home s rounds opened held d kept device home up = by_model (held d ≡ standing_value (point_of s) d) s rounds opened held kept
     (λ c. stands_home s.setting (read_of s) s.grips held d (read_kept s rounds opened held kept) c.order c.strong device home up)
     (λ c. c.held_is d (ltb-true d (length s.setting.first) device) ∙ sym (weak_standing s rounds opened held d c))
 

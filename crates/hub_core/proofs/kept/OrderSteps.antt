@@ -36,7 +36,9 @@ use Rattle.legal_days.proofs.Lists.{count_cons}
 use Rattle.lineage_table.specs.Accesses.{is_scheduled, status_of}
 use Rattle.lineage_table.specs.Lineages.{LineageState, TableIsOpened, committed_lineage, lineage_at, removed, undone, with_lineage}
 use Rattle.lineage_table.specs.declared.accesses.Status.TheVariants.{Acquired, Scheduled}
-use Rattle.lock_leasing.specs.Configurations.{Commands, Grip, Grips, Purpose, Undoes, grips_command, is_command, no_grips}
+use Rattle.lock_leasing.specs.Configurations.{Grip, Grips, Point, grips_command, is_command, no_grips, point}
+use Rattle.lock_leasing.specs.declared.purposes.Purpose.TheVariants.{Commands, Undoes}
+use Rattle.lock_leasing.specs.declared.purposes.Purpose.{Purpose}
 use Rattle.lock_leasing.specs.Places.{GripsFit, IsClear, in_order}
 use Rattle.lock_leasing.specs.Tables.{view_when}
 use Rattle.serial_line.specs.KeptRuns.{AreKeptOf}
@@ -75,16 +77,16 @@ pub last_follows : (w : Setting) (h : List Kept) (maker : ℕ) (e : Entry) → I
 last_follows w h maker e formed = each_at w (may_follow w) (nothing_read w) (entries_of h) e [] (subst (IsWellFormed w) (entries_on h maker (e ∷ [])) formed)
 
 -- what is kept after it is kept of the history with it
-pub entry_kept : {rounds : ℕ} (h h₂ : HistoryState) (g : Grips) (maker : ℕ) (e : Entry) (line : Marked) (table : List LineageState) → h₂ ≡ with_entry h maker e → IsOrderOf rounds h.setting (entry h.setting (read_in h) e) g line table → OrderIsBeside rounds h₂ g line table
+pub entry_kept : {rounds : ℕ} (h h₂ : HistoryState) (g : Grips) (maker : ℕ) (e : Entry) (line : Marked) (table : List LineageState) → h₂ ≡ with_entry h maker e → IsOrderOf rounds (point h.setting (entry h.setting (read_in h) e) g) line table → OrderIsBeside rounds h₂ g line table
 entry_kept {rounds = rounds} h h₂ g maker e line table new kept =
     subst (λ (x : HistoryState). OrderIsBeside rounds x g line table) (sym new)
-    (subst (λ n. IsOrderOf rounds h.setting n g line table) (sym (read_more h.setting h.history maker e)) kept)
+    (subst (λ n. IsOrderOf rounds (point h.setting n g) line table) (sym (read_more h.setting h.history maker e)) kept)
 
 -- The start
 
 pub order_begins : (rounds : ℕ) (w : Setting) (line : Marked) (table : List LineageState) → line.marks ≡ [] → line.sealed ≡ 0 → AreKeptOf w.runs line.runs
     → most_items (length w.runs) (length w.first) rounds ≤ line.spare → TableIsOpened w.runs w.first table
-    → IsOrderOf rounds w (nothing_read w) no_grips line table
+    → IsOrderOf rounds (point w (nothing_read w) no_grips) line table
 order_begins rounds w line table none none_sealed runs room opened = record {
   table_is = record {
     devices = opened.devices;
@@ -119,14 +121,14 @@ length_with at x marks =
 
 -- .. at a place that is clear as the line stands then
 pub order_placed : {rounds : ℕ} (h h₂ : HistoryState) (g : Grips) (r at m : ℕ) (line after : Marked) (table later : List LineageState)
-    → IsRead h.setting (read_in h) → GripsFit h.setting (read_in h) g → is_weak h.setting.mode ≡ false
-    → IsClear h.setting (in_order (read_in h) (line_for h.setting (read_in h) r m)) g r at
+    → IsRead h.setting (read_in h) → GripsFit (point h.setting (read_in h) g) → is_weak h.setting.mode ≡ false
+    → IsClear (point h.setting (in_order (read_in h) (line_for h.setting (read_in h) r m)) g) r at
     → h₂ ≡ with_entry h r (Placed (run_no r) at m) → IsWellFormed h₂.setting (entries_of h₂.history)
     → after.marks ≡ with_item at (Ran (run_no r)) (marks_for h.setting (read_in h) r m line.marks) → after.spare + 1 ≡ line.spare → after.runs ≡ line.runs → IsSealed after
     → ChangesEach (scheduled_on h.setting.runs r (planned_times h.setting (read_in h) r (front_for h.setting (read_in h) r at m) m) (drop at (items_of (marks_for h.setting (read_in h) r m line.marks)))) table later
     → OrderIsBeside rounds h g line table → OrderIsBeside rounds h₂ g after later
 order_placed {rounds = rounds} h h₂ g r at m line after table later read fit strong clear new formed marks spare runs sealed changes kept = entry_kept h h₂ g r (Placed (run_no r) at m) after later new (record {
-  table_is = fits_ordered w _ g later strong (joined_table w n g r at m table later read may clear changed (kept.table_is.ordered strong));
+  table_is = fits_ordered (point w _ g) later strong (joined_table w n g r at m table later read may clear changed (kept.table_is.ordered strong));
   line_is = subst (MarksAreKept (entry w n (Placed (run_no r) at m)) g) (sym marks) (marks_joined w n g r at m line.marks read fit may kept.line_is);
   sealed = sealed;
   runs = subst (AreKeptOf w.runs) (sym runs) kept.runs;
@@ -147,13 +149,13 @@ order_placed {rounds = rounds} h h₂ g r at m line after table later read fit s
 
 -- .. under the weak model, where it has no access
 pub order_joined : {rounds : ℕ} (h h₂ : HistoryState) (g : Grips) (r at m : ℕ) (line after : Marked) (table : List LineageState) → is_weak h.setting.mode ≡ true
-    → IsRead h.setting (read_in h) → GripsFit h.setting (read_in h) g → sealed_in (read_in h) ≤ at → h₂ ≡ with_entry h r (Placed (run_no r) at m)
+    → IsRead h.setting (read_in h) → GripsFit (point h.setting (read_in h) g) → sealed_in (read_in h) ≤ at → h₂ ≡ with_entry h r (Placed (run_no r) at m)
     → IsWellFormed h₂.setting (entries_of h₂.history)
     → after.marks ≡ with_item at (Ran (run_no r)) line.marks → after.spare + 1 ≡ line.spare → after.runs ≡ line.runs → after.sealed ≡ line.sealed → OrderIsBeside rounds h g line table → OrderIsBeside rounds h₂ g after table
 order_joined {rounds = rounds} h h₂ g r at m line after table weak read fit behind new formed marks spare runs stays kept = entry_kept h h₂ g r (Placed (run_no r) at m) after table new (record {
   table_is = fits_weakly w n _ g g table weak (λ d. refl) kept.table_is;
   line_is = subst (MarksAreKept (entry w n (Placed (run_no r) at m)) g) (sym marks) (subst (λ ms. MarksAreKept (entry w n (Placed (run_no r) at m)) g (with_item at (Ran (run_no r)) ms)) (as_they_stand w n r m line.marks weak) (marks_joined w n g r at m line.marks read fit may kept.line_is));
-  sealed = placed_sealed (run_no r) at line after (let is = sealed_is w n g line read kept.line_is kept.sealed in omega (arith, behind, is)) marks stays kept.sealed;
+  sealed = placed_sealed (run_no r) at line after (let is = sealed_is (point w n g) line read kept.line_is kept.sealed in omega (arith, behind, is)) marks stays kept.sealed;
   runs = subst (AreKeptOf w.runs) (sym runs) kept.runs;
   room = let size = ap (λ (x : List Mark). length x) marks ∙ length_with at (Ran (run_no r)) line.marks in omega (arith, size, spare, kept.room);
 })
@@ -169,7 +171,8 @@ order_joined {rounds = rounds} h h₂ g r at m line after table weak read fit be
 
 -- A run commits
 
-pub order_committed : {rounds : ℕ} (h h₂ : HistoryState) (g : Grips) (r : ℕ) (line after : Marked) (table later : List LineageState) → IsRead h.setting (read_in h) → GripsFit h.setting (read_in h) g → h₂ ≡ with_entry h r (Ended (run_no r) Committed) → IsWellFormed h₂.setting (entries_of h₂.history)
+pub order_committed : {rounds : ℕ} (h h₂ : HistoryState) (g : Grips) (r : ℕ) (line after : Marked) (table later : List LineageState) → IsRead h.setting
+    (read_in h) → GripsFit (point h.setting (read_in h) g) → h₂ ≡ with_entry h r (Ended (run_no r) Committed) → IsWellFormed h₂.setting (entries_of h₂.history)
     → after.marks ≡ settling r line.marks → after.spare ≡ line.spare → after.runs ≡ line.runs → IsSealed after → ChangesEach (λ d. committed_lineage r) table later → OrderIsBeside rounds h g line table → OrderIsBeside rounds h₂ g after later
 order_committed {rounds = rounds} h h₂ g r line after table later read fit new formed marks spare runs sealed changes kept = entry_kept h h₂ g r (Ended (run_no r) Committed) after later new (record {
   table_is = fits_changed w n _ g g (λ d. committed_lineage r) table later (λ d. refl) (λ d. committed_bare r) changes (λ own. committed_table w n g r table later read fit may changes own) kept.table_is;
@@ -195,8 +198,8 @@ length_touching r d marks = length-map marks (with_touch r d)
 
 pub order_out : {rounds : ℕ} (h : HistoryState) (g f : Grips) (r d k : ℕ) (line after : Marked) (table later : List LineageState) → g d ≡ None → is_doomed (read_in h) r ≡ false → pends h.setting (read_in h) r d ≡ true → f ≡ put g d (Some (record { maker = r; purpose = Commands k }))
     → after.marks ≡ touching r d line.marks → after.spare ≡ line.spare → after.runs ≡ line.runs → after.sealed ≡ line.sealed → later ≡ table → OrderIsBeside rounds h g line table → OrderIsBeside rounds h f after later
-order_out {rounds = rounds} h g f r d k line after table later home sound pending out marks spare runs stays same kept = subst (λ (x : Grips). IsOrderOf rounds w n x after later) (sym out) (record {
-  table_is = subst (TableFits w n (put g d (Some (record { maker = r; purpose = Commands k })))) (sym same) (fits_still w n n g _ table (λ e. refl) (λ own. command_out_table w n g d r k table home sound pending own) kept.table_is);
+order_out {rounds = rounds} h g f r d k line after table later home sound pending out marks spare runs stays same kept = subst (λ (x : Grips). IsOrderOf rounds (point w n x) after later) (sym out) (record {
+  table_is = subst (TableFits (point w n (put g d (Some (record { maker = r; purpose = Commands k }))))) (sym same) (fits_still w n n g _ table (λ e. refl) (λ own. command_out_table w n g d r k table home sound pending own) kept.table_is);
   line_is = subst (MarksAreKept n (put g d (Some (record { maker = r; purpose = Commands k })))) (sym marks) (marks_out n g r d k line.marks home kept.line_is);
   sealed = touched_sealed r d line after marks stays kept.sealed;
   runs = subst (AreKeptOf w.runs) (sym runs) kept.runs;
@@ -213,7 +216,7 @@ order_out {rounds = rounds} h g f r d k line after table later home sound pendin
 
 pub order_undo_out : {rounds : ℕ} (h : HistoryState) (g f : Grips) (r d v : ℕ) (line after : Marked) (table later : List LineageState) → IsRead h.setting (read_in h) → g d ≡ None → d < length table → f ≡ put g d (Some (record { maker = r; purpose = Undoes v }))
     → after.marks ≡ line.marks → after.spare ≡ line.spare → after.runs ≡ line.runs → after.sealed ≡ line.sealed → later ≡ with_lineage table d (undone r) → OrderIsBeside rounds h g line table → OrderIsBeside rounds h f after later
-order_undo_out {rounds = rounds} h g f r d v line after table later read home below out marks spare runs stays changed kept = subst (λ (x : Grips). IsOrderOf rounds w n x after later) (sym out) (record {
+order_undo_out {rounds = rounds} h g f r d v line after table later read home below out marks spare runs stays changed kept = subst (λ (x : Grips). IsOrderOf rounds (point w n x) after later) (sym out) (record {
   table_is = fits_changed w n n g _ (undone_change r d) table later (λ e. refl) (λ e. undone_change_bare r d e) changes (λ own. undo_out_table w n g d r v table later read home changes own) kept.table_is;
   line_is = subst (MarksAreKept n (put g d (Some (record { maker = r; purpose = Undoes v })))) (sym marks) (marks_undo_out n g r d v line.marks home kept.line_is);
   sealed = same_sealed line after marks stays kept.sealed;
@@ -248,14 +251,14 @@ stands_so r s seen stands = (first, stands ∙ ap (λ x. Some x) (turned seen) �
     turned false = refl
 
 -- what the table asks for where it is the run's turn on the device
-note_there : (w : Setting) (n : Reading) (g : Grips) (d r : ℕ) (cut : CutAt r n.line) (s : LineageState) → IsRead w n → TouchesNow w n g d r cut → LineageIsKept w n g d s → (is_first r s ≡ not (did n r d)) × MayNote r s
+note_there : (w : Setting) (n : Reading) (g : Grips) (d r : ℕ) (cut : CutAt r n.line) (s : LineageState) → IsRead w n → TouchesNow w n g d r cut → LineageIsKept (point w n g) d s → (is_first r s ≡ not (did n r d)) × MayNote r s
 note_there w n g d r cut s read turn kept = (so.0, record { status = so.1; first = λ h. waits_there w n g d r cut s read turn (not-true (did n r d) (sym so.0 ∙ h)) kept })
   where
     so : (is_first r s ≡ not (did n r d)) × IsUnreleased r s
     so = stands_so r s (did n r d) (status_there w n g d r cut s read turn kept)
 
 -- the run's turn on the device of its command
-pub may_note : (w : Setting) (n : Reading) (g : Grips) (held : ℕ → ℕ) (d r k : ℕ) (table : List LineageState) → IsRead w n → OrderIsKept w n g held → g d ≡ Some (record { maker = r; purpose = Commands k }) → d < length w.first → TableIsKept w n g table
+pub may_note : (w : Setting) (n : Reading) (g : Grips) (held : ℕ → ℕ) (d r k : ℕ) (table : List LineageState) → IsRead w n → OrderIsKept (point w n g) held → g d ≡ Some (record { maker = r; purpose = Commands k }) → d < length w.first → TableIsKept (point w n g) table
     → (is_first r (lineage_at table d) ≡ not (did n r d)) × MayNote r (lineage_at table d)
 may_note w n g held d r k table read order at below kept = note_there w n g d r cut (lineage_at table d) read (touches_now w n g held d r k cut read order at) (kept.each d below)
   where
@@ -269,12 +272,12 @@ pub record ToldOf (w : Setting) (n : Reading) (r k : ℕ) (a : Answer) (view : V
   pub last_is : last ≡ is_done_there w n r k
 
 pub order_answered : {rounds : ℕ} (h h₂ : HistoryState) (g f : Grips) (held : ℕ → ℕ) (d r k : ℕ) (a : Answer) (view : View) (wrote : Option ℕ) (last : Bool) (line after : Marked) (table later : List LineageState)
-    → is_access a ≡ true → IsRead h.setting (read_in h) → is_weak h.setting.mode ≡ false → OrderIsKept h.setting (read_in h) g held → g d ≡ Some (record { maker = r; purpose = Commands k }) → d < length h.setting.first
+    → is_access a ≡ true → IsRead h.setting (read_in h) → is_weak h.setting.mode ≡ false → OrderIsKept (point h.setting (read_in h) g) held → g d ≡ Some (record { maker = r; purpose = Commands k }) → d < length h.setting.first
     → h₂ ≡ with_entry h r (Did (run_no r) k a) → f ≡ put g d None → ToldOf h.setting (read_in h) r k a view wrote last → after ≡ line → later ≡ with_lineage table d (noted_first r (is_first r (lineage_at table d)) view wrote last)
     → OrderIsBeside rounds h g line table → OrderIsBeside rounds h₂ f after later
 order_answered {rounds = rounds} h h₂ g f held d r k a view wrote last line after table later access read strong order at below new home told same changed kept =
-    entry_kept h h₂ f r (Did (run_no r) k a) after later new (subst (λ (x : Grips). IsOrderOf rounds w m x after later) (sym home) (subst (λ (x : Marked). IsOrderOf rounds w m (put g d None) x later) (sym same) (record {
-      table_is = fits_ordered w _ _ later strong (answered_table w n g held d r k a table later access read order at changes (kept.table_is.ordered strong));
+    entry_kept h h₂ f r (Did (run_no r) k a) after later new (subst (λ (x : Grips). IsOrderOf rounds (point w m x) after later) (sym home) (subst (λ (x : Marked). IsOrderOf rounds (point w m (put g d None)) x later) (sym same) (record {
+      table_is = fits_ordered (point w _ _) later strong (answered_table w n g held d r k a table later access read order at changes (kept.table_is.ordered strong));
       line_is = marks_answered w n g d r k a line.marks access out at kept.line_is;
       sealed = kept.sealed;
       runs = kept.runs;
@@ -313,11 +316,13 @@ order_answered {rounds = rounds} h h₂ g f held d r k a view wrote last line af
 
 -- .. under the weak model, which notes it in the line alone
 pub order_answered_weakly : {rounds : ℕ} (h h₂ : HistoryState) (g f : Grips) (d r k : ℕ) (a : Answer) (line after : Marked) (table later : List LineageState)
-    → is_access a ≡ true → is_weak h.setting.mode ≡ true → GripsFit h.setting (read_in h) g → g d ≡ Some (record { maker = r; purpose = Commands k })
+    → is_access a ≡ true → is_weak h.setting.mode ≡ true → GripsFit (point h.setting (read_in h) g) → g d ≡ Some (record { maker = r; purpose = Commands k })
     → h₂ ≡ with_entry h r (Did (run_no r) k a) → f ≡ put g d None → after ≡ line → later ≡ table
     → OrderIsBeside rounds h g line table → OrderIsBeside rounds h₂ f after later
 order_answered_weakly {rounds = rounds} h h₂ g f d r k a line after table later access weak fit at new home same still kept =
-    entry_kept h h₂ f r (Did (run_no r) k a) after later new (subst (λ (x : Grips). IsOrderOf rounds w m x after later) (sym home) (subst (λ (x : Marked). IsOrderOf rounds w m (put g d None) x later) (sym same) (subst (IsOrderOf rounds w m (put g d None) line) (sym still) (record {
+    entry_kept h h₂ f r (Did (run_no r) k a) after later new
+    (subst (λ (x : Grips). IsOrderOf rounds (point w m x) after later) (sym home) (subst (λ (x : Marked). IsOrderOf rounds (point w m (put g d None)) x later)
+    (sym same) (subst (IsOrderOf rounds (point w m (put g d None)) line) (sym still) (record {
       table_is = fits_weakly w n m g (put g d None) table weak (λ e. refl) kept.table_is;
       line_is = marks_answered w n g d r k a line.marks access (out_is w n g d r k fit at) at kept.line_is;
       sealed = kept.sealed;
@@ -337,7 +342,7 @@ order_answered_weakly {rounds = rounds} h h₂ g f d r k a line after table late
 -- A command is answered Down with no call
 
 -- the run's turn on the device of its command
-pub may_note_down : (w : Setting) (n : Reading) (g : Grips) (held : ℕ → ℕ) (r : ℕ) (c : Command) (table : List LineageState) → IsToldDown w n g held r c → c.device.0 < length w.first → TableIsKept w n g table
+pub may_note_down : (w : Setting) (n : Reading) (g : Grips) (held : ℕ → ℕ) (r : ℕ) (c : Command) (table : List LineageState) → IsToldDown w n g held r c → c.device.0 < length w.first → TableIsKept (point w n g) table
     → (is_first r (lineage_at table c.device.0) ≡ not (did n r c.device.0)) × MayNote r (lineage_at table c.device.0)
 may_note_down w n g held r c table told below kept = note_there w n g c.device.0 r cut (lineage_at table c.device.0) told.read (told_touches_now w n g held r c cut told) (kept.each c.device.0 below)
   where
@@ -359,7 +364,7 @@ pub order_told_down : {rounds : ℕ} (h h₂ : HistoryState) (g : Grips) (held :
     → OrderIsBeside rounds h g line table → OrderIsBeside rounds h₂ g after later
 order_told_down {rounds = rounds} h h₂ g held r k last line after table later told below number new last_is marks spare runs stays changed kept = entry_kept h h₂ g r (Did (run_no r) k Down) after later new (record {
   table_is =
-      fits_ordered w _ g later told.strong (subst (λ j. TableIsKept w (entry w n (Did (run_no r) j Down)) g later) (sym number) (told_table w n g held r c table
+      fits_ordered (point w _ g) later told.strong (subst (λ j. TableIsKept (point w (entry w n (Did (run_no r) j Down)) g) later) (sym number) (told_table w n g held r c table
       later told (subst (λ j. ChangesEach (answered_change w n r j Down) table later) number changes) (kept.table_is.ordered told.strong)));
   line_is = subst (MarksAreKept (entry w n (Did (run_no r) k Down)) g) (sym marks) (marks_told w n g r k Down line.marks refl kept.line_is);
   sealed = touched_sealed r c.device.0 line after marks stays kept.sealed;
@@ -398,7 +403,7 @@ order_told_down {rounds = rounds} h h₂ g held r k last line after table later 
 pub order_told_weakly : {rounds : ℕ} (h h₂ : HistoryState) (g : Grips) (r k : ℕ) (line after : Marked) (table later : List LineageState)
     → is_weak h.setting.mode ≡ true → h₂ ≡ with_entry h r (Did (run_no r) k Down) → after.marks ≡ touching r (command_at h.setting.runs r k).device.0 line.marks → after.spare ≡ line.spare → after.runs ≡ line.runs → after.sealed ≡ line.sealed → later ≡ table
     → OrderIsBeside rounds h g line table → OrderIsBeside rounds h₂ g after later
-order_told_weakly {rounds = rounds} h h₂ g r k line after table later weak new marks spare runs stays still kept = entry_kept h h₂ g r (Did (run_no r) k Down) after later new (subst (IsOrderOf rounds w (entry w n (Did (run_no r) k Down)) g after) (sym still) (record {
+order_told_weakly {rounds = rounds} h h₂ g r k line after table later weak new marks spare runs stays still kept = entry_kept h h₂ g r (Did (run_no r) k Down) after later new (subst (IsOrderOf rounds (point w (entry w n (Did (run_no r) k Down)) g) after) (sym still) (record {
   table_is = fits_weakly w n _ g g table weak (λ d. refl) kept.table_is;
   line_is = subst (MarksAreKept (entry w n (Did (run_no r) k Down)) g) (sym marks) (marks_told w n g r k Down line.marks refl kept.line_is);
   sealed = touched_sealed r (command_at w.runs r k).device.0 line after marks stays kept.sealed;
@@ -414,9 +419,9 @@ order_told_weakly {rounds = rounds} h h₂ g r k line after table later weak new
 
 -- A run is doomed
 
-pub order_doomed : {rounds : ℕ} (h h₂ : HistoryState) (g : Grips) (r : ℕ) (cause : Cause) (line after : Marked) (table later : List LineageState) → IsRead h.setting (read_in h) → GripsFit h.setting (read_in h) g → ((d : ℕ) → grips_command g r d ≡ false)
+pub order_doomed : {rounds : ℕ} (h h₂ : HistoryState) (g : Grips) (r : ℕ) (cause : Cause) (line after : Marked) (table later : List LineageState) → IsRead h.setting (read_in h) → GripsFit (point h.setting (read_in h) g) → ((d : ℕ) → grips_command g r d ≡ false)
     → h₂ ≡ with_entry h r (Doomed (run_no r) cause) → IsWellFormed h₂.setting (entries_of h₂.history) → after ≡ line → ChangesEach (λ d. doomed_lineage r) table later → OrderIsBeside rounds h g line table → OrderIsBeside rounds h₂ g after later
-order_doomed {rounds = rounds} h h₂ g r cause line after table later read fit none new formed same changes kept = entry_kept h h₂ g r (Doomed (run_no r) cause) after later new (subst (λ (x : Marked). IsOrderOf rounds w (entry w n (Doomed (run_no r) cause)) g x later) (sym same) (record {
+order_doomed {rounds = rounds} h h₂ g r cause line after table later read fit none new formed same changes kept = entry_kept h h₂ g r (Doomed (run_no r) cause) after later new (subst (λ (x : Marked). IsOrderOf rounds (point w (entry w n (Doomed (run_no r) cause)) g) x later) (sym same) (record {
   table_is = fits_changed w n _ g g (λ d. doomed_lineage r) table later (λ d. refl) (λ d. doomed_bare r) changes (λ own. doomed_table w n g r cause table later read fit sound (doomed_each g r None table later none changes) own) kept.table_is;
   line_is = marks_doomed w n g r cause line.marks kept.line_is;
   sealed = kept.sealed;
@@ -440,7 +445,7 @@ order_doomed {rounds = rounds} h h₂ g r cause line after table later read fit 
     sound = second (may_act w n r) (is_doomed n r) (cause_fits w n r cause) may
 
 -- .. where there is a cause
-pub order_doomed_if : {rounds : ℕ} (h h₂ : HistoryState) (g : Grips) (r : ℕ) (cause : Option Cause) (line after : Marked) (table later : List LineageState) → GripsFit h.setting (read_in h) g → ((d : ℕ) → grips_command g r d ≡ false)
+pub order_doomed_if : {rounds : ℕ} (h h₂ : HistoryState) (g : Grips) (r : ℕ) (cause : Option Cause) (line after : Marked) (table later : List LineageState) → GripsFit (point h.setting (read_in h) g) → ((d : ℕ) → grips_command g r d ≡ false)
     → h₂ ≡ with_doom h r cause → IsWellFormed h₂.setting (entries_of h₂.history) → after ≡ line → (cause ≡ None → later ≡ table) → (IsSome cause → ChangesEach (λ d. doomed_lineage r) table later) → OrderIsBeside rounds h g line table → OrderIsBeside rounds h₂ g after later
 order_doomed_if {rounds = rounds} h h₂ g r None line after table later fit none new formed same unchanged changed kept =
     subst (λ (x : HistoryState). OrderIsBeside rounds x g after later) (sym new) (subst (λ (x : Marked). OrderIsBeside rounds h g x later) (sym same) (subst (OrderIsBeside rounds h g line) (sym (unchanged refl)) kept))
@@ -459,17 +464,17 @@ pub none_commands : (w : Setting) (g : Grips) (r : ℕ) → HoldsNone g r → (d
 none_commands w g r none d = sym (command_held w g r d) ∙ ap holds_command (held_none w g r d none)
 
 -- a run whose only grip is that of a device has out no command once the device is home
-pub none_out : (w : Setting) (n : Reading) (g : Grips) (d r : ℕ) (p : Purpose) → is_run w.runs r ≡ true → g d ≡ Some (record { maker = r; purpose = p }) → GripsFit w n g → (e : ℕ) → grips_command (put g d None) r e ≡ false
-none_out w n g d r p run at fit e = at_ (put g d None e) refl
+pub none_out : (p : Point) (d r : ℕ) (q : Purpose) → is_run p.setting.runs r ≡ true → p.grips d ≡ Some (record { maker = r; purpose = q }) → GripsFit p → (e : ℕ) → grips_command (put p.grips d None) r e ≡ false
+none_out p d r q run at fit e = at_ (put p.grips d None e) refl
   where
-    none : HoldsNone (put g d None) r
-    none = let is = run_positive w r run in subst (HoldsNone (put g d None)) (sym is.1) (none_left w n g d is.0 p (at ∙ ap (λ x. Some (record { maker = x; purpose = p })) is.1) fit)
+    none : HoldsNone (put p.grips d None) r
+    none = let is = run_positive p.setting r run in subst (HoldsNone (put p.grips d None)) (sym is.1) (none_left p.setting p.reading p.grips d is.0 q (at ∙ ap (λ x. Some (record { maker = x; purpose = q })) is.1) fit)
 
-    one : (x : Grip) → put g d None e ≡ Some x → (b : Bool) → (x.maker == r) ≡ b → (b && is_command x.purpose) ≡ false
+    one : (x : Grip) → put p.grips d None e ≡ Some x → (b : Bool) → (x.maker == r) ≡ b → (b && is_command x.purpose) ≡ false
     one x h true own = absurd (none e x.purpose (h ∙ ap (λ y. Some (record { maker = y; purpose = x.purpose })) (eqb-true x.maker r own)))
     one x h false own = refl
 
-    at_ : (o : Option Grip) → put g d None e ≡ o → unwrap_or (option_map (λ p. (p.maker == r) && is_command p.purpose) o) false ≡ false
+    at_ : (o : Option Grip) → put p.grips d None e ≡ o → unwrap_or (option_map (λ q. (q.maker == r) && is_command q.purpose) o) false ≡ false
     at_ None h = refl
     at_ (Some x) h = one x h (x.maker == r) refl
 
@@ -478,7 +483,7 @@ none_out w n g d r p run at fit e = at_ (put g d None e) refl
 pub order_undone : {rounds : ℕ} (h h₂ : HistoryState) (g f : Grips) (r d v : ℕ) (line : Marked) (table : List LineageState) → h₂
     ≡ with_entry h r (Undid (run_no r) (device_no d) true) → g d ≡ Some (record { maker = r; purpose = Undoes v }) → f ≡ put g d None
     → OrderIsBeside rounds h g line table → OrderIsBeside rounds h₂ f line table
-order_undone {rounds = rounds} h h₂ g f r d v line table new out home kept = entry_kept h h₂ f r (Undid (run_no r) (device_no d) true) line table new (subst (λ (x : Grips). IsOrderOf rounds w (entry w n (Undid (run_no r) (device_no d) true)) x line table) (sym home) (record {
+order_undone {rounds = rounds} h h₂ g f r d v line table new out home kept = entry_kept h h₂ f r (Undid (run_no r) (device_no d) true) line table new (subst (λ (x : Grips). IsOrderOf rounds (point w (entry w n (Undid (run_no r) (device_no d) true)) x) line table) (sym home) (record {
   table_is = fits_still w n _ g _ table (λ e. refl) (λ own. undid_table w n g d r v table out own) kept.table_is;
   line_is = marks_undone w n (put g d None) r d true line.marks (marks_undo_home n g r d v line.marks out kept.line_is);
   sealed = kept.sealed;
@@ -497,7 +502,7 @@ pub order_dropped : {rounds : ℕ} (h h₂ : HistoryState) (g : Grips) (r d : �
     → OrderIsBeside rounds h g line table → OrderIsBeside rounds h₂ g after later
 order_dropped {rounds = rounds} h h₂ g r d line after table later read below new same changed kept =
     entry_kept h h₂ g r (Undid (run_no r) (device_no d) false) after later new
-    (subst (λ (x : Marked). IsOrderOf rounds w (entry w n (Undid (run_no r) (device_no d) false)) g x later) (sym same) (record {
+    (subst (λ (x : Marked). IsOrderOf rounds (point w (entry w n (Undid (run_no r) (device_no d) false)) g) x later) (sym same) (record {
       table_is = fits_changed w n _ g g (undone_change r d) table later (λ e. refl) (λ e. undone_change_bare r d e) changes (λ own. undo_dropped_table w n g d r false table later read changes own) kept.table_is;
       line_is = marks_undone w n g r d false line.marks kept.line_is;
       sealed = kept.sealed;

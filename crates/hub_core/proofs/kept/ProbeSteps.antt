@@ -14,7 +14,8 @@ use Rattle.hub_core.specs.KeptOrders.{IsOrderOf, LineageIsBare, OrderIsBeside}
 use Rattle.window_order.specs.KeptOrders.{IsSealed}
 use Rattle.history_book.specs.ReadHistories.{HistoryState, read_in, with_entry}
 use Rattle.lineage_table.specs.Lineages.{LineageState, counted_up, with_lineage}
-use Rattle.lock_leasing.specs.Configurations.{Grips, Probes, grips_command}
+use Rattle.lock_leasing.specs.Configurations.{Grips, grips_command, point}
+use Rattle.lock_leasing.specs.declared.purposes.Purpose.TheVariants.{Probes}
 use Rattle.lock_leasing.specs.Places.{GripsFit}
 use Rattle.serial_line.specs.KeptRuns.{AreKeptOf}
 use Rattle.serial_line.specs.Marks.{Mark, Marked, with_item}
@@ -29,8 +30,9 @@ use Rattle.window_order.specs.MarksKept.{MarksAreKept}
 use Rattle.window_order.specs.TableChanges.{ChangesEach, doomed_unless, is_named_device, turned_change}
 
 -- a probe goes out
-pub order_probe_out : {rounds : ℕ} (w : Setting) (n : Reading) (g f : Grips) (d : ℕ) (v : Option ℕ) (line : Marked) (table : List LineageState) → g d ≡ None → f ≡ put g d (Some (record { maker = 0; purpose = Probes v })) → IsOrderOf rounds w n g line table → IsOrderOf rounds w n f line table
-order_probe_out {rounds = rounds} w n g f d v line table home gone kept = subst (λ (x : Grips). IsOrderOf rounds w n x line table) (sym gone) (record {
+pub order_probe_out : {rounds : ℕ} (w : Setting) (n : Reading) (g f : Grips) (d : ℕ) (v : Option ℕ) (line : Marked) (table : List LineageState) → g d ≡ None
+    → f ≡ put g d (Some (record { maker = 0; purpose = Probes v })) → IsOrderOf rounds (point w n g) line table → IsOrderOf rounds (point w n f) line table
+order_probe_out {rounds = rounds} w n g f d v line table home gone kept = subst (λ (x : Grips). IsOrderOf rounds (point w n x) line table) (sym gone) (record {
   table_is = fits_still w n n g _ table (λ e. refl) (λ own. probe_out_table w n g d 0 v table home own) kept.table_is;
   line_is = marks_probe_out n g d 0 v line.marks home kept.line_is;
   sealed = kept.sealed;
@@ -39,8 +41,9 @@ order_probe_out {rounds = rounds} w n g f d v line table home gone kept = subst 
 })
 
 -- it comes home
-pub order_probe_home : {rounds : ℕ} (w : Setting) (n : Reading) (g f : Grips) (d : ℕ) (v : Option ℕ) (line : Marked) (table : List LineageState) → g d ≡ Some (record { maker = 0; purpose = Probes v }) → f ≡ put g d None → IsOrderOf rounds w n g line table → IsOrderOf rounds w n f line table
-order_probe_home {rounds = rounds} w n g f d v line table out home kept = subst (λ (x : Grips). IsOrderOf rounds w n x line table) (sym home) (record {
+pub order_probe_home : {rounds : ℕ} (w : Setting) (n : Reading) (g f : Grips) (d : ℕ) (v : Option ℕ) (line : Marked) (table : List LineageState) → g d
+    ≡ Some (record { maker = 0; purpose = Probes v }) → f ≡ put g d None → IsOrderOf rounds (point w n g) line table → IsOrderOf rounds (point w n f) line table
+order_probe_home {rounds = rounds} w n g f d v line table out home kept = subst (λ (x : Grips). IsOrderOf rounds (point w n x) line table) (sym home) (record {
   table_is = fits_still w n n g _ table (λ e. refl) (λ own. probe_home_table w n g d 0 v table out own) kept.table_is;
   line_is = marks_probe_home n g d 0 v line.marks out kept.line_is;
   sealed = kept.sealed;
@@ -102,12 +105,12 @@ order_rose {rounds = rounds} h h₂ g maker d number place line after table late
 
 -- a run is doomed whose command out, if it has one, is on this device
 pub order_lost : {rounds : ℕ} (h h₂ : HistoryState) (g : Grips) (maker r : ℕ) (cause : Cause) (out : Option DeviceNo) (line after : Marked)
-    (table later : List LineageState) → IsRead h.setting (read_in h) → GripsFit h.setting (read_in h) g → is_doomed (read_in h) r ≡ false
+    (table later : List LineageState) → IsRead h.setting (read_in h) → GripsFit (point h.setting (read_in h) g) → is_doomed (read_in h) r ≡ false
     → ((d : ℕ) → grips_command g r d ≡ is_named_device out d)
     → h₂ ≡ with_entry h maker (Doomed (run_no r) cause) → after ≡ line → ChangesEach (doomed_unless out r) table later → OrderIsBeside rounds h g line table → OrderIsBeside rounds h₂ g after later
 order_lost {rounds = rounds} h h₂ g maker r cause out line after table later read fit sound same new still changes kept =
     entry_kept h h₂ g maker (Doomed (run_no r) cause) after later new
-    (subst (λ (x : Marked). IsOrderOf rounds w (entry w n (Doomed (run_no r) cause)) g x later) (sym still) (record {
+    (subst (λ (x : Marked). IsOrderOf rounds (point w (entry w n (Doomed (run_no r) cause)) g) x later) (sym still) (record {
       table_is = fits_changed w n _ g g (doomed_unless out r) table later (λ d. refl) (λ d. unless_bare out r d) changes (λ own. doomed_unless_table w n g r cause out table later read fit sound same changes own) kept.table_is;
       line_is = marks_doomed w n g r cause line.marks kept.line_is;
       sealed = kept.sealed;

@@ -11,7 +11,8 @@ use Rattle.hub_core.proofs.kept.WrittenValues.{ValuesFit, standing_fits, writes_
 use Rattle.hub_core.proofs.steps.Takes.{live_run}
 use Rattle.hub_core.specs.HubKept.{ConfigurationIsKept, is_of_run, probes_of, undo_fits}
 use Rattle.hub_core.specs.Steps.{after_take_probe, may_probe, probe_grip, restored}
-use Rattle.lock_leasing.specs.Configurations.{Configuration, Grip, Probes, is_command, is_out, read_of}
+use Rattle.lock_leasing.specs.Configurations.{Configuration, Grip, is_command, is_out, point, read_of}
+use Rattle.lock_leasing.specs.declared.purposes.Purpose.TheVariants.{Probes}
 use Rattle.lock_leasing.specs.Words.{standing_value}
 use Rattle.std.proofs.Common.{ap, arith, refl, sym}
 use Rattle.std.proofs.lemmas.Grind.{common_steps}
@@ -89,9 +90,9 @@ probe_kept s rounds opened held d may kept =
     no_run live = let run : is_run w.runs 0 ≡ true = live_run w n 0 (shapes w (entries_of s.history) kept.history.well_formed) live in absurd (cc)
 
     -- it restores a value of the device's kind
-    by_up : (b : Bool) → undo_fits (kind_at w.kinds d) (Probes (if b then None else Some (standing_value w n s.grips d))) ≡ true
+    by_up : (b : Bool) → undo_fits (kind_at w.kinds d) (Probes (if b then None else Some (standing_value (point w n s.grips) d))) ≡ true
     by_up true = refl
-    by_up false = standing_fits w n s.grips d kept.strong (writes_fit w (entries_of s.history) values kept.history.well_formed) (values.first d parts.0)
+    by_up false = standing_fits (point w n s.grips) d kept.strong (writes_fit w (entries_of s.history) values kept.history.well_formed) (values.first d parts.0)
 
 -- what is kept stays so where a probe is asked for
 pub take_probe_kept : (s : Configuration) (rounds opened : ℕ) (held : ℕ → ℕ) (d : ℕ) → ConfigurationIsKept s rounds opened held → ConfigurationIsKept (after_take_probe s d) rounds opened held

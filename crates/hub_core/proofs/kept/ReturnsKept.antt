@@ -29,7 +29,9 @@ use Rattle.legal_days.specs.CleanReads.{answer_is_clean, clean_value, entry_is_c
 use Rattle.hub_core.specs.HubKept.{ConfigurationIsKept, HistoryIsKept, is_of_run, is_probed, keeps_leases, probes_of, undo_fits}
 use Rattle.legal_days.specs.JustifiedAborts.{abort_is_justified, shows}
 use Rattle.hub_core.specs.Steps.{after_give, command_entries, give_entries, probe_entries}
-use Rattle.lock_leasing.specs.Configurations.{Commands, Configuration, Grip, Grips, Probes, Purpose, Undoes, no_grips, read_of}
+use Rattle.lock_leasing.specs.Configurations.{Configuration, Grip, Grips, no_grips, point, read_of}
+use Rattle.lock_leasing.specs.declared.purposes.Purpose.TheVariants.{Commands, Probes, Undoes}
+use Rattle.lock_leasing.specs.declared.purposes.Purpose.{Purpose}
 use Rattle.lock_leasing.specs.Places.{MayBeOut}
 use Rattle.lock_leasing.specs.Waits.{lost_by}
 use Rattle.lock_leasing.specs.Words.{has_effect, live_before}
@@ -58,7 +60,7 @@ pub record IsOut (w : Setting) (n : Reading) (r k d : ℕ) (c : Command) : Type 
   pub on : c.device.0 ≡ d
   pub guard : holds c.when (n.run r).register ≡ true
 
-pub out_is : (w : Setting) (n : Reading) (g : Grips) (r k d : ℕ) → MayBeOut w n g → g d ≡ Some (record { maker = r; purpose = Commands k }) → (c : Command) × IsOut w n r k d c
+pub out_is : (w : Setting) (n : Reading) (g : Grips) (r k d : ℕ) → MayBeOut (point w n g) → g d ≡ Some (record { maker = r; purpose = Commands k }) → (c : Command) × IsOut w n r k d c
 out_is w n g r k d may out = by_next (next_command w n r) refl (grind (arith, common_steps, known))
   where
     known : IsTrue (is_live n r && asks_on w n r d && (k == next_of n r))
@@ -96,11 +98,11 @@ abbrev home_with : Configuration → ℕ → ℕ → ℕ → List Entry → Conf
 home_with s maker d m entries = record s { history = s.history ++ kept_by maker entries; moment = m; grips = put s.grips d None }
 
 comes_home : (s : Configuration) (rounds opened maker d m : ℕ) (held after : ℕ → ℕ) (entries : List Entry) → HistoryIsKept (home_with s maker d m entries) → ((e : ℕ) → probes_of (home_with s maker d m entries) e ≤ probes_of s e)
-    → OrderIsKept s.setting (fold (entry s.setting) (read_of s) entries) (put s.grips d None) after → ConfigurationIsKept s rounds opened held → ConfigurationIsKept (home_with s maker d m entries) rounds opened after
+    → OrderIsKept (point s.setting (fold (entry s.setting) (read_of s) entries) (put s.grips d None)) after → ConfigurationIsKept s rounds opened held → ConfigurationIsKept (home_with s maker d m entries) rounds opened after
 comes_home s rounds opened maker d m held after entries history fewer order kept =
     kept_after s rounds opened held after (s.history ++ kept_by maker entries) m (put s.grips d None) history fewer
     (out_less s.grips (λ e q. undo_fits (kind_at s.setting.kinds e) q.purpose) d kept.undos)
-    (subst (λ n. OrderIsKept s.setting n (put s.grips d None) after) (sym (read_with s maker entries)) order) kept
+    (subst (λ n. OrderIsKept (point s.setting n (put s.grips d None)) after) (sym (read_with s maker entries)) order) kept
 
 -- an entry comes first, and then these
 first_then : (s : Configuration) (maker m : ℕ) (g : Grips) (e : Entry) (more : List Entry)
@@ -202,7 +204,7 @@ wrote_home s rounds opened held r k d now v out brings value later kept =
     let follows : may_follow w n (Did (run_no r) k Fine) ≡ true = first_follows w n (Did (run_no r) k Fine) (command_follows s rounds opened held r k d v Worked back.0 back.1 brings value kept) in
     comes_home s rounds opened r d now held (put held d v) (Did (run_no r) k Fine ∷ [])
     (history_added s r now (put s.grips d None) (Did (run_no r) k Fine) (answer_may s r k d now Fine follows refl later (serves_strict s.setting rounds opened kept.opens) out back.1.alone back.1.known.live kept.history) kept.history) (probes_home s r now d (Did (run_no r) k Fine ∷ []) refl)
-    (subst (λ x. OrderIsKept w (entry w n (Did (run_no r) k Fine)) (put s.grips d None) (put held d x)) (sym brings.1) (wrote_kept w n s.grips held d r k back.1.read out brings.0 kept.order)) kept
+    (subst (λ x. OrderIsKept (point w (entry w n (Did (run_no r) k Fine)) (put s.grips d None)) (put held d x)) (sym brings.1) (wrote_kept w n s.grips held d r k back.1.read out brings.0 kept.order)) kept
   where
     w : Setting
     w = s.setting
@@ -274,7 +276,7 @@ found_home s rounds opened held r k d now v x out brings value later kept = subs
 
     goes_on : (failed && not (is_doomed n r)) ≡ false → ConfigurationIsKept (home_with s r d now (answer ∷ [])) rounds opened held
     goes_on e = comes_home s rounds opened r d now held held (answer ∷ []) (history_added s r now home answer (may_answer (first_follows w n answer (follow false e))) kept.history) (probes_home s r now d (answer ∷ []) refl)
-        (subst (λ y. OrderIsKept w (entry w n (Did (run_no r) k (Found y))) home held) (sym same) (found_kept w n s.grips held d r k read out brings.0 (λ fail. passes failed (is_doomed n r) e (ap (λ y. fails (command_at w.runs r k) (Found y)) same ∙ fail)) kept.order)) kept
+        (subst (λ y. OrderIsKept (point w (entry w n (Did (run_no r) k (Found y))) home) held) (sym same) (found_kept w n s.grips held d r k read out brings.0 (λ fail. passes failed (is_doomed n r) e (ap (λ y. fails (command_at w.runs r k) (Found y)) same ∙ fail)) kept.order)) kept
       where
         passes : (f b : Bool) → (f && not b) ≡ false → f ≡ true → b ≡ true
         passes f b h g = grind (arith, common_steps)
@@ -285,7 +287,7 @@ found_home s rounds opened held r k d now v x out brings value later kept = subs
         doom (doom_may after_answer r now (Refuted k x) (subst (λ y. may_follow w y doom ≡ true) read_after follows.1) (λ first_come. refl)
         (subst (λ y. shows w y r (Refuted k x) ≡ true) read_after (both (shows w (entry w n answer) r (Refuted k x)) true (shown e)).0) told.moment told) told))
         (probes_home s r now d (answer ∷ doom ∷ []) refl)
-        (subst (λ y. OrderIsKept w (entry w (entry w n (Did (run_no r) k (Found y))) (Doomed (run_no r) (Refuted k y))) home held) (sym same) (refuted_kept w n s.grips held d r k read out brings.0 kept.order)) kept
+        (subst (λ y. OrderIsKept (point w (entry w (entry w n (Did (run_no r) k (Found y))) (Doomed (run_no r) (Refuted k y))) home) held) (sym same) (refuted_kept w n s.grips held d r k read out brings.0 kept.order)) kept
       where
         follows : (may_follow w n answer ≡ true) × (may_follow w (entry w n answer) doom ≡ true)
         follows = let all = both (may_follow w n answer) (may_follow w (entry w n answer) doom && true) (follow true e) in (all.0, (both (may_follow w (entry w n answer) doom) true all.1).0)
@@ -443,7 +445,7 @@ undone_home s rounds opened held r d now v u out brings later kept =
     comes_home s rounds opened r d now held (put held d v) (Undid (run_no r) (device_no d) true ∷ []) (history_added s r now (put s.grips d None)
     (Undid (run_no r) (device_no d) true) (undo_may s r d now true follows later (serves_strict s.setting rounds opened kept.opens) kept.history) kept.history)
     (probes_home s r now d (Undid (run_no r) (device_no d) true ∷ []) refl)
-    (subst (λ y. OrderIsKept w (entry w n (Undid (run_no r) (device_no d) true)) (put s.grips d None) (put held d y)) (sym brings) (undone_kept w n s.grips held r d u (read_facts w (entries_of s.history) kept.history.well_formed) out kept.order)) kept
+    (subst (λ y. OrderIsKept (point w (entry w n (Undid (run_no r) (device_no d) true)) (put s.grips d None)) (put held d y)) (sym brings) (undone_kept w n s.grips held r d u (read_facts w (entries_of s.history) kept.history.well_formed) out kept.order)) kept
   where
     w : Setting
     w = s.setting
@@ -492,7 +494,7 @@ answered_home : (s : Configuration) (rounds opened : ℕ) (held : ℕ → ℕ) (
     ≡ held d → (read_of s).moment ≤ now → ConfigurationIsKept s rounds opened held → ConfigurationIsKept (home_with s r d now []) rounds opened (put held d v)
 answered_home s rounds opened held r d now v out brings later kept =
     comes_home s rounds opened r d now held (put held d v) [] (no_news s r d now later kept.history) (probes_home s r now d [] refl)
-    (subst (OrderIsKept s.setting (read_of s) (put s.grips d None)) (sym (put_own held d v brings)) (probe_worked_kept s.setting (read_of s) s.grips held d r out kept.order)) kept
+    (subst (OrderIsKept (point s.setting (read_of s) (put s.grips d None))) (sym (put_own held d v brings)) (probe_worked_kept s.setting (read_of s) s.grips held d r out kept.order)) kept
 
 -- .. or down, as it was counted
 missed_home : (s : Configuration) (rounds opened : ℕ) (held : ℕ → ℕ) (r d now v u : ℕ) → s.grips d ≡ Some (record { maker = r; purpose = Probes (Some u) })
@@ -596,7 +598,7 @@ rose_home : (s : Configuration) (rounds opened : ℕ) (held : ℕ → ℕ) (r d 
     → ConfigurationIsKept (home_with s r d now (Rose (device_no d) ∷ [])) rounds opened (put held d v)
 rose_home s rounds opened held r d now v u out brings later kept =
     comes_home s rounds opened r d now held (put held d v) (rise ∷ []) (history_added s r now (put s.grips d None) rise (rose_may s d now (put s.grips d None) follows later (less_one s.grips d) kept.history) kept.history) (probes_answered s r d now u out)
-    (subst (λ y. OrderIsKept w (entry w n rise) (put s.grips d None) (put held d y)) (sym brings) (restarted_kept w n s.grips held d r u (read_facts w (entries_of s.history) kept.history.well_formed) kept.strong out kept.order)) kept
+    (subst (λ y. OrderIsKept (point w (entry w n rise) (put s.grips d None)) (put held d y)) (sym brings) (restarted_kept w n s.grips held d r u (read_facts w (entries_of s.history) kept.history.well_formed) kept.strong out kept.order)) kept
   where
     w : Setting
     w = s.setting

@@ -16,7 +16,7 @@ use Rattle.window_order.specs.KeptOrders.{IsSealed}
 use Rattle.lineage_table.specs.Lineages.{LineageState, accesses_at}
 use Rattle.lineage_table.specs.declared.accesses.Access.{Access}
 use Rattle.lock_leasing.proofs.Bindings.{front_is}
-use Rattle.lock_leasing.specs.Configurations.{Grips}
+use Rattle.lock_leasing.specs.Configurations.{Grips, Point}
 use Rattle.lock_leasing.specs.Standings.{has_ended}
 use Rattle.lock_leasing.specs.Tables.{uses}
 use Rattle.serial_line.proofs.Fronts.{front_inserted, front_within}
@@ -58,8 +58,8 @@ turned_sealed history first xs x line after none marks sealed is =
 -- What is sealed, by the history
 
 -- as many items as stand before the first live run of the history
-pub sealed_is : (w : Setting) (n : Reading) (g : Grips) (line : Marked) → IsRead w n → MarksAreKept n g line.marks → IsSealed line → line.sealed ≡ sealed_in n
-sealed_is w n g line read kept is = is ∙ front_is n g line.marks kept (λ q among. placed_if (n.run q) (sym (read.standing.line q) ∙ among))
+pub sealed_is : (p : Point) (line : Marked) → IsRead p.setting p.reading → MarksAreKept p.reading p.grips line.marks → IsSealed line → line.sealed ≡ sealed_in p.reading
+sealed_is p line read kept is = is ∙ front_is p.reading p.grips line.marks kept (λ q among. placed_if (p.reading.run q) (sym (read.standing.line q) ∙ among))
   where
     placed_if : (o : OfRun) → stands_in o ≡ true → is_some o.placed ≡ true
     placed_if o stands = grind (arith, common_steps)
@@ -89,11 +89,11 @@ accesses_unsealed w n g d covering access line own kept sealed (Failed e k ∷ i
 accesses_unsealed w n g d covering access line own kept sealed (Back e k ∷ is) = accesses_unsealed w n g d covering access line own kept sealed is
 
 -- .. of those of the table
-pub table_unsealed : (w : Setting) (n : Reading) (g : Grips) (d : ℕ) (line : Marked) (table : List LineageState) → d < length w.first → TableFits w n g table → MarksAreKept n g line.marks → IsSealed line → list_any (λ x. is_sealed (Ran x.run) line) (accesses_at table d) ≡ false
-table_unsealed w n g d line table below fits kept sealed = by_model (is_weak w.mode) refl
+pub table_unsealed : (p : Point) (d : ℕ) (line : Marked) (table : List LineageState) → d < length p.setting.first → TableFits p table → MarksAreKept p.reading p.grips line.marks → IsSealed line → list_any (λ x. is_sealed (Ran x.run) line) (accesses_at table d) ≡ false
+table_unsealed p d line table below fits kept sealed = by_model (is_weak p.setting.mode) refl
   where
-    by_model : (b : Bool) → is_weak w.mode ≡ b → list_any (λ x. is_sealed (Ran x.run) line) (accesses_at table d) ≡ false
+    by_model : (b : Bool) → is_weak p.setting.mode ≡ b → list_any (λ x. is_sealed (Ran x.run) line) (accesses_at table d) ≡ false
     by_model true weak = ap (list_any (λ x. is_sealed (Ran x.run) line)) (fits.weakly weak d below).accesses
     by_model false strong =
         let own = (fits.ordered strong).each d below in
-        ap (list_any (λ x. is_sealed (Ran x.run) line)) own.accesses ∙ accesses_unsealed w n g d (commits_write n d) _ line (λ r. refl) kept sealed n.line
+        ap (list_any (λ x. is_sealed (Ran x.run) line)) own.accesses ∙ accesses_unsealed p.setting p.reading p.grips d (commits_write p.reading d) _ line (λ r. refl) kept sealed p.reading.line

@@ -11,7 +11,7 @@ use Rattle.hub_core.specs.KeptOrders.{IsOrderOf, OrderIsBeside}
 use Rattle.window_order.specs.KeptOrders.{IsUnreleased, is_first, left_by}
 use Rattle.history_book.specs.ReadHistories.{HistoryState, read_in, with_entry}
 use Rattle.lineage_table.specs.Lineages.{LineageState, lineage_at, released, removed, with_lineage}
-use Rattle.lock_leasing.specs.Configurations.{Grips}
+use Rattle.lock_leasing.specs.Configurations.{Grips, point}
 use Rattle.serial_line.specs.Marks.{Marked}
 use Rattle.std.proofs.Common.{ap, refl, subst, sym, ◌∙◌}
 use Rattle.std.specs.Prelude.{Bool, List, false, if◌then◌else◌, is_some, length, not, true, ℕ, ◌+◌, ◌<◌, ◌==◌, ◌||◌, ◌≡◌}
@@ -22,7 +22,7 @@ use Rattle.window_order.specs.TableChanges.{ChangesEach, is_done_there, skipped_
 use Rattle.window_order.specs.TableKept.{TableIsKept}
 
 -- the run has an access on the device, which it is not done with
-pub may_leave : (w : Setting) (n : Reading) (g : Grips) (held : ℕ → ℕ) (r : ℕ) (table : List LineageState) → IsSkipped w n g held r (command_at w.runs r (next_of n r)) → (command_at w.runs r (next_of n r)).device.0 < length w.first → TableIsKept w n g table
+pub may_leave : (w : Setting) (n : Reading) (g : Grips) (held : ℕ → ℕ) (r : ℕ) (table : List LineageState) → IsSkipped w n g held r (command_at w.runs r (next_of n r)) → (command_at w.runs r (next_of n r)).device.0 < length w.first → TableIsKept (point w n g) table
     → (is_first r (lineage_at table (command_at w.runs r (next_of n r)).device.0) ≡ not (did n r (command_at w.runs r (next_of n r)).device.0)) × IsUnreleased r (lineage_at table (command_at w.runs r (next_of n r)).device.0)
 may_leave w n g held r table s below kept =
     let d : ℕ = (command_at w.runs r (next_of n r)).device.0 in
@@ -46,8 +46,8 @@ module _ (h h₂ : HistoryState) (g : Grips) (r : ℕ) (line after : Marked) (ta
 
   pub order_skipped : {rounds : ℕ} (held : ℕ → ℕ) (last : Bool) → is_weak w.mode ≡ false → IsSkipped w n g held r (command_at w.runs r k) → d < length w.first → last ≡ is_done_there w n r k → later ≡ (if last then with_lineage table d (left_by r (is_first r (lineage_at table d))) else table)
       → OrderIsBeside rounds h g line table → OrderIsBeside rounds h₂ g after later
-  order_skipped {rounds = rounds} held last strong s below last_is changed kept = entry_kept h h₂ g r (Did (run_no r) k Skipped) after later new (subst (λ (x : Marked). IsOrderOf rounds w m g x later) (sym same) (record {
-    table_is = fits_ordered w m g later strong (skipped_table w n g held r (command_at w.runs r k) table later s (by_rest (touches_from w.runs r d (k + 1)) refl) (kept.table_is.ordered strong));
+  order_skipped {rounds = rounds} held last strong s below last_is changed kept = entry_kept h h₂ g r (Did (run_no r) k Skipped) after later new (subst (λ (x : Marked). IsOrderOf rounds (point w m g) x later) (sym same) (record {
+    table_is = fits_ordered (point w m g) later strong (skipped_table w n g held r (command_at w.runs r k) table later s (by_rest (touches_from w.runs r d (k + 1)) refl) (kept.table_is.ordered strong));
     line_is = marks_skipped w n g r k line.marks kept.line_is;
     sealed = kept.sealed;
     runs = kept.runs;
@@ -86,7 +86,7 @@ module _ (h h₂ : HistoryState) (g : Grips) (r : ℕ) (line after : Marked) (ta
 
   -- .. under the weak model
   pub order_skipped_weakly : {rounds : ℕ} → is_weak w.mode ≡ true → later ≡ table → OrderIsBeside rounds h g line table → OrderIsBeside rounds h₂ g after later
-  order_skipped_weakly {rounds = rounds} weak still kept = entry_kept h h₂ g r (Did (run_no r) k Skipped) after later new (subst (λ (x : Marked). IsOrderOf rounds w m g x later) (sym same) (subst (IsOrderOf rounds w m g line) (sym still) (record {
+  order_skipped_weakly {rounds = rounds} weak still kept = entry_kept h h₂ g r (Did (run_no r) k Skipped) after later new (subst (λ (x : Marked). IsOrderOf rounds (point w m g) x later) (sym same) (subst (IsOrderOf rounds (point w m g) line) (sym still) (record {
     table_is = fits_weakly w n m g g table weak (λ e. refl) kept.table_is;
     line_is = marks_skipped w n g r k line.marks kept.line_is;
     sealed = kept.sealed;

@@ -7,7 +7,7 @@ use Rattle.history_book.specs.Settings.{Setting, is_weak}
 use Rattle.home_types.specs.declared.numbers.DeviceNo.{DeviceNo}
 use Rattle.hub_core.specs.KeptOrders.{LineageIsBare, TableFits}
 use Rattle.lineage_table.specs.Lineages.{LineageState, accesses_at, committed_lineage, lineage_at, removed, undone}
-use Rattle.lock_leasing.specs.Configurations.{Grips}
+use Rattle.lock_leasing.specs.Configurations.{Grips, Point, point}
 use Rattle.std.proofs.Common.{ap, refl, subst, sym, ◌∙◌}
 use Rattle.std.specs.Prelude.{Bool, List, Option, [], false, if◌then◌else◌, length, true, ℕ, ◌<◌, ◌==◌, ◌≡◌}
 use Rattle.window_order.specs.TableChanges.{ChangesEach, doomed_lineage, doomed_unless, is_named_device, undone_change}
@@ -62,7 +62,7 @@ either_model P w weakly strongly = elim (is_weak w.mode) as (λ b. is_weak w.mod
 ] refl
 
 -- a table that stays, under the weak model
-pub fits_weakly : (w : Setting) (n m : Reading) (g f : Grips) (table : List LineageState) → is_weak w.mode ≡ true → ((d : ℕ) → m.up d ≡ n.up d) → TableFits w n g table → TableFits w m f table
+pub fits_weakly : (w : Setting) (n m : Reading) (g f : Grips) (table : List LineageState) → is_weak w.mode ≡ true → ((d : ℕ) → m.up d ≡ n.up d) → TableFits (point w n g) table → TableFits (point w m f) table
 fits_weakly w n m g f table weak counted fits = record {
   devices = fits.devices;
   ordered = λ strong. absurd (let both : true ≡ false = sym weak ∙ strong in cc);
@@ -70,15 +70,15 @@ fits_weakly w n m g f table weak counted fits = record {
 }
 
 -- where the model has an order
-pub fits_ordered : (w : Setting) (n : Reading) (g : Grips) (table : List LineageState) → is_weak w.mode ≡ false → TableIsKept w n g table → TableFits w n g table
-fits_ordered w n g table strong kept = record {
+pub fits_ordered : (p : Point) (table : List LineageState) → is_weak p.setting.mode ≡ false → TableIsKept p table → TableFits p table
+fits_ordered p table strong kept = record {
   devices = kept.devices;
   ordered = λ e. kept;
   weakly = λ weak. absurd (let both : true ≡ false = sym weak ∙ strong in cc);
 }
 
 -- a table that stays
-pub fits_still : (w : Setting) (n m : Reading) (g f : Grips) (table : List LineageState) → ((d : ℕ) → m.up d ≡ n.up d) → (TableIsKept w n g table → TableIsKept w m f table) → TableFits w n g table → TableFits w m f table
+pub fits_still : (w : Setting) (n m : Reading) (g f : Grips) (table : List LineageState) → ((d : ℕ) → m.up d ≡ n.up d) → (TableIsKept (point w n g) table → TableIsKept (point w m f) table) → TableFits (point w n g) table → TableFits (point w m f) table
 fits_still w n m g f table counted kept fits = record {
   devices = fits.devices;
   ordered = λ strong. kept (fits.ordered strong);
@@ -87,8 +87,8 @@ fits_still w n m g f table counted kept fits = record {
 
 -- .. and one that is changed
 pub fits_changed : (w : Setting) (n m : Reading) (g f : Grips) (change : ℕ → LineageState → LineageState) (old new : List LineageState)
-    → ((d : ℕ) → m.up d ≡ n.up d) → ((d : ℕ) → KeepsBare (change d)) → ChangesEach change old new → (TableIsKept w n g old → TableIsKept w m f new)
-    → TableFits w n g old → TableFits w m f new
+    → ((d : ℕ) → m.up d ≡ n.up d) → ((d : ℕ) → KeepsBare (change d)) → ChangesEach change old new → (TableIsKept (point w n g) old → TableIsKept (point w m f) new)
+    → TableFits (point w n g) old → TableFits (point w m f) new
 fits_changed w n m g f change old new counted keeps changes kept fits = record {
   devices = changes.devices ∙ fits.devices;
   ordered = λ strong. kept (fits.ordered strong);
@@ -98,7 +98,7 @@ fits_changed w n m g f change old new counted keeps changes kept fits = record {
 -- .. in how its devices are counted
 pub fits_turned : (w : Setting) (n m : Reading) (g f : Grips) (change : ℕ → LineageState → LineageState) (old new : List LineageState)
     → ((d : ℕ) (s : LineageState) → LineageIsBare n d s → LineageIsBare m d (change d s)) → ChangesEach change old new
-    → (TableIsKept w n g old → TableIsKept w m f new) → TableFits w n g old → TableFits w m f new
+    → (TableIsKept (point w n g) old → TableIsKept (point w m f) new) → TableFits (point w n g) old → TableFits (point w m f) new
 fits_turned w n m g f change old new turns changes kept fits = record {
   devices = changes.devices ∙ fits.devices;
   ordered = λ strong. kept (fits.ordered strong);
@@ -108,15 +108,15 @@ fits_turned w n m g f change old new turns changes kept fits = record {
 -- What the table tells in each model
 
 -- no access is the detector's
-pub no_detector : (w : Setting) (n : Reading) (g : Grips) (table : List LineageState) (d : ℕ) → IsRead w n → d < length w.first → TableFits w n g table → has_access 0 (accesses_at table d) ≡ false
-no_detector w n g table d read below fits = elim (is_weak w.mode) as (λ b. is_weak w.mode ≡ b → has_access 0 (accesses_at table d) ≡ false) [
+pub no_detector : (p : Point) (table : List LineageState) (d : ℕ) → IsRead p.setting p.reading → d < length p.setting.first → TableFits p table → has_access 0 (accesses_at table d) ≡ false
+no_detector p table d read below fits = elim (is_weak p.setting.mode) as (λ b. is_weak p.setting.mode ≡ b → has_access 0 (accesses_at table d) ≡ false) [
   | true ↦ (λ weak. ap (has_access 0) (fits.weakly weak d below).accesses)
-  | false ↦ (λ strong. none_of_detector w n g d (lineage_at table d) read ((fits.ordered strong).each d below))
+  | false ↦ (λ strong. none_of_detector p d (lineage_at table d) read ((fits.ordered strong).each d below))
 ] refl
 
 -- how a device is counted
-pub counted_told : (w : Setting) (n : Reading) (g : Grips) (table : List LineageState) (d : ℕ) → d < length w.first → TableFits w n g table → (lineage_at table d).up ≡ n.up d
-counted_told w n g table d below fits = elim (is_weak w.mode) as (λ b. is_weak w.mode ≡ b → (lineage_at table d).up ≡ n.up d) [
+pub counted_told : (p : Point) (table : List LineageState) (d : ℕ) → d < length p.setting.first → TableFits p table → (lineage_at table d).up ≡ p.reading.up d
+counted_told p table d below fits = elim (is_weak p.setting.mode) as (λ b. is_weak p.setting.mode ≡ b → (lineage_at table d).up ≡ p.reading.up d) [
   | true ↦ (λ weak. (fits.weakly weak d below).up)
   | false ↦ (λ strong. ((fits.ordered strong).each d below).up)
 ] refl

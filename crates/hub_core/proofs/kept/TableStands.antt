@@ -13,7 +13,7 @@ use Rattle.lineage_table.specs.declared.accesses.Access.{Access}
 use Rattle.lock_leasing.proofs.AccessRuns.{EachTail}
 use Rattle.lock_leasing.proofs.Facts.{Facts, committed_stays, live_uncommitted}
 use Rattle.lock_leasing.proofs.Writers.{Stays, all_stay, no_write}
-use Rattle.lock_leasing.specs.Configurations.{Grips}
+use Rattle.lock_leasing.specs.Configurations.{Grips, point}
 use Rattle.lock_leasing.specs.Tables.{uses}
 use Rattle.lock_leasing.specs.Words.{Write, committed_write, effective_write, is_undone, standing_value, write_of}
 use Rattle.std.proofs.Common.{ap, refl, sym, ◌∙◌}
@@ -33,7 +33,7 @@ module _ (w : Setting) (n : Reading) (g : Grips) (f : Facts w n g) (d : ℕ) (pa
   committed_from best is = fold (λ o x. option_or (committed_write n d x) o) best is
 
   abbrev accesses_of : List Item → List Access
-  accesses_of is = accesses_along (uses w n d) (commits_write n d) (access_read w n g passed d) is
+  accesses_of is = accesses_along (uses w n d) (commits_write n d) (access_read (point w n g) passed d) is
 
   -- a run that is not a committed one which wrote
   unwritten : (q : ℕ) → commits_write n d q ≡ false → committed_write n d (Ran (run_no q)) ≡ None
@@ -91,13 +91,13 @@ module _ (w : Setting) (n : Reading) (g : Grips) (f : Facts w n g) (d : ℕ) (pa
       covered ea = behind next later value committed (λ e. own (or_right (commits_write n d q.0) (list_any (of_run (commits_write n d)) is) ea)) (λ e. absurd (both_ways (list_any (of_run (commits_write n d)) is) e ea))
 
       by_tests : (a : Bool) → list_any (of_run (commits_write n d)) is ≡ a → (b : Bool) → commits_write n d q.0 ≡ b → (u : Bool) → uses w n d q.0 ≡ u
-          → value_standing value (if u && not a then (access_read w n g passed d q.0 ∷ accesses_of is) else accesses_of is) ≡ value_in (fold (λ o x. option_or (write_of n g d x) o) next is)
+          → value_standing value (if u && not a then (access_read (point w n g) passed d q.0 ∷ accesses_of is) else accesses_of is) ≡ value_in (fold (λ o x. option_or (write_of n g d x) o) next is)
       by_tests true ea b eb true eu = covered ea
       by_tests true ea b eb false eu = covered ea
       by_tests false ea true eb true eu = absurd (both_ways (is_committed n q.0) (live_uncommitted n q.0 (three (is_live n q.0) _ _ eu).0) (and_parts (is_committed n q.0) (is_some ((n.run q.0).on d).wrote) eb).0)
       by_tests false ea true eb false eu = behind next later value committed (λ e. absurd (both_ways (list_any (of_run (commits_write n d)) is) ea e))
           (λ e. own (or_left (commits_write n d q.0) (list_any (of_run (commits_write n d)) is) eb) ∙ sym committed ∙ ap (λ o. unwrap_or o (stand_at w.first d).value) (none_committed is later ea) ∙ covering q.0 eb best known)
-      by_tests false ea false eb true eu = behind next later (unwrap_or (access_read w n g passed d q.0).wrote value) committed (λ e. absurd (both_ways (list_any (of_run (commits_write n d)) is) ea e))
+      by_tests false ea false eb true eu = behind next later (unwrap_or (access_read (point w n g) passed d q.0).wrote value) committed (λ e. absurd (both_ways (list_any (of_run (commits_write n d)) is) ea e))
           (λ e. shown q.0 best value (none (or_from (commits_write n d q.0) (list_any (of_run (commits_write n d)) is) eb ea)))
       by_tests false ea false eb false eu = behind next later value committed (λ e. absurd (both_ways (list_any (of_run (commits_write n d)) is) ea e))
           (λ e. none (or_from (commits_write n d q.0) (list_any (of_run (commits_write n d)) is) eb ea) ∙ sym (ap (λ o. value_in (option_or o best)) (no_write w n g f d q stays eb eu)))
@@ -109,7 +109,7 @@ module _ (w : Setting) (n : Reading) (g : Grips) (f : Facts w n g) (d : ℕ) (pa
   along c (Ran q ∷ is) best known value stays committed own none = run_follows c q is best known value (stays.0 q.0 (eq-eqb q.0 _ refl)) (λ o k v. along c is o k v stays.1) committed own none
 
 -- the table tells the standing value
-pub stand_told : (w : Setting) (n : Reading) (g : Grips) (d : ℕ) (s : LineageState) → Facts w n g → is_weak w.mode ≡ false → LineageIsKept w n g d s → value_standing s.committed s.accesses ≡ standing_value w n g d
+pub stand_told : (w : Setting) (n : Reading) (g : Grips) (d : ℕ) (s : LineageState) → Facts w n g → is_weak w.mode ≡ false → LineageIsKept (point w n g) d s → value_standing s.committed s.accesses ≡ standing_value (point w n g) d
 stand_told w n g d s f strong own =
     ap (value_standing s.committed) own.accesses
     ∙ along w n g f d own.passed s.committed n.line None None s.committed (all_stay w n g f d) (sym own.committed) (λ e. refl) (λ e. own.committed ∙ ap (λ o. unwrap_or o (stand_at w.first d).value) (none_committed w n g f d own.passed n.line None e))

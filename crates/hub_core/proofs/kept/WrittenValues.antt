@@ -23,7 +23,7 @@ use Rattle.home_types.specs.declared.kinds.Kind.TheVariants.{Range, States}
 use Rattle.home_types.specs.declared.kinds.Kind.{Kind}
 use Rattle.hub_core.specs.Openings.{names_values_of}
 use Rattle.lock_leasing.proofs.Effects.{last_some_of}
-use Rattle.lock_leasing.specs.Configurations.{Grips}
+use Rattle.lock_leasing.specs.Configurations.{Grips, Point}
 use Rattle.lock_leasing.specs.Words.{Write, is_undone, last_some, standing_value, value_without, write_of}
 use Rattle.std.proofs.Common.{ap, arith, refl, subst, sym, ◌∙◌}
 use Rattle.std.proofs.lemmas.Grind.{common_steps}
@@ -130,9 +130,12 @@ line_value w n g d line all first = by_write (last_some (write_of n g d) line) (
     by_write (Some e) each = each e refl
 
 -- .. at which a device would stand without a run
-pub undo_value : (w : Setting) (n : Reading) (g : Grips) (r d : ℕ) → WritesFit w n → IsTrue (has_value (kind_at w.kinds d) (stand_at w.first d).value) → has_value (kind_at w.kinds d) (value_without w n g r d) ≡ true
-undo_value w n g r d all first = line_value w n g d (without r n.line) all first
+pub undo_value : (p : Point) (r d : ℕ) → WritesFit p.setting p.reading → IsTrue (has_value (kind_at p.setting.kinds d) (stand_at p.setting.first d).value) → has_value (kind_at p.setting.kinds d) (value_without p r d) ≡ true
+undo_value p r d all first = line_value p.setting p.reading p.grips d (without r p.reading.line) all first
 
 -- .. and at which it stands
-pub standing_fits : (w : Setting) (n : Reading) (g : Grips) (d : ℕ) → is_weak w.mode ≡ false → WritesFit w n → IsTrue (has_value (kind_at w.kinds d) (stand_at w.first d).value) → has_value (kind_at w.kinds d) (standing_value w n g d) ≡ true
-standing_fits w n g d strong all first = ap (λ b. has_value (kind_at w.kinds d) (if b then n.last d else unwrap_or (option_map (λ e. e.value) (last_some (write_of n g d) n.line)) (stand_at w.first d).value)) strong ∙ line_value w n g d n.line all first
+pub standing_fits : (p : Point) (d : ℕ) → is_weak p.setting.mode ≡ false → WritesFit p.setting p.reading → IsTrue (has_value (kind_at p.setting.kinds d) (stand_at p.setting.first d).value) → has_value (kind_at p.setting.kinds d) (standing_value p d) ≡ true
+standing_fits p d strong all first =
+    ap (λ b. has_value (kind_at p.setting.kinds d) (if b then p.reading.last d
+    else unwrap_or (option_map (λ e. e.value) (last_some (write_of p.reading p.grips d) p.reading.line)) (stand_at p.setting.first d).value)) strong
+    ∙ line_value p.setting p.reading p.grips d p.reading.line all first

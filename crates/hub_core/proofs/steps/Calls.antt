@@ -22,7 +22,9 @@ use Rattle.hub_core.proofs.steps.Takes.{made_by}
 use Rattle.legal_days.specs.AccountedCalls.{tells_call, told_calls, told_falls}
 use Rattle.hub_core.specs.HubKept.{is_of_run}
 use Rattle.hub_core.specs.Steps.{Choice, Moves, after_give, after_take, choice_of, decide, down_entries, give_entries, probe_entries, with_entries}
-use Rattle.lock_leasing.specs.Configurations.{Commands, Configuration, Grip, Grips, Probes, Purpose, Undoes, read_of}
+use Rattle.lock_leasing.specs.Configurations.{Configuration, Grip, Grips, point, read_of}
+use Rattle.lock_leasing.specs.declared.purposes.Purpose.TheVariants.{Commands, Probes, Undoes}
+use Rattle.lock_leasing.specs.declared.purposes.Purpose.{Purpose}
 use Rattle.lock_leasing.specs.Waits.{lost_by}
 use Rattle.std.proofs.Common.{ap, arith, refl, ◌∙◌}
 use Rattle.std.proofs.lemmas.Grind.{common_steps}
@@ -43,7 +45,7 @@ downs_none runs d r k c = elim c.must as (λ b. told_calls runs (Did (run_no r) 
   | false ↦ grind (arith, common_steps)
 ]
 
-take_makes_none : (w : Setting) (n : Reading) (g : Grips) (r m d : ℕ) → MakesNoCall w.runs d (decide w n g r m)
+take_makes_none : (w : Setting) (n : Reading) (g : Grips) (r m d : ℕ) → MakesNoCall w.runs d (decide (point w n g) r m)
 take_makes_none w n g r m d =
     decide_is (MakesNoCall w.runs d) w n g r m (record {
       absent = λ none. refl;
@@ -410,7 +412,7 @@ downs_register w n r k c q = by_must c.must
     by_must true = put_keeps (λ o. o.register) (entry w n (Did (run_no r) k Down)).run r _ refl q ∙ answered
     by_must false = answered
 
-take_keeps_registers : (w : Setting) (n : Reading) (g : Grips) (r m : ℕ) → KeepsRegisters w n (decide w n g r m)
+take_keeps_registers : (w : Setting) (n : Reading) (g : Grips) (r m : ℕ) → KeepsRegisters w n (decide (point w n g) r m)
 take_keeps_registers w n g r m =
     decide_is (KeepsRegisters w n) w n g r m (record {
       absent = λ none q. refl;
@@ -440,7 +442,7 @@ take_registers s r m q =
 abbrev MakesNoFall : ℕ → Choice → Type 0
 MakesNoFall d c = told_falls (made_by c) d ≡ 0
 
-take_makes_no_fall : (w : Setting) (n : Reading) (g : Grips) (r m d : ℕ) → MakesNoFall d (decide w n g r m)
+take_makes_no_fall : (w : Setting) (n : Reading) (g : Grips) (r m d : ℕ) → MakesNoFall d (decide (point w n g) r m)
 take_makes_no_fall w n g r m d =
     decide_is (MakesNoFall d) w n g r m (record {
       absent = λ none. refl;
@@ -469,7 +471,7 @@ take_falls s r m d =
 abbrev KeepsCounted : Setting → Reading → Choice → Type 0
 KeepsCounted w n c = (d : ℕ) → counted_of (fold (entry w) n (made_by c)) d ≡ counted_of n d
 
-take_keeps_counted : (w : Setting) (n : Reading) (g : Grips) (r m : ℕ) → KeepsCounted w n (decide w n g r m)
+take_keeps_counted : (w : Setting) (n : Reading) (g : Grips) (r m : ℕ) → KeepsCounted w n (decide (point w n g) r m)
 take_keeps_counted w n g r m =
     decide_is (KeepsCounted w n) w n g r m (record {
       absent = λ none d. refl;

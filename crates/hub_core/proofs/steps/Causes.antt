@@ -22,7 +22,7 @@ use Rattle.legal_days.specs.CleanReads.{answer_is_clean, entry_is_clean}
 use Rattle.legal_days.specs.JustifiedAborts.{abort_is_justified, equals_some, has_answer}
 use Rattle.legal_days.specs.LegalWindows.{none_fails, weakly_allowed}
 use Rattle.hub_core.specs.Steps.{Choice, Moves, answers_down, decide, down_entries}
-use Rattle.lock_leasing.specs.Configurations.{Grip, Grips, grips_command, has_grip, is_command, no_grips}
+use Rattle.lock_leasing.specs.Configurations.{Grip, Grips, Point, grips_command, has_grip, is_command, no_grips, point}
 use Rattle.lock_leasing.specs.Waits.{down_at_end, grip_wait, strict_wait}
 use Rattle.lock_leasing.specs.Words.{has_touched, live_before}
 use Rattle.std.proofs.Common.{ap, arith, cond, refl, sym, ◌∙◌}
@@ -73,7 +73,7 @@ pub each_is : {A : Type 0} (P Q : A → Type 0) (xs : List A) → ((x : A) → P
 each_is P Q [] step all = tt
 each_is P Q (x ∷ xs) step all = (step x all.0, each_is P Q xs step all.1)
 
-end_without_grips : (w : Setting) (n : Reading) (g : Grips) (r : ℕ) → grip_wait w g r ≡ None → down_at_end w n g r ≡ down_at_end w n no_grips r
+end_without_grips : (w : Setting) (n : Reading) (g : Grips) (r : ℕ) → grip_wait w g r ≡ None → down_at_end (point w n g) r ≡ down_at_end (point w n no_grips) r
 end_without_grips w n g r free =
     ap (λ o. if is_strict w.mode then o else None)
     (find_each (λ d. has_touched n g r d && not (n.up d)) (λ d. has_touched n no_grips r d && not (n.up d)) (devices_of w r)
@@ -100,13 +100,13 @@ down_shows w n r c next = elim c.must as (λ b. c.must ≡ b → IsTrue (along w
   | false ↦ (λ free. refl)
 ] refl
 
-end_shows : (w : Setting) (n : Reading) (g : Grips) (r d : ℕ) → grip_wait w g r ≡ None → next_command w n r ≡ None → down_at_end w n g r ≡ Some d → Shows w n (Moves (Doomed (run_no r) (DownAtEnd (device_no d)) ∷ []))
+end_shows : (w : Setting) (n : Reading) (g : Grips) (r d : ℕ) → grip_wait w g r ≡ None → next_command w n r ≡ None → down_at_end (point w n g) r ≡ Some d → Shows w n (Moves (Doomed (run_no r) (DownAtEnd (device_no d)) ∷ []))
 end_shows w n g r d free none at = and_is (and_is (ap is_none none) (ap (λ o. equals_some o d) (sym (end_without_grips w n g r free) ∙ at) ∙ grind (arith, common_steps))) refl
 
 -- but for the weak model, each doom that a run's step makes is justified
-pub take_shows : (w : Setting) (n : Reading) (g : Grips) (r m : ℕ) → is_weak w.mode ≡ false → Shows w n (decide w n g r m)
-take_shows w n g r m strong =
-    decide_is (Shows w n) w n g r m (record {
+pub take_shows : (p : Point) (r m : ℕ) → is_weak p.setting.mode ≡ false → Shows p.setting p.reading (decide p r m)
+take_shows p r m strong =
+    decide_is (Shows p.setting p.reading) p.setting p.reading p.grips r m (record {
       absent = λ none. refl;
       over = λ e at. refl;
       waits = λ why. refl;
@@ -115,11 +115,11 @@ take_shows w n g r m strong =
       aborted = λ cause act doomed over. refl;
       drops = λ cause d undoing down. refl;
       undoes = λ cause d undoing up. refl;
-      revokes = λ c x run e at. and_is (revocation_is_shown w n g r m x c run.act.live run.next run.guard at) refl;
+      revokes = λ c x run e at. and_is (revocation_is_shown p r m x c run.act.live run.next run.guard at) refl;
       skips = λ c skip. refl;
-      downs = λ c run next home down. down_shows w n r c run.next;
+      downs = λ c run next home down. down_shows p.setting p.reading r c run.next;
       goes = λ c run next home up. refl;
-      fails_at_end = λ d all at. end_shows w n g r d all.act.free all.none at;
+      fails_at_end = λ d all at. end_shows p.setting p.reading p.grips r d all.act.free all.none at;
       commits = λ all up. refl;
     })
 
@@ -136,9 +136,9 @@ down_is_clean w n r c strong next down = elim c.must as (λ b. IsTrue (along w (
         either up sees weak s d = grind (arith, common_steps)
 
 -- and each answer that it makes is clean
-pub take_is_clean : (w : Setting) (n : Reading) (g : Grips) (r m : ℕ) → is_weak w.mode ≡ false → IsClean w n (decide w n g r m)
-take_is_clean w n g r m strong =
-    decide_is (IsClean w n) w n g r m (record {
+pub take_is_clean : (p : Point) (r m : ℕ) → is_weak p.setting.mode ≡ false → IsClean p.setting p.reading (decide p r m)
+take_is_clean p r m strong =
+    decide_is (IsClean p.setting p.reading) p.setting p.reading p.grips r m (record {
       absent = λ none. refl;
       over = λ e at. refl;
       waits = λ why. refl;
@@ -149,7 +149,7 @@ take_is_clean w n g r m strong =
       undoes = λ cause d undoing up. refl;
       revokes = λ c x run e at. refl;
       skips = λ c skip. refl;
-      downs = λ c run next home down. down_is_clean w n r c strong run.next down;
+      downs = λ c run next home down. down_is_clean p.setting p.reading r c strong run.next down;
       goes = λ c run next home up. refl;
       fails_at_end = λ d all at. refl;
       commits = λ all up. refl;
@@ -176,8 +176,8 @@ weak_is_not_strict Partitioned s e = absurd (cc)
 weak_is_not_strict Eventual s e = absurd (cc)
 
 -- no run of it fails at its end for a device that is down
-pub never_down_at_end : (w : Setting) (n : Reading) (g : Grips) (r : ℕ) → is_weak w.mode ≡ true → down_at_end w n g r ≡ None
-never_down_at_end w n g r weak = ap (λ b. if b then find (λ e. has_touched n g r e && not (n.up e)) (devices_of w r) else None) (weak_is_not_strict w.mode.model w.mode.scheduler weak)
+pub never_down_at_end : (p : Point) (r : ℕ) → is_weak p.setting.mode ≡ true → down_at_end p r ≡ None
+never_down_at_end p r weak = ap (λ b. if b then find (λ e. has_touched p.reading p.grips r e && not (p.reading.up e)) (devices_of p.setting r) else None) (weak_is_not_strict p.setting.mode.model p.setting.mode.scheduler weak)
 
 -- nor waits for one by the model
 pub never_strict : (w : Setting) (n : Reading) (r : ℕ) → is_weak w.mode ≡ true → strict_wait w n r ≡ None
@@ -199,9 +199,9 @@ abbrev pub IsAllowed : Setting → Reading → Choice → Type 0
 IsAllowed w n c = IsTrue (along w (weakly_allowed w) n (made_by c))
 
 -- where no command of the run has failed, if it is not doomed
-pub take_is_allowed : (w : Setting) (n : Reading) (g : Grips) (r m : ℕ) → is_weak w.mode ≡ true → ((n.run r).doomed ≡ None → none_fails (commands_of w.runs r) (n.run r).answers ≡ true) → IsAllowed w n (decide w n g r m)
-take_is_allowed w n g r m weak passes =
-    decide_is (IsAllowed w n) w n g r m (record {
+pub take_is_allowed : (p : Point) (r m : ℕ) → is_weak p.setting.mode ≡ true → ((p.reading.run r).doomed ≡ None → none_fails (commands_of p.setting.runs r) (p.reading.run r).answers ≡ true) → IsAllowed p.setting p.reading (decide p r m)
+take_is_allowed p r m weak passes =
+    decide_is (IsAllowed p.setting p.reading) p.setting p.reading p.grips r m (record {
       absent = λ none. refl;
       over = λ e at. refl;
       waits = λ why. refl;
@@ -212,8 +212,8 @@ take_is_allowed w n g r m weak passes =
       undoes = λ cause d undoing up. refl;
       revokes = λ c x run strong at. absurd (let both' : true ≡ false = sym weak ∙ strong in cc);
       skips = λ c skip. refl;
-      downs = λ c run next home down. weakly_down w n r c weak run.next down;
+      downs = λ c run next home down. weakly_down p.setting p.reading r c weak run.next down;
       goes = λ c run next home up. refl;
-      fails_at_end = λ d all at. absurd (let both' : None ≡ Some d = sym (never_down_at_end w n g r weak) ∙ at in cc);
+      fails_at_end = λ d all at. absurd (let both' : None ≡ Some d = sym (never_down_at_end p r weak) ∙ at in cc);
       commits = λ all up. and_is (passes all.sound) refl;
     })

@@ -20,7 +20,7 @@ use Rattle.home_types.specs.declared.commands.Command.{Command}
 use Rattle.hub_core.proofs.steps.Choices.{Acts, Answered, Commanding, Enters, Skipping, Undoing, decide_is}
 use Rattle.hub_core.specs.Steps.{Absent, Choice, HandsOut, Moves, Over, Waits, aborts, decide, down_entries, skip_entries}
 use Rattle.lock_leasing.proofs.Effects.{effect_is, live_runs_live}
-use Rattle.lock_leasing.specs.Configurations.{Grips}
+use Rattle.lock_leasing.specs.Configurations.{Grips, point}
 use Rattle.lock_leasing.specs.Waits.{down_at_end}
 use Rattle.lock_leasing.specs.Words.{has_touched, is_overdue, lease_deadline, live_before, overdue_for}
 use Rattle.std.proofs.Common.{ap, arith, refl, ◌∙◌}
@@ -60,13 +60,13 @@ same_cause_self (Lost d) = grind (arith, common_steps)
 same_cause_self (Revoked l d t m) = grind (arith, common_steps)
 same_cause_self (DownAtEnd d) = grind (arith, common_steps)
 
-enters_follows : (w : Setting) (n : Reading) (g : Grips) (r m : ℕ) (s : Split) → nat_le n.moment m ≡ true → Enters w n g r m s → Follows w n (Moves (Placed (run_no r) (length s.front) m ∷ []))
+enters_follows : (w : Setting) (n : Reading) (g : Grips) (r m : ℕ) (s : Split) → nat_le n.moment m ≡ true → Enters (point w n g) r m s → Follows w n (Moves (Placed (run_no r) (length s.front) m ∷ []))
 enters_follows w n g r m s moment known = rw (known.run, is_there (n.run r).arrived known.arrived, known.unplaced, moment) refl
 
-aborts_follows : (w : Setting) (n : Reading) (g : Grips) (r : ℕ) (cause : Cause) → Acts w n g r → (n.run r).doomed ≡ Some cause → Follows w n (aborts r cause)
+aborts_follows : (w : Setting) (n : Reading) (g : Grips) (r : ℕ) (cause : Cause) → Acts (point w n g) r → (n.run r).doomed ≡ Some cause → Follows w n (aborts r cause)
 aborts_follows w n g r cause act doomed = rw (act.run, act.live, doomed, same_cause_self cause) refl
 
-undo_follows : (w : Setting) (n : Reading) (g : Grips) (r d : ℕ) (cause : Cause) → Undoing w n g r d cause → Follows w n (Moves (Undid (run_no r) (device_no d) false ∷ []))
+undo_follows : (w : Setting) (n : Reading) (g : Grips) (r d : ℕ) (cause : Cause) → Undoing (point w n g) r d cause → Follows w n (Moves (Undid (run_no r) (device_no d) false ∷ []))
 undo_follows w n g r d cause known =
     let written = effect_is n g r d known.effect in let not_undone : ((n.run r).on d).undid ≡ false = grind (arith, common_steps, written.1) in
     rw (known.act.run, known.act.live, known.device, known.doomed, written.0, not_undone) refl
@@ -75,10 +75,10 @@ undo_follows w n g r d cause known =
 pub live_run : (w : Setting) (n : Reading) (r : ℕ) → Shaped w n → is_live n r ≡ true → is_run w.runs r ≡ true
 live_run w n r shaped live = let placed : is_some (n.run r).placed ≡ true = grind (arith, common_steps) in (shaped r).known ((shaped r).arrived placed)
 
-overdue_follows : (w : Setting) (n : Reading) (g : Grips) (r m : ℕ) (c : Command) (x : ℕ) → Before w n m → Acts w n g r → is_device w c.device.0 ≡ true → overdue_for w n g r c.device.0 m ≡ Some x
+overdue_follows : (w : Setting) (n : Reading) (g : Grips) (r m : ℕ) (c : Command) (x : ℕ) → Before w n m → Acts (point w n g) r → is_device w c.device.0 ≡ true → overdue_for (point w n g) r c.device.0 m ≡ Some x
     → Follows w n (Moves (Doomed (run_no x) (Revoked (run_no r) c.device (lease_deadline w n x c.device.0) m) ∷ []))
 overdue_follows w n g r m c x known act home at =
-    let found = each_found (λ y. is_live n y ≡ true) (is_overdue w n g r c.device.0 m) (live_before n r) x (live_runs_live n (before r n.line)) at in
+    let found = each_found (λ y. is_live n y ≡ true) (is_overdue (point w n g) r c.device.0 m) (live_before n r) x (live_runs_live n (before r n.line)) at in
     let run : is_run w.runs x ≡ true = live_run w n x known.shaped found.0 in
     let sound : is_doomed n x ≡ false = (let over = found.1 in grind (arith, common_steps)) in
     rw (run, found.0, sound, act.run, home, known.moment) refl
@@ -108,7 +108,7 @@ not_late w n r m known sound = late_is (n.run r).answered_doomed ((known.shaped 
     late_is true if_late none = absurd (let some = if_late refl in grind (arith, common_steps))
 
 -- the answer Down, and the doom of a command that must not fail
-down_follows : (w : Setting) (n : Reading) (g : Grips) (r m : ℕ) (c : Command) → Before w n m → Commanding w n g r c → Follows w n (Moves (down_entries r (next_of n r) c))
+down_follows : (w : Setting) (n : Reading) (g : Grips) (r m : ℕ) (c : Command) → Before w n m → Commanding (point w n g) r c → Follows w n (Moves (down_entries r (next_of n r) c))
 down_follows w n g r m c known run = elim c.must as (λ b. IsTrue (along w (may_follow w) n (Did (run_no r) (next_of n r) Down ∷ (if b then Doomed (run_no r) (MustDown (next_of n r)) ∷ [] else [])))) [
   | true ↦ rw answers (rw (run.act.run, did_live w n (run_no r) (next_of n r) Down r, run.act.live, still_sound, within w n r c run.next) refl)
   | false ↦ rw answers refl
@@ -121,7 +121,7 @@ down_follows w n g r m c known run = elim c.must as (λ b. IsTrue (along w (may_
     still_sound = put_keeps (λ o. is_some o.doomed) n.run r _ refl r ∙ ap is_some run.sound
 
 -- a command is skipped
-skip_follows : (w : Setting) (n : Reading) (g : Grips) (r m : ℕ) (c : Command) → Before w n m → Skipping w n g r c → Follows w n (Moves (skip_entries r (next_of n r)))
+skip_follows : (w : Setting) (n : Reading) (g : Grips) (r m : ℕ) (c : Command) → Before w n m → Skipping (point w n g) r c → Follows w n (Moves (skip_entries r (next_of n r)))
 skip_follows w n g r m c known skip =
     rw (did_follows w n r c Skipped skip.act.run skip.act.live skip.next (not_late w n r m known skip.sound) (λ i. not (skip.guard i) && not (is_some (skip.sound i)))) refl
 
@@ -130,7 +130,7 @@ past_end [] k e = omega arith
 past_end (c ∷ cs) zero e = absurd (cc)
 past_end (c ∷ cs) (suc k) e = omega (arith, past_end cs k e)
 
-commits_follows : (w : Setting) (n : Reading) (g : Grips) (r m : ℕ) → Before w n m → Answered w n g r → Follows w n (Over Committed (Ended (run_no r) Committed ∷ []))
+commits_follows : (w : Setting) (n : Reading) (g : Grips) (r m : ℕ) → Before w n m → Answered (point w n g) r → Follows w n (Over Committed (Ended (run_no r) Committed ∷ []))
 commits_follows w n g r m known all = rw (all.act.run, all.act.live, all.sound) all_answered
   where
     all_answered : ((next_of n r == length (commands_of w.runs r)) && true) ≡ true
@@ -140,7 +140,7 @@ commits_follows w n g r m known all = rw (all.act.run, all.act.live, all.sound) 
         let same : next_of n r ≡ length (commands_of w.runs r) = omega (arith, past, least) in
         grind (arith, common_steps, same)
 
-ends_down_follows : (w : Setting) (n : Reading) (g : Grips) (r d : ℕ) → Answered w n g r → down_at_end w n g r ≡ Some d → Follows w n (Moves (Doomed (run_no r) (DownAtEnd (device_no d)) ∷ []))
+ends_down_follows : (w : Setting) (n : Reading) (g : Grips) (r d : ℕ) → Answered (point w n g) r → down_at_end (point w n g) r ≡ Some d → Follows w n (Moves (Doomed (run_no r) (DownAtEnd (device_no d)) ∷ []))
 ends_down_follows w n g r d all at = rw (all.act.run, all.act.live, all.sound, by_strict (is_strict w.mode) at) refl
   where
     by_strict : (b : Bool) → (if b then find (λ e. has_touched n g r e && not (n.up e)) (devices_of w r) else None) ≡ Some d → is_device w d ≡ true
@@ -148,7 +148,7 @@ ends_down_follows w n g r d all at = rw (all.act.run, all.act.live, all.sound, b
     by_strict false e = absurd (cc)
 
 -- the step of a run makes entries that may follow
-pub take_follows : (w : Setting) (n : Reading) (g : Grips) (r m : ℕ) → Before w n m → Follows w n (decide w n g r m)
+pub take_follows : (w : Setting) (n : Reading) (g : Grips) (r m : ℕ) → Before w n m → Follows w n (decide (point w n g) r m)
 take_follows w n g r m known =
     decide_is (Follows w n) w n g r m (record {
       absent = λ none. refl;

@@ -14,7 +14,7 @@ use Rattle.hub_core.proofs.steps.GiveCauses.{next_pends}
 use Rattle.hub_core.proofs.steps.Takes.{live_run}
 use Rattle.hub_core.specs.BlockedRuns.{is_at_command, next_device}
 use Rattle.hub_core.specs.Steps.{choice_of, decide, decide_command}
-use Rattle.lock_leasing.specs.Configurations.{Configuration, Grips, read_of}
+use Rattle.lock_leasing.specs.Configurations.{Configuration, Point, point_of, read_of}
 use Rattle.lock_leasing.specs.Waits.{grip_wait}
 use Rattle.std.proofs.Common.{ap, arith, refl, subst, sym, ◌∙◌}
 use Rattle.std.proofs.lemmas.Bool.{eq-eqb}
@@ -22,13 +22,13 @@ use Rattle.std.proofs.lemmas.Grind.{common_steps}
 use Rattle.std.specs.Prelude.{Bool, None, Option, Some, false, if◌then◌else◌, is_none, is_some, max, not, option_map, true, unwrap_or, ℕ, ◌&&◌, ◌≡◌}
 
 -- the run is at the command c, with the number next_of, which is on the device
-pub record IsAt (w : Setting) (n : Reading) (g : Grips) (r d : ℕ) : Type 0 where
+pub record IsAt (p : Point) (r d : ℕ) : Type 0 where
   pub command : Command
   pub device : command.device.0 ≡ d
-  pub act : Acts w n g r
-  pub sound : (n.run r).doomed ≡ None
-  pub next : next_command w n r ≡ Some command
-  pub came : is_none (n.run r).arrived ≡ false
+  pub act : Acts p r
+  pub sound : (p.reading.run r).doomed ≡ None
+  pub next : next_command p.setting p.reading r ≡ Some command
+  pub came : is_none (p.reading.run r).arrived ≡ false
 
 live_parts : (o : OfRun) → (is_some o.placed && is_none o.ended) ≡ true → (is_some o.placed ≡ true) × (is_none o.placed ≡ false) × (o.ended ≡ None)
 live_parts o live = at o.placed refl
@@ -43,7 +43,7 @@ device_told true o d e = (refl, e)
 device_told false o d e = absurd (cc)
 
 -- what it says of a run that it has a next device
-pub at_command : (s : Configuration) (r d : ℕ) → IsWellFormed s.setting (entries_of s.history) → next_device s r ≡ Some d → IsAt s.setting (read_of s) s.grips r d
+pub at_command : (s : Configuration) (r d : ℕ) → IsWellFormed s.setting (entries_of s.history) → next_device s r ≡ Some d → IsAt (point_of s) r d
 at_command s r d formed next =
     let told = device_told (is_at_command s r) (option_map (λ c. c.device.0) (next_command w n r)) d next in
     let shaped : Shaped w n = shapes w (entries_of s.history) formed in
@@ -71,25 +71,25 @@ at_command s r d formed next =
     none_of (Some x) e = absurd (cc)
 
 -- a run at a command has its device as its next one
-pub next_is : (s : Configuration) (r d : ℕ) → IsAt s.setting (read_of s) s.grips r d → next_device s r ≡ Some d
+pub next_is : (s : Configuration) (r d : ℕ) → IsAt (point_of s) r d → next_device s r ≡ Some d
 next_is s r d at = rw (at.act.live, at.sound, at.act.free, at.next) (ap Some at.device)
 
 -- it is open there
-pub at_open : (w : Setting) (n : Reading) (g : Grips) (r d : ℕ) → IsAt w n g r d → is_open w n r d ≡ true
-at_open w n g r d at =
-    let pending = next_pends w n r at.command at.next in
-    let there = subst (λ e. is_open w n r e ≡ true) at.device in
+pub at_open : (p : Point) (r d : ℕ) → IsAt p r d → is_open p.setting p.reading r d ≡ true
+at_open p r d at =
+    let pending = next_pends p.setting p.reading r at.command at.next in
+    let there = subst (λ e. is_open p.setting p.reading r e ≡ true) at.device in
     there (rw (at.act.live, at.sound, pending) refl)
 
 -- it asks for the device exactly where the guard of the command holds
-pub at_asks : (w : Setting) (n : Reading) (g : Grips) (r d : ℕ) (at : IsAt w n g r d) → asks_on w n r d ≡ holds at.command.when (n.run r).register
-at_asks w n g r d at = ap (λ o. unwrap_or (option_map (λ (c : Command). is_on d c && holds c.when (n.run r).register) o) false) at.next ∙ ap (λ b. b && holds at.command.when (n.run r).register) (eq-eqb at.command.device.0 d at.device)
+pub at_asks : (p : Point) (r d : ℕ) (at : IsAt p r d) → asks_on p.setting p.reading r d ≡ holds at.command.when (p.reading.run r).register
+at_asks p r d at = ap (λ o. unwrap_or (option_map (λ (c : Command). is_on d c && holds c.when (p.reading.run r).register) o) false) at.next ∙ ap (λ b. b && holds at.command.when (p.reading.run r).register) (eq-eqb at.command.device.0 d at.device)
 
 -- its step is that of its command
-pub decides_command : (w : Setting) (n : Reading) (g : Grips) (r d m : ℕ) (at : IsAt w n g r d) → decide w n g r m ≡ decide_command w n g r m (next_of n r) at.command
-decides_command w n g r d m at =
-    let parts = live_parts (n.run r) at.act.live in
+pub decides_command : (p : Point) (r d m : ℕ) (at : IsAt p r d) → decide p r m ≡ decide_command p r m (next_of p.reading r) at.command
+decides_command p r d m at =
+    let parts = live_parts (p.reading.run r) at.act.live in
     rw (at.act.run, parts.2, at.act.free, at.came, parts.1, at.sound, at.next) refl
 
-pub command_choice : (s : Configuration) (r d m : ℕ) (at : IsAt s.setting (read_of s) s.grips r d) → choice_of s r m ≡ decide_command s.setting (read_of s) s.grips r (max s.moment m) (next_of (read_of s) r) at.command
-command_choice s r d m at = decides_command s.setting (read_of s) s.grips r d (max s.moment m) at
+pub command_choice : (s : Configuration) (r d m : ℕ) (at : IsAt (point_of s) r d) → choice_of s r m ≡ decide_command (point_of s) r (max s.moment m) (next_of (read_of s) r) at.command
+command_choice s r d m at = decides_command (point_of s) r d (max s.moment m) at

@@ -15,7 +15,7 @@ use Rattle.home_types.specs.declared.commands.Command.{Command}
 use Rattle.home_types.specs.declared.numbers.RunNo.{RunNo}
 use Rattle.device_gate.specs.declared.slips.Told.{Told}
 use Rattle.device_gate.specs.declared.slips.Told.TheVariants.{Died, Sensed, Worked}
-use Rattle.hub_core.proofs.kept.BlockedMarks.{all_left}
+use Rattle.blocked_runs.proofs.Marking.{all_left}
 use Rattle.hub_core.proofs.kept.Finds.{find_same}
 use Rattle.history_book.proofs.HistoryReads.{run_place}
 use Rattle.hub_core.proofs.kept.Hands.{IsOf, others_hold}
@@ -27,13 +27,14 @@ use Rattle.hub_core.proofs.waiting.KeptLeases.{calm_answered, calm_grips, live_a
 use Rattle.hub_core.proofs.waiting.Moments.{blocked_calm, skip_blocked, waits_on}
 use Rattle.hub_core.proofs.waiting.OtherDevices.{stays_blocked}
 use Rattle.hub_core.proofs.waiting.QuietEntries.{strict_by}
-use Rattle.hub_core.specs.BlockedMarks.{AreBlocked, AreLeft, BlockedState, Marks, MayBeMarked, Stays, is_marked, is_marked_at}
+use Rattle.hub_core.specs.BlockedMarks.{AreBlocked, Marks, MayBeMarked, Stays}
+use Rattle.blocked_runs.specs.Marks.{AreLeft, BlockedState, is_marked, is_marked_at}
 use Rattle.hub_core.specs.BlockedRuns.{EndNoWait, IsBlocked, NeverRevokes, is_quiet, is_wait, next_device}
 use Rattle.hub_core.specs.HubKept.{ConfigurationIsKept}
 use Rattle.hub_core.specs.MarkedRuns.{IsAnsweredStill, is_out_for_command}
 use Rattle.hub_core.specs.Steps.{Absent, Choice, HandsOut, Moves, Over, Waits, at_moment, choice_of, decide, give_entries, with_entries, with_grip}
 use Rattle.hub_core.specs.declared.waits.Why.{Why}
-use Rattle.lock_leasing.specs.Configurations.{Commands, Configuration, Grip, Grips, Probes, Purpose, Undoes, grips_command, has_grip, is_command, read_of}
+use Rattle.lock_leasing.specs.Configurations.{Configuration, Grip, Grips, grips_command, has_grip, is_command, point, point_of, read_of}
 use Rattle.lock_leasing.specs.Leases.{NeverOverdue}
 use Rattle.lock_leasing.specs.Waits.{grip_wait, lost_by, strict_wait}
 use Rattle.std.proofs.Common.{ap, arith, inl, inr, refl, subst, sym, ◌∙◌}
@@ -44,6 +45,8 @@ use Rattle.std.specs.List.{list_all}
 use Rattle.std.specs.Prelude.{Bool, List, None, Option, Some, [], false, if◌then◌else◌, is_some, length, max, option_map, option_to_list, slice_get, true, unwrap_or, ℕ, ⊤, ◌&&◌, ◌++◌, ◌==◌, ◌||◌, ◌∷◌, ◌≡◌, ◌≢◌, ◌≤◌, ◌⊎◌}
 use Rattle.window_order.proofs.GripWords.{own_command}
 use Rattle.window_order.proofs.Grips.{holds_none}
+use Rattle.lock_leasing.specs.declared.purposes.Purpose.TheVariants.{Commands, Probes, Undoes}
+use Rattle.lock_leasing.specs.declared.purposes.Purpose.{Purpose}
 
 -- What lasts
 
@@ -134,7 +137,7 @@ reached s m b was now are =
 
 -- .. since the run waits, which may be marked
 pub waits : (s : Configuration) (r m : ℕ) (why : Why) (b after : BlockedState) → IsKept s → IsKept (at_moment s m) → choice_of s r m ≡ Waits why → AreBlocked s b → MayBeMarked (at_moment s m) b r after → AreBlocked (at_moment s m) after
-waits s r m why b after was now told are may = may_mark (at_moment s m) r m why b after now.kept.history.well_formed (ap (λ k. decide s.setting (read_of s) s.grips r k) twice ∙ told) (reached s m b was now are) may
+waits s r m why b after was now told are may = may_mark (at_moment s m) r m why b after now.kept.history.well_formed (ap (λ k. decide (point_of s) r k) twice ∙ told) (reached s m b was now are) may
   where
     twice : max (max s.moment m) m ≡ max s.moment m
     twice = omega (arith)
@@ -154,7 +157,7 @@ Goes w n r (Moves entries) = ⊤
 Goes w n r (Waits why) = ⊤
 Goes w n r (HandsOut d purpose) = GoesFor w n r d purpose
 
-goes_for : (w : Setting) (n : Reading) (g : Grips) (r m : ℕ) → Goes w n r (decide w n g r m)
+goes_for : (w : Setting) (n : Reading) (g : Grips) (r m : ℕ) → Goes w n r (decide (point w n g) r m)
 goes_for w n g r m = decide_is (Goes w n r) w n g r m (record {
   absent = λ none. tt;
   over = λ e at. tt;
@@ -330,8 +333,8 @@ back s m d grip told b after later out was now are left = left_stay s t b after 
 
         calm : next_device s q ≡ Some d → NeverRevokes t q d
         calm at strong asks =
-            let before : NeverOverdue s.setting (read_of s) s.grips q d = blocked_calm s q d (at_command s q d was.kept.history.well_formed at) blocked strong (sym same_guard ∙ asks) in
-            subst (λ n. NeverOverdue s.setting n g q d) (sym read) (calm_answered s.setting (read_of s) g still.run still.command still.answer q d (calm_grips s.setting (read_of s) s.grips g q d before))
+            let before : NeverOverdue (point_of s) q d = blocked_calm s q d (at_command s q d was.kept.history.well_formed at) blocked strong (sym same_guard ∙ asks) in
+            subst (λ n. NeverOverdue (point s.setting n g) q d) (sym read) (calm_answered s.setting (read_of s) g still.run still.command still.answer q d (calm_grips s.setting (read_of s) s.grips g q d before))
 
         behind : next_device s q ≡ Some d → Lasts t q d
         behind at =

@@ -13,7 +13,7 @@ use Rattle.history_book.specs.declared.entries.Kept.{Kept}
 use Rattle.home_types.specs.declared.numbers.RunNo.{RunNo}
 use Rattle.hub_core.specs.Steps.{Waits, decide}
 use Rattle.hub_core.specs.declared.waits.Why.TheVariants.{Follow}
-use Rattle.lock_leasing.specs.Configurations.{Configuration, Grips, read_of}
+use Rattle.lock_leasing.specs.Configurations.{Configuration, Point, read_of}
 use Rattle.lock_leasing.specs.Waits.{grip_wait}
 use Rattle.std.proofs.Common.{ap, arith, refl, subst, sym, ◌∙◌}
 use Rattle.std.proofs.lemmas.Grind.{common_steps}
@@ -35,8 +35,8 @@ pub record IsFollower (w : Setting) (n : Reading) (r : ℕ) (f : RunNo) : Type 0
 
 -- The wait
 
-pub follower_waits : (w : Setting) (n : Reading) (g : Grips) (r m : ℕ) (f : RunNo) → IsFollower w n r f → grip_wait w g r ≡ None → decide w n g r m ≡ Waits (Follow f)
-follower_waits w n g r m f at free = rw (at.run, at.own.0, free, at.own.1, at.own.2, at.leader, at.ahead) refl
+pub follower_waits : (p : Point) (r m : ℕ) (f : RunNo) → IsFollower p.setting p.reading r f → grip_wait p.setting p.grips r ≡ None → decide p r m ≡ Waits (Follow f)
+follower_waits p r m f at free = rw (at.run, at.own.0, free, at.own.1, at.own.2, at.leader, at.ahead) refl
 
 -- What ends it
 

@@ -23,7 +23,8 @@ use Rattle.hub_core.specs.BlockedRuns.{IsBlocked, NeverRevokes, is_at_command, i
 use Rattle.hub_core.specs.HubKept.{ConfigurationIsKept}
 use Rattle.hub_core.specs.Steps.{HandsOut, Waits, busy_case, decide_command, dirty_case, down_case, first_case, strict_case}
 use Rattle.hub_core.specs.declared.waits.Why.TheVariants.{Behind}
-use Rattle.lock_leasing.specs.Configurations.{Commands, Configuration, Grips, read_of}
+use Rattle.lock_leasing.specs.Configurations.{Configuration, Grips, Point, point, read_of}
+use Rattle.lock_leasing.specs.declared.purposes.Purpose.TheVariants.{Commands}
 use Rattle.lock_leasing.specs.Order.{OrderStands, is_touched, open_runs_are_last}
 use Rattle.lock_leasing.specs.Waits.{behind_wait, grip_wait}
 use Rattle.lock_leasing.specs.Words.{has_touched, holds_device, live_runs, overdue_for}
@@ -53,27 +54,27 @@ any_touched n g x d (Failed e k ∷ is) there touched = any_touched n g x d is t
 any_touched n g x d (Back e k ∷ is) there touched = any_touched n g x d is there touched
 
 -- a run holds the device as one that is not doomed, and has touched it
-pub record Holds (w : Setting) (n : Reading) (g : Grips) (x d : ℕ) : Type 0 where
-  pub live : is_live n x ≡ true
-  pub sound : is_doomed n x ≡ false
-  pub pending : pends w n x d ≡ true
-  pub touched : has_touched n g x d ≡ true
+pub record Holds (p : Point) (x d : ℕ) : Type 0 where
+  pub live : is_live p.reading x ≡ true
+  pub sound : is_doomed p.reading x ≡ false
+  pub pending : pends p.setting p.reading x d ≡ true
+  pub touched : has_touched p.reading p.grips x d ≡ true
 
-pub holder_holds : (w : Setting) (n : Reading) (g : Grips) (x d : ℕ) → Holds w n g x d → holds_device w n g x d ≡ true
-holder_holds w n g x d at = rw (at.live, at.sound, at.pending) refl
+pub holder_holds : (p : Point) (x d : ℕ) → Holds p x d → holds_device p x d ≡ true
+holder_holds p x d at = rw (at.live, at.sound, at.pending) refl
 
 -- along a line in which no run behind an open one has touched the device, a run that holds it stands before each other one that is open there
-holder_first : (w : Setting) (n : Reading) (g : Grips) (x q d : ℕ) (line : List Item) → IsTrue (open_runs_are_last w n g d line) → list_any (is_ran x) line ≡ true → Holds w n g x d → is_open w n q d ≡ true → q ≢ x
-    → is_some (find (λ y. holds_device w n g y d) (live_runs n (before q line))) ≡ true
+holder_first : (w : Setting) (n : Reading) (g : Grips) (x q d : ℕ) (line : List Item) → IsTrue (open_runs_are_last (point w n g) d line) → list_any (is_ran x) line ≡ true → Holds (point w n g) x d → is_open w n q d ≡ true → q ≢ x
+    → is_some (find (λ y. holds_device (point w n g) y d) (live_runs n (before q line))) ≡ true
 holder_first w n g x q d [] last there holds opened other = absurd (cc)
 holder_first w n g x q d (Ran y ∷ is) last there holds opened other =
-    ap (λ l. is_some (find (λ z. holds_device w n g z d) (live_runs n l))) (take_while-cons (λ i. not (is_ran q i)) (Ran y) is)
-    ∙ (elim (y.0 == q) as (λ b. (y.0 == q) ≡ b → is_some (find (λ z. holds_device w n g z d) (live_runs n (cond (not b) (Ran y ∷ before q is) []))) ≡ true) [
+    ap (λ l. is_some (find (λ z. holds_device (point w n g) z d) (live_runs n l))) (take_while-cons (λ i. not (is_ran q i)) (Ran y) is)
+    ∙ (elim (y.0 == q) as (λ b. (y.0 == q) ≡ b → is_some (find (λ z. holds_device (point w n g) z d) (live_runs n (cond (not b) (Ran y ∷ before q is) []))) ≡ true) [
       | true ↦ (λ e. absurd (own (grind (arith, common_steps))))
       | false ↦ (λ e. passes (y.0 == x) refl (λ there'. holder_first w n g x q d is rest there' holds opened other))
     ] refl)
   where
-    rest : IsTrue (open_runs_are_last w n g d is)
+    rest : IsTrue (open_runs_are_last (point w n g) d is)
     rest = grind (arith, common_steps)
 
     -- it is no run behind q
@@ -96,33 +97,33 @@ holder_first w n g x q d (Ran y ∷ is) last there holds opened other =
     finds_on : (held : ℕ → Bool) (z : ℕ) (zs : List ℕ) → is_some (find held zs) ≡ true → is_some (find held (z ∷ zs)) ≡ true
     finds_on held z zs found = elim (held z) as (λ b. is_some (cond b (Some z) (find held zs)) ≡ true) [ true ↦ refl | false ↦ found ]
 
-    passes : (b : Bool) → (y.0 == x) ≡ b → (list_any (is_ran x) is ≡ true → is_some (find (λ z. holds_device w n g z d) (live_runs n (before q is))) ≡ true) → is_some (find (λ z. holds_device w n g z d) (live_runs n (Ran y ∷ before q is))) ≡ true
+    passes : (b : Bool) → (y.0 == x) ≡ b → (list_any (is_ran x) is ≡ true → is_some (find (λ z. holds_device (point w n g) z d) (live_runs n (before q is))) ≡ true) → is_some (find (λ z. holds_device (point w n g) z d) (live_runs n (Ran y ∷ before q is))) ≡ true
     passes true e further =
         let same : x ≡ y.0 = grind (arith, common_steps) in
         let live : is_live n y.0 ≡ true = subst (λ z. is_live n z ≡ true) same holds.live in
-        let held : holds_device w n g y.0 d ≡ true = subst (λ z. holds_device w n g z d ≡ true) same (holder_holds w n g x d holds) in
-        ap (λ b. is_some (find (λ z. holds_device w n g z d) (cons_option (if b then Some y.0 else None) (live_runs n (before q is))))) live
-        ∙ finds (λ z. holds_device w n g z d) y.0 (live_runs n (before q is)) held
-    passes false e further = elim (is_live n y.0) as (λ b. is_some (find (λ z. holds_device w n g z d) (cons_option (if b then Some y.0 else None) (live_runs n (before q is)))) ≡ true) [
-      | true ↦ finds_on (λ z. holds_device w n g z d) y.0 (live_runs n (before q is)) (further (grind (arith, common_steps)))
+        let held : holds_device (point w n g) y.0 d ≡ true = subst (λ z. holds_device (point w n g) z d ≡ true) same (holder_holds (point w n g) x d holds) in
+        ap (λ b. is_some (find (λ z. holds_device (point w n g) z d) (cons_option (if b then Some y.0 else None) (live_runs n (before q is))))) live
+        ∙ finds (λ z. holds_device (point w n g) z d) y.0 (live_runs n (before q is)) held
+    passes false e further = elim (is_live n y.0) as (λ b. is_some (find (λ z. holds_device (point w n g) z d) (cons_option (if b then Some y.0 else None) (live_runs n (before q is)))) ≡ true) [
+      | true ↦ finds_on (λ z. holds_device (point w n g) z d) y.0 (live_runs n (before q is)) (further (grind (arith, common_steps)))
       | false ↦ further (grind (arith, common_steps))
     ]
 holder_first w n g x q d (Failed e k ∷ is) last there holds opened other =
-    ap (λ l. is_some (find (λ z. holds_device w n g z d) (live_runs n l))) (take_while-cons (λ i. not (is_ran q i)) (Failed e k) is)
+    ap (λ l. is_some (find (λ z. holds_device (point w n g) z d) (live_runs n l))) (take_while-cons (λ i. not (is_ran q i)) (Failed e k) is)
     ∙ holder_first w n g x q d is (grind (arith, common_steps)) there holds opened other
 holder_first w n g x q d (Back e k ∷ is) last there holds opened other =
-    ap (λ l. is_some (find (λ z. holds_device w n g z d) (live_runs n l))) (take_while-cons (λ i. not (is_ran q i)) (Back e k) is)
+    ap (λ l. is_some (find (λ z. holds_device (point w n g) z d) (live_runs n l))) (take_while-cons (λ i. not (is_ran q i)) (Back e k) is)
     ∙ holder_first w n g x q d is (grind (arith, common_steps)) there holds opened other
 
 -- so the other one is behind some run
-pub behind_holder : (w : Setting) (n : Reading) (g : Grips) (x q d : ℕ) → IsTrue (open_runs_are_last w n g d n.line) → list_any (is_ran x) n.line ≡ true → Holds w n g x d → is_open w n q d ≡ true → q ≢ x → is_some (behind_wait w n g q d) ≡ true
-behind_holder w n g x q d last there holds opened other = holder_first w n g x q d n.line last there holds opened other
+pub behind_holder : (p : Point) (x q d : ℕ) → IsTrue (open_runs_are_last p d p.reading.line) → list_any (is_ran x) p.reading.line ≡ true → Holds p x d → is_open p.setting p.reading q d ≡ true → q ≢ x → is_some (behind_wait p q d) ≡ true
+behind_holder p x q d last there holds opened other = holder_first p.setting p.reading p.grips x q d p.reading.line last there holds opened other
 
 -- a next command behind a run waits, where no lease is overdue, but under the weak model
-pub behind_waits : (w : Setting) (n : Reading) (g : Grips) (r m k : ℕ) (c : Command) → is_weak w.mode ≡ false → holds c.when (n.run r).register ≡ true → overdue_for w n g r c.device.0 m ≡ None → is_some (behind_wait w n g r c.device.0) ≡ true → is_wait (decide_command w n g r m k c) ≡ true
-behind_waits w n g r m k c strong guard current behind = ap is_wait (command_is w n g r m k c strong guard ∙ command_current w n g r m k c current) ∙ by_run (behind_wait w n g r c.device.0) behind
+pub behind_waits : (p : Point) (r m k : ℕ) (c : Command) → is_weak p.setting.mode ≡ false → holds c.when (p.reading.run r).register ≡ true → overdue_for p r c.device.0 m ≡ None → is_some (behind_wait p r c.device.0) ≡ true → is_wait (decide_command p r m k c) ≡ true
+behind_waits p r m k c strong guard current behind = ap is_wait (command_is p r m k c strong guard ∙ command_current p r m k c current) ∙ by_run (behind_wait p r c.device.0) behind
   where
-    by_run : (o : Option ℕ) → is_some o ≡ true → is_wait (first_case (option_map (λ x. Waits (Behind c.device (run_no x))) o ∷ dirty_case w n g r c ∷ strict_case w n r ∷ busy_case w n g r c ∷ down_case w n r k c ∷ []) (HandsOut c.device.0 (Commands k))) ≡ true
+    by_run : (o : Option ℕ) → is_some o ≡ true → is_wait (first_case (option_map (λ x. Waits (Behind c.device (run_no x))) o ∷ dirty_case p r c ∷ strict_case p r ∷ busy_case p r c ∷ down_case p r k c ∷ []) (HandsOut c.device.0 (Commands k))) ≡ true
     by_run None e = absurd (cc)
     by_run (Some x) e = refl
 
@@ -131,8 +132,8 @@ pub held_waits : (s : Configuration) (rounds opened : ℕ) (held : ℕ → ℕ) 
     → pends s.setting (read_of s) x d ≡ true → q ≢ x → next_device s q ≡ Some d → asks_on s.setting (read_of s) q d ≡ true → NeverRevokes s q d → IsBlocked s q
 held_waits s rounds opened held x q d kept live sound touched pending other next asks calm =
     calm_waits s q d 0 at calm (ap is_wait (command_choice s q d 0 at)
-    ∙ behind_waits w n s.grips q (max s.moment 0) (next_of n q) at.command kept.strong (sym (at_asks w n s.grips q d at) ∙ asks)
-    (ap (λ e. overdue_for w n s.grips q e (max s.moment 0)) at.device ∙ calm kept.strong asks (max s.moment 0)) behind)
+    ∙ behind_waits (point w n s.grips) q (max s.moment 0) (next_of n q) at.command kept.strong (sym (at_asks (point w n s.grips) q d at) ∙ asks)
+    (ap (λ e. overdue_for (point w n s.grips) q e (max s.moment 0)) at.device ∙ calm kept.strong asks (max s.moment 0)) behind)
   where
     w : Setting
     w = s.setting
@@ -140,17 +141,17 @@ held_waits s rounds opened held x q d kept live sound touched pending other next
     n : Reading
     n = read_of s
 
-    at : IsAt w n s.grips q d
+    at : IsAt (point w n s.grips) q d
     at = at_command s q d kept.history.well_formed next
 
-    stands : OrderStands w n s.grips
+    stands : OrderStands (point w n s.grips)
     stands = order_stands w n s.grips held (read_facts w (entries_of s.history) kept.history.well_formed) kept.order
 
-    behind : is_some (behind_wait w n s.grips q at.command.device.0) ≡ true
+    behind : is_some (behind_wait (point w n s.grips) q at.command.device.0) ≡ true
     behind =
-        ap (λ e. is_some (behind_wait w n s.grips q e)) at.device
-        ∙ behind_holder w n s.grips x q d (stands.last d) (live_stands n x (standing w (entries_of s.history) kept.history.well_formed) live)
-        (record { live = live; sound = sound; pending = pending; touched = touched }) (at_open w n s.grips q d at) other
+        ap (λ e. is_some (behind_wait (point w n s.grips) q e)) at.device
+        ∙ behind_holder (point w n s.grips) x q d (stands.last d) (live_stands n x (standing w (entries_of s.history) kept.history.well_formed) live)
+        (record { live = live; sound = sound; pending = pending; touched = touched }) (at_open (point w n s.grips) q d at) other
 
 -- After an answer
 

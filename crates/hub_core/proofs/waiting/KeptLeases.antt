@@ -12,7 +12,7 @@ use Rattle.home_types.specs.declared.commands.Answer.{Answer}
 use Rattle.home_types.specs.declared.numbers.RunNo.{RunNo}
 use Rattle.hub_core.proofs.steps.Revoked.{overdue_without_grips}
 use Rattle.hub_core.proofs.waiting.QuietEntries.{live_same}
-use Rattle.lock_leasing.specs.Configurations.{Grips}
+use Rattle.lock_leasing.specs.Configurations.{Grips, Point, point}
 use Rattle.lock_leasing.specs.Leases.{NeverOverdue}
 use Rattle.lock_leasing.specs.Words.{has_effect, is_overdue, lease_deadline, live_before, overdue_for, stamp_of, tenth_up}
 use Rattle.std.proofs.Common.{ap, arith, length-append, refl, sym, ◌∙◌}
@@ -32,12 +32,12 @@ find_fewer p q (x ∷ xs) fewer none = by_first (p x) (q x) refl refl none (find
     by_first false false e f none rest = rw f (rest none)
 
 -- where no lease is overdue at a later moment none is so now
-pub overdue_later : (w : Setting) (n : Reading) (g : Grips) (r d m t : ℕ) → m ≤ t → overdue_for w n g r d t ≡ None → overdue_for w n g r d m ≡ None
-overdue_later w n g r d m t later none = find_fewer (is_overdue w n g r d t) (is_overdue w n g r d m) (live_before n r) (λ x overdue. grind (arith, common_steps)) none
+pub overdue_later : (p : Point) (r d m t : ℕ) → m ≤ t → overdue_for p r d t ≡ None → overdue_for p r d m ≡ None
+overdue_later p r d m t later none = find_fewer (is_overdue p r d t) (is_overdue p r d m) (live_before p.reading r) (λ x overdue. grind (arith, common_steps)) none
 
 -- a device that goes out or comes home makes none
-pub calm_grips : (w : Setting) (n : Reading) (g h : Grips) (r d : ℕ) → NeverOverdue w n g r d → NeverOverdue w n h r d
-calm_grips w n g h r d calm m = overdue_without_grips w n h r d m ∙ sym (overdue_without_grips w n g r d m) ∙ calm m
+pub calm_grips : (w : Setting) (n : Reading) (g h : Grips) (r d : ℕ) → NeverOverdue (point w n g) r d → NeverOverdue (point w n h) r d
+calm_grips w n g h r d calm m = overdue_without_grips (point w n h) r d m ∙ sym (overdue_without_grips (point w n g) r d m) ∙ calm m
 
 -- what a run's record tells of its lease on the device: no more than before
 record LendsLess (w : Setting) (d q : ℕ) (o p : OfRun) : Type 0 where
@@ -59,10 +59,10 @@ pub live_answered : (w : Setting) (n : Reading) (x : RunNo) (k : ℕ) (a : Answe
 live_answered w n x k a r = live_same n (entry w n (Did x k a)) (before r n.line) (put_keeps (λ o. is_some o.placed && is_none o.ended) n.run x.0 (answered_run w n x.0 k a) refl)
 
 -- so it makes none
-pub calm_answered : (w : Setting) (n : Reading) (g : Grips) (x : RunNo) (k : ℕ) (a : Answer) (r d : ℕ) → NeverOverdue w n g r d → NeverOverdue w (entry w n (Did x k a)) g r d
+pub calm_answered : (w : Setting) (n : Reading) (g : Grips) (x : RunNo) (k : ℕ) (a : Answer) (r d : ℕ) → NeverOverdue (point w n g) r d → NeverOverdue (point w (entry w n (Did x k a)) g) r d
 calm_answered w n g x k a r d calm m =
-    ap (find (is_overdue w u g r d m)) (live_answered w n x k a r)
-    ∙ find_fewer (is_overdue w n g r d m) (is_overdue w u g r d m) (live_before n r) fewer (calm m)
+    ap (find (is_overdue (point w u g) r d m)) (live_answered w n x k a r)
+    ∙ find_fewer (is_overdue (point w n g) r d m) (is_overdue (point w u g) r d m) (live_before n r) fewer (calm m)
   where
     u : Reading
     u = entry w n (Did x k a)
@@ -74,10 +74,10 @@ calm_answered w n g x k a r d calm m =
         more : length ((n.run x.0).answers ++ a ∷ []) ≡ suc (length (n.run x.0).answers)
         more = length-append (n.run x.0).answers (a ∷ []) ∙ omega (arith)
 
-    fewer : (q : ℕ) → is_overdue w u g r d m q ≡ true → is_overdue w n g r d m q ≡ true
+    fewer : (q : ℕ) → is_overdue (point w u g) r d m q ≡ true → is_overdue (point w n g) r d m q ≡ true
     fewer q overdue = by_parts (is_doomed n q) (nat_lt (stamp_of n r) (stamp_of n q)) (is_live n q) (pends w u q d) (pends w n q d) (nat_lt (lease_deadline w n q d) m) (touches w.runs q d && has_effect u g q d) (touches w.runs q d && has_effect n g q d) (same ∙ overdue) (runs q).pending
       where
-        same : (not (is_doomed n q) && nat_lt (stamp_of n r) (stamp_of n q) && (is_live n q && (if is_doomed n q then touches w.runs q d && has_effect u g q d else pends w u q d)) && nat_lt (lease_deadline w n q d) m) ≡ is_overdue w u g r d m q
+        same : (not (is_doomed n q) && nat_lt (stamp_of n r) (stamp_of n q) && (is_live n q && (if is_doomed n q then touches w.runs q d && has_effect u g q d else pends w u q d)) && nat_lt (lease_deadline w n q d) m) ≡ is_overdue (point w u g) r d m q
         same =
             sym (λ i. not (is_some ((runs q).doomed i)) && nat_lt (stamp r i) (stamp q i) && ((is_some ((runs q).placed i) && is_none ((runs q).ended i))
             && (if is_some ((runs q).doomed i) then touches w.runs q d && has_effect u g q d else pends w u q d))

@@ -15,7 +15,7 @@ use Rattle.hub_core.specs.BlockedRuns.{NeverRevokes, next_device}
 use Rattle.hub_core.specs.KeptByModel.{IsKeptByModel}
 use Rattle.hub_core.specs.Openings.{is_mode}
 use Rattle.lineage_table.specs.Lineages.{LineageState}
-use Rattle.lock_leasing.specs.Configurations.{Configuration, read_of}
+use Rattle.lock_leasing.specs.Configurations.{Configuration, point_of, read_of}
 use Rattle.lock_leasing.specs.Leases.{IsNeverOverdue, overdue_lease}
 use Rattle.lock_leasing.specs.Standings.{Asking, IsAsking, IsStandingOf, MayAsk}
 use Rattle.lock_leasing.specs.Words.{lease_deadline}
@@ -62,14 +62,14 @@ served_calm s rounds opened held r d kept first next strong asks =
     served_in_turn s rounds opened held r d (kept.ordered strong) (serves_first s.setting.mode.model s.setting.mode.scheduler kept.opens.mode first) (at_command s r d kept.history.well_formed next).act.live
 
 -- .. so none is overdue for a run that asks
-pub served_leases : (s : Configuration) (rounds opened : ℕ) (held : ℕ → ℕ) (r d m : ℕ) → IsKeptByModel s rounds opened held → scheduler_of s.setting.mode ≡ Fcfs → is_weak s.setting.mode ≡ false → IsAsking s r d → None ≡ overdue_lease s.setting (read_of s) s.grips r d m
+pub served_leases : (s : Configuration) (rounds opened : ℕ) (held : ℕ → ℕ) (r d m : ℕ) → IsKeptByModel s rounds opened held → scheduler_of s.setting.mode ≡ Fcfs → is_weak s.setting.mode ≡ false → IsAsking s r d → None ≡ overdue_lease (point_of s) r d m
 served_leases s rounds opened held r d m kept first strong asks =
     sym (ap (option_map (λ x. (run_no x, lease_deadline s.setting (read_of s) x d))) (served_in_turn s rounds opened held r d (kept.ordered strong) (serves_first s.setting.mode.model s.setting.mode.scheduler kept.opens.mode first) asks.live m))
 
 -- the run asks for the device
 pub asks_for : (s : Configuration) (r d : ℕ) → IsWellFormed s.setting (entries_of s.history) → next_device s r ≡ Some d → IsAsking s r d
 asks_for s r d formed next =
-    let at : IsAt s.setting (read_of s) s.grips r d = at_command s r d formed next in
+    let at : IsAt (point_of s) r d = at_command s r d formed next in
     let own : (d == d) ≡ true = grind (arith, common_steps) in
     record { live = at.act.live; sound = ap is_some at.sound; next = ap (λ o. unwrap_or (option_map (is_on d) o) false) at.next ∙ ap (λ e. e == d) at.device ∙ own }
 

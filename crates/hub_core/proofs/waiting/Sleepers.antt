@@ -2,7 +2,7 @@
 use Rattle.hub_core.specs.BlockedRuns.{IsBlocked, is_wait}
 use Rattle.hub_core.specs.Steps.{Absent, Choice, HandsOut, Moves, Over, Waits, after_choice, after_take, at_moment, choice_of, decide}
 use Rattle.hub_core.specs.declared.waits.Why.{Why}
-use Rattle.lock_leasing.specs.Configurations.{Configuration, read_of}
+use Rattle.lock_leasing.specs.Configurations.{Configuration, point_of}
 use Rattle.std.proofs.Common.{ap, arith, refl, ◌∙◌}
 use Rattle.std.specs.Prelude.{Bool, max, true, ℕ, ◌≡◌, ◌≤◌}
 
@@ -33,7 +33,7 @@ pub blocked_later : (s : Configuration) (r m : ℕ) → IsBlocked s r → IsBloc
 blocked_later s r m blocked = record {
   run = blocked.run;
   free = blocked.free;
-  waits = λ a. ap (λ k. is_wait (decide s.setting (read_of s) s.grips r k)) (omega arith) ∙ blocked.waits (max m a);
+  waits = λ a. ap (λ k. is_wait (decide (point_of s) r k)) (omega arith) ∙ blocked.waits (max m a);
 }
 
 -- Sleepers

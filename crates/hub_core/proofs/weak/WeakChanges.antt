@@ -15,7 +15,9 @@ use Rattle.hub_core.proofs.steps.Afters.{each_with, read_with}
 use Rattle.hub_core.specs.HubKept.{EachOut, probes_of}
 use Rattle.hub_core.specs.WeakKept.{NoneHasFailed, WeakIsKept, goes_weakly}
 use Rattle.legal_days.specs.LegalWindows.{none_fails, weakly_allowed}
-use Rattle.lock_leasing.specs.Configurations.{Commands, Configuration, Grip, Grips, Probes, Purpose, Undoes, read_of}
+use Rattle.lock_leasing.specs.Configurations.{Configuration, Grip, Grips, point, read_of}
+use Rattle.lock_leasing.specs.declared.purposes.Purpose.TheVariants.{Commands, Probes, Undoes}
+use Rattle.lock_leasing.specs.declared.purposes.Purpose.{Purpose}
 use Rattle.lock_leasing.specs.Places.{GripsFit}
 use Rattle.std.proofs.Common.{ap, arith, refl, subst, sym, ◌∙◌}
 use Rattle.std.proofs.lemmas.Bool.{and_parts}
@@ -25,7 +27,7 @@ use Rattle.window_order.proofs.Grips.{HoldsNone}
 
 -- another moment, other grips, and other probes left, with the same history
 pub weak_same : (s : Configuration) (rounds opened m : ℕ) (held probes : ℕ → ℕ) (g : Grips) → (read_of s).moment ≤ m
-    → ((d : ℕ) → probes_of (record s { moment = m; probes = probes; grips = g }) d ≤ rounds) → GripsFit s.setting (read_of s) g
+    → ((d : ℕ) → probes_of (record s { moment = m; probes = probes; grips = g }) d ≤ rounds) → GripsFit (point s.setting (read_of s) g)
     → EachOut g (goes_weakly (read_of s)) → WeakIsKept s rounds opened held
     → WeakIsKept (record s { moment = m; probes = probes; grips = g }) rounds opened held
 weak_same s rounds opened m held probes g later few fit out kept =
@@ -49,7 +51,7 @@ pub record MayMake (s : Configuration) (entries : List Entry) (m : ℕ) (g : Gri
   pub follows : IsTrue (along s.setting (may_follow s.setting) (read_of s) entries)
   pub allowed : IsTrue (along s.setting (weakly_allowed s.setting) (read_of s) entries)
   pub moment : n.moment ≤ m
-  pub grips : GripsFit s.setting n g
+  pub grips : GripsFit (point s.setting n g)
   pub out : EachOut g (goes_weakly n)
   pub passes : NoneHasFailed s.setting n
   pub held_is : (d : ℕ) → d < length s.setting.first → after d ≡ n.last d

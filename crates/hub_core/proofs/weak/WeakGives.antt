@@ -30,7 +30,9 @@ use Rattle.legal_days.specs.JustifiedAborts.{has_answer}
 use Rattle.legal_days.specs.LegalWindows.{weakly_allowed}
 use Rattle.hub_core.specs.Steps.{after_give, command_entries, give_entries, probe_entries}
 use Rattle.hub_core.specs.WeakKept.{NoneHasFailed, WeakIsKept}
-use Rattle.lock_leasing.specs.Configurations.{Commands, Configuration, Grip, Grips, Probes, Purpose, Undoes, read_of}
+use Rattle.lock_leasing.specs.Configurations.{Configuration, Grip, Grips, point, read_of}
+use Rattle.lock_leasing.specs.declared.purposes.Purpose.TheVariants.{Commands, Probes, Undoes}
+use Rattle.lock_leasing.specs.declared.purposes.Purpose.{Purpose}
 use Rattle.lock_leasing.specs.Places.{GripsFit}
 use Rattle.lock_leasing.specs.Words.{live_runs}
 use Rattle.std.proofs.Common.{ap, ap₂, arith, refl, subst, sym, ◌∙◌}
@@ -67,7 +69,7 @@ record ComesHome (s : Configuration) (entries : List Entry) (d now v : ℕ) (n :
   follows : IsTrue (along s.setting (may_follow s.setting) (read_of s) entries)
   allowed : IsTrue (along s.setting (weakly_allowed s.setting) (read_of s) entries)
   moment : n.moment ≤ now
-  grips : GripsFit s.setting n (put s.grips d None)
+  grips : GripsFit (point s.setting n (put s.grips d None))
   sound : (e : ℕ) (grip : Grip) → put s.grips d None e ≡ Some grip → is_doomed n grip.maker ≡ is_doomed (read_of s) grip.maker
   passes : NoneHasFailed s.setting n
   up : (e : ℕ) → e ≢ d → n.up e ≡ (read_of s).up e

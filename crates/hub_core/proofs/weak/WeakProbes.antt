@@ -6,7 +6,8 @@ use Rattle.hub_core.proofs.kept.ProbesKept.{probe_may, probes_asked}
 use Rattle.hub_core.proofs.weak.WeakChanges.{weak_same}
 use Rattle.hub_core.specs.Steps.{after_take_probe, may_probe, probe_grip, restored}
 use Rattle.hub_core.specs.WeakKept.{WeakIsKept, goes_weakly}
-use Rattle.lock_leasing.specs.Configurations.{Configuration, Probes, read_of}
+use Rattle.lock_leasing.specs.Configurations.{Configuration, point_of, read_of}
+use Rattle.lock_leasing.specs.declared.purposes.Purpose.TheVariants.{Probes}
 use Rattle.lock_leasing.specs.Words.{effective_write, standing_value}
 use Rattle.std.proofs.Common.{ap, arith, refl}
 use Rattle.std.proofs.lemmas.Bool.{eq-eqb}
@@ -14,7 +15,7 @@ use Rattle.std.specs.Prelude.{Bool, None, Some, false, if◌then◌else◌, opti
 use Rattle.window_order.proofs.Grips.{HoldsNone, fits_with}
 
 -- where a device stands is what was written last
-pub weak_standing : (s : Configuration) (rounds opened : ℕ) (held : ℕ → ℕ) (d : ℕ) → WeakIsKept s rounds opened held → standing_value s.setting (read_of s) s.grips d ≡ (read_of s).last d
+pub weak_standing : (s : Configuration) (rounds opened : ℕ) (held : ℕ → ℕ) (d : ℕ) → WeakIsKept s rounds opened held → standing_value (point_of s) d ≡ (read_of s).last d
 weak_standing s rounds opened held d kept = ap (λ b. if b then (read_of s).last d else unwrap_or (option_map (λ e. e.value) (effective_write (read_of s) s.grips d)) (stand_at s.setting.first d).value) kept.weak
 
 pub weak_take_probe : (s : Configuration) (rounds opened : ℕ) (held : ℕ → ℕ) (d : ℕ) → WeakIsKept s rounds opened held → WeakIsKept (after_take_probe s d) rounds opened held
@@ -27,6 +28,6 @@ weak_take_probe s rounds opened held d kept = elim (may_probe s d) as (λ b. may
     no_run : (q : ℕ) → ◌≡◌ {A = ℕ} 0 (suc q) → HoldsNone s.grips 0
     no_run q e = absurd (cc)
 
-    by_up : (b : Bool) → (read_of s).up d ≡ b → goes_weakly (read_of s) d (record { maker = 0; purpose = Probes (if b then None else Some (standing_value s.setting (read_of s) s.grips d)) }) ≡ true
+    by_up : (b : Bool) → (read_of s).up d ≡ b → goes_weakly (read_of s) d (record { maker = 0; purpose = Probes (if b then None else Some (standing_value (point_of s) d)) }) ≡ true
     by_up true up = up
-    by_up false down = rw (down, eq-eqb (standing_value s.setting (read_of s) s.grips d) ((read_of s).last d) (weak_standing s rounds opened held d kept)) refl
+    by_up false down = rw (down, eq-eqb (standing_value (point_of s) d) ((read_of s).last d) (weak_standing s rounds opened held d kept)) refl

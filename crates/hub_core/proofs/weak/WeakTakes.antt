@@ -25,7 +25,8 @@ use Rattle.legal_days.specs.LegalWindows.{none_fails, weakly_allowed}
 use Rattle.hub_core.specs.Openings.{MayOpen, names_values_of}
 use Rattle.hub_core.specs.Steps.{HandsOut, Moves, after_choice, after_take, answers_down, at_moment, down_entries, opened}
 use Rattle.hub_core.specs.WeakKept.{NoneHasFailed, WeakIsKept, goes_weakly}
-use Rattle.lock_leasing.specs.Configurations.{Commands, Configuration, Grip, read_of}
+use Rattle.lock_leasing.specs.Configurations.{Configuration, Grip, point, read_of}
+use Rattle.lock_leasing.specs.declared.purposes.Purpose.TheVariants.{Commands}
 use Rattle.std.proofs.Common.{ap, append-nil, arith, refl, subst, sym, ◌∙◌}
 use Rattle.std.proofs.Math.Bool.{and-false}
 use Rattle.std.proofs.lemmas.Grind.{common_steps}
@@ -117,10 +118,10 @@ weak_take s rounds opened held r m kept =
           (passes_did w n r (next_of n r) Skipped c skip.next (and-false c.must) skip.sound kept.passes) kept;
       downs = downs;
       goes = λ c run next home up ok allowed. goes c run up;
-      fails_at_end = λ d all at. absurd (let both : None ≡ Some d = sym (never_down_at_end w n s.grips r kept.weak) ∙ at in cc);
+      fails_at_end = λ d all at. absurd (let both : None ≡ Some d = sym (never_down_at_end (point w n s.grips) r kept.weak) ∙ at in cc);
       commits = λ all up ok allowed. moves (Ended (run_no r) Committed) (record { others = λ q other. put_other n.run r _ q other; up = refl; last = refl; rose = refl }) (holds_none w s.grips r kept.grips.homed all.act.free) ok allowed later
           (λ q. put_keeps (λ o. o.doomed) n.run r _ refl q) (λ q. put_keeps (λ o. o.answers) n.run r _ refl q);
-    }) (take_follows w n s.grips r now (record { shaped = shaped; homed = homed; moment = grind (arith, common_steps, later) })) (take_is_allowed w n s.grips r now kept.weak (kept.passes r))
+    }) (take_follows w n s.grips r now (record { shaped = shaped; homed = homed; moment = grind (arith, common_steps, later) })) (take_is_allowed (point w n s.grips) r now kept.weak (kept.passes r))
   where
     w : Setting
     w = s.setting
@@ -170,7 +171,7 @@ weak_take s rounds opened held r m kept =
     moves e tell none ok allowed moment dooms answers = told_made s rounds opened r now held (e ∷ []) tell none ok allowed moment (passes_same w n (entry w n e) dooms answers kept.passes) kept
 
     -- a command goes out
-    goes : (c : Command) → Commanding w n s.grips r c → answers_down w n r c.device.0 ≡ false → WeakIsKept (after_choice (at_moment s m) r (HandsOut c.device.0 (Commands (next_of n r)))) rounds opened held
+    goes : (c : Command) → Commanding (point w n s.grips) r c → answers_down w n r c.device.0 ≡ false → WeakIsKept (after_choice (at_moment s m) r (HandsOut c.device.0 (Commands (next_of n r)))) rounds opened held
     goes c run answers =
         weak_same s rounds opened now held s.probes (put s.grips c.device.0 (Some new)) later (λ d. omega (arith, probes_out s now c.device.0 new refl d, kept.probes d))
         (fits_with w n s.grips c.device.0 r (Commands (next_of n r)) (homed r (next_of n r) c run.next) may (λ q e. holds_none w s.grips r kept.grips.homed run.act.free) kept.grips)
@@ -186,7 +187,7 @@ weak_take s rounds opened held r m kept =
         reached weak sees up doomed e f = grind (arith, common_steps)
 
     -- the answer Down with no call, and the doom of a must command
-    downs : (c : Command) → Commanding w n s.grips r c → (is_weak w.mode ≡ false → IsNext w n s.grips r now c) → busy_wait w n s.grips r c.device.0 ≡ false → answers_down w n r c.device.0 ≡ true
+    downs : (c : Command) → Commanding (point w n s.grips) r c → (is_weak w.mode ≡ false → IsNext (point w n s.grips) r now c) → busy_wait (point w n s.grips) r c.device.0 ≡ false → answers_down w n r c.device.0 ≡ true
         → Follows w n (Moves (down_entries r (next_of n r) c)) → IsAllowed w n (Moves (down_entries r (next_of n r) c)) → WeakIsKept (after_choice (at_moment s m) r (Moves (down_entries r (next_of n r) c))) rounds opened held
     downs c run next home down ok allowed = elim c.must as (λ b. c.must ≡ b → IsTrue (along w (may_follow w) n (entries b)) → IsTrue (along w (weakly_allowed w) n (entries b)) → WeakIsKept (record s { history = s.history ++ kept_by r (entries b); moment = now }) rounds opened held) [
       | true ↦ (λ must ok allowed. told_made s rounds opened r now held (entries true)

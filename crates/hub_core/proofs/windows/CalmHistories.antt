@@ -26,7 +26,7 @@ use Rattle.legal_days.specs.CleanReads.{entry_is_clean}
 use Rattle.hub_core.specs.HubKept.{ConfigurationIsKept, keeps_leases}
 use Rattle.legal_days.specs.JustifiedAborts.{IsJustified, abort_is_justified, equals_some, has_answer}
 use Rattle.hub_core.specs.Openings.{MayOpen, names_values_of}
-use Rattle.lock_leasing.specs.Configurations.{Configuration, no_grips}
+use Rattle.lock_leasing.specs.Configurations.{Configuration, no_grips, point}
 use Rattle.lock_leasing.specs.Waits.{down_at_end}
 use Rattle.lock_leasing.specs.Words.{has_touched}
 use Rattle.std.proofs.Common.{ap, append-nil, arith, cond, refl, sym, ◌∙◌}
@@ -199,7 +199,7 @@ none_in_span r (Event i ∷ ms) none = absurd (cc)
 none_in_span r (Last q ∷ ms) none = none_in_span r ms none
 
 -- no device is down at a run's end
-none_at_end : (w : Setting) (n : Reading) (r : ℕ) → AllUp w → CalmReads w n → down_at_end w n no_grips r ≡ None
+none_at_end : (w : Setting) (n : Reading) (r : ℕ) → AllUp w → CalmReads w n → down_at_end (point w n no_grips) r ≡ None
 none_at_end w n r up p = by_model (is_strict w.mode) (find (λ d. has_touched n no_grips r d && not (n.up d)) (devices_of w r)) refl
   where
     found : (d : ℕ) → find (λ d. has_touched n no_grips r d && not (n.up d)) (devices_of w r) ≡ Some d → ⊥
@@ -235,8 +235,8 @@ entry_calm w n (Doomed r (Refuted c x)) up homed p ok clean shown kept none = re
 entry_calm w n (Doomed r (Lost d)) up homed p ok clean shown kept none = absurd (both_ways (list_any is_fall (span_of r.0 (n.log d.0))) (none_in_span r.0 (n.log d.0) (p.log d.0)) (and_parts (sees_up n r.0 d.0) (list_any is_fall (span_of r.0 (n.log d.0))) shown).1)
 entry_calm w n (Doomed r (Revoked lender d deadline m)) up homed p ok clean shown kept none = absurd (cc)
 entry_calm w n (Doomed r (DownAtEnd d)) up homed p ok clean shown kept none =
-    absurd (both_ways (equals_some (down_at_end w n no_grips r.0) d.0) (ap (λ o. equals_some o d.0) (none_at_end w n r.0 up p))
-    (and_parts (is_none (next_command w n r.0)) (equals_some (down_at_end w n no_grips r.0) d.0) shown).1)
+    absurd (both_ways (equals_some (down_at_end (point w n no_grips) r.0) d.0) (ap (λ o. equals_some o d.0) (none_at_end w n r.0 up p))
+    (and_parts (is_none (next_command w n r.0)) (equals_some (down_at_end (point w n no_grips) r.0) d.0) shown).1)
 entry_calm w n (Ended r e) up homed p ok clean shown kept none = refl
 
 -- no failure of these devices is told

@@ -42,7 +42,7 @@ use Rattle.hub_core.specs.declared.refusals.NotQuiet.TheVariants.{StillLive, Sti
 use Rattle.lineage_table.specs.Accesses.{value_standing}
 use Rattle.lineage_table.specs.Lineages.{LineageState, lineage_at, no_lineage}
 use Rattle.lineage_table.specs.declared.accesses.Access.{Access}
-use Rattle.lock_leasing.specs.Configurations.{Configuration, Grip, is_out, read_of}
+use Rattle.lock_leasing.specs.Configurations.{Configuration, Grip, is_out, point, point_of, read_of}
 use Rattle.lock_leasing.specs.Places.{GripsFit, PlacesAreScheduled}
 use Rattle.lock_leasing.specs.Tables.{uses}
 use Rattle.lock_leasing.specs.Words.{standing_value}
@@ -136,7 +136,7 @@ pub ended_committed : (s : Configuration) (rounds opened : ℕ) (held : ℕ → 
 ended_committed s rounds opened held r kept quiet first calm run none = plain_committed s r (is_plain s rounds opened held kept first) quiet calm run none
 
 -- and no device is out
-pub homed_in : (s : Configuration) (d : ℕ) → GripsFit s.setting (read_of s) s.grips → IsQuiet s → s.grips d ≡ None
+pub homed_in : (s : Configuration) (d : ℕ) → GripsFit (point_of s) → IsQuiet s → s.grips d ≡ None
 homed_in s d fit quiet = by_grip (s.grips d) refl
   where
     by_grip : (o : Option Grip) → s.grips d ≡ o → o ≡ None
@@ -153,7 +153,7 @@ none_out s rounds opened held d kept quiet = homed_in s d kept.order.grips quiet
 -- the last state has each device at its standing value, up or down as it is counted
 pub record IsLastState (s : Configuration) (last : List Stand) : Type 0 where
   pub size : length last ≡ length s.setting.first
-  pub each : (d : ℕ) → d < length s.setting.first → stand_at last d ≡ record { value = standing_value s.setting (read_of s) s.grips d; up = (read_of s).up d }
+  pub each : (d : ℕ) → d < length s.setting.first → stand_at last d ≡ record { value = standing_value (point_of s) d; up = (read_of s).up d }
 
 none_live : (s : Configuration) (rounds opened : ℕ) (held : ℕ → ℕ) → ConfigurationIsKept s rounds opened held → IsQuiet s → NoneIsLive (read_of s)
 none_live s rounds opened held kept quiet = none_is_live s.setting (read_of s) (read_facts s.setting (entries_of s.history) kept.history.well_formed) quiet.ended
@@ -184,7 +184,7 @@ none_along has_one covering access (Failed d k ∷ is) none = none_along has_one
 none_along has_one covering access (Back d k ∷ is) none = none_along has_one covering access is none
 
 -- the lineage table leaves each device so
-pub table_leaves : (s : Configuration) (rounds opened : ℕ) (held : ℕ → ℕ) (table : List LineageState) (last : List Stand) → ConfigurationIsKept s rounds opened held → IsQuiet s → TableIsKept s.setting (read_of s) s.grips table → last ≡ map stand_left table → IsLastState s last
+pub table_leaves : (s : Configuration) (rounds opened : ℕ) (held : ℕ → ℕ) (table : List LineageState) (last : List Stand) → ConfigurationIsKept s rounds opened held → IsQuiet s → TableIsKept (point_of s) table → last ≡ map stand_left table → IsLastState s last
 table_leaves s rounds opened held table last kept quiet fits are =
     record {
       size = ap length are ∙ length-map table stand_left ∙ fits.devices;
@@ -200,11 +200,11 @@ table_leaves s rounds opened held table last kept quiet fits are =
     over : NoneIsLive n
     over = none_live s rounds opened held kept quiet
 
-    left : (d : ℕ) → d < length w.first → stand_left (lineage_at table d) ≡ record { value = standing_value w n s.grips d; up = n.up d }
+    left : (d : ℕ) → d < length w.first → stand_left (lineage_at table d) ≡ record { value = standing_value (point w n s.grips) d; up = n.up d }
     left d within =
         let lineage = fits.each d within in
-        let none : accesses_read w n s.grips lineage.passed d n.line ≡ [] = none_along (uses w n d) (commits_write n d) (access_read w n s.grips lineage.passed d) n.line (λ r. ap (λ b. b && touches w.runs r d && not (passed_by w n r d)) (over r)) in
-        let stands : value_standing (lineage_at table d).committed (lineage_at table d).accesses ≡ standing_value w n s.grips d =
+        let none : accesses_read (point w n s.grips) lineage.passed d n.line ≡ [] = none_along (uses w n d) (commits_write n d) (access_read (point w n s.grips) lineage.passed d) n.line (λ r. ap (λ b. b && touches w.runs r d && not (passed_by w n r d)) (over r)) in
+        let stands : value_standing (lineage_at table d).committed (lineage_at table d).accesses ≡ standing_value (point w n s.grips) d =
         ap (value_standing (lineage_at table d).committed) (lineage.accesses ∙ none) ∙ lineage.committed ∙ sym (standing_committed w n s.grips held d (read_facts w (entries_of s.history) kept.history.well_formed) kept.order kept.strong over) in
         (λ i. record { value = stands i; up = lineage.up i })
 

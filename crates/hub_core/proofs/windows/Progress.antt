@@ -31,7 +31,8 @@ use Rattle.hub_core.specs.HubKept.{ConfigurationIsKept}
 use Rattle.hub_core.specs.Steps.{Absent, Choice, HandsOut, Moves, Over, Waits, aborts, answers_down, busy_case, choice_of, command_cases, decide, decide_answered, decide_arrived, decide_command, decide_doomed, down_case, down_entries, first_case, only_if, place_choice, skip_entries, undo_cases, undo_choice}
 use Rattle.hub_core.specs.declared.waits.Why.TheVariants.{Behind, Busy, Dirty, Follow, Strict}
 use Rattle.lock_leasing.proofs.FirstRuns.{first_live, waits_for_none}
-use Rattle.lock_leasing.specs.Configurations.{Commands, Configuration, Grips, Undoes, has_grip, is_out, read_of}
+use Rattle.lock_leasing.specs.Configurations.{Configuration, Grips, has_grip, is_out, point, read_of}
+use Rattle.lock_leasing.specs.declared.purposes.Purpose.TheVariants.{Commands, Undoes}
 use Rattle.lock_leasing.specs.FirstRuns.{IsFirstLive, WaitsForNone}
 use Rattle.lock_leasing.specs.Places.{At, Denial, DeniedBy, Placing, at_end, denied_by, first_place, first_some, just_in_time, patience, scheduled_place, timeline}
 use Rattle.lock_leasing.specs.Waits.{behind_wait, busy_wait, dirty_wait, down_at_end, follow_wait, grip_wait, strict_wait}
@@ -54,8 +55,10 @@ none_among n (Failed d k ∷ is) over = none_among n is over
 none_among n (Back d k ∷ is) over = none_among n is over
 
 -- no device is denied
-not_denied : (w : Setting) (n : Reading) (g : Grips) (r d : ℕ) → NoneIsLive n → denied_by w n g r d ≡ None
-not_denied w n g r d over = ap (λ xs. option_or (find (λ x. holds_device w n g x d) xs) (if reads_first w.runs r d then live_writer (effective_writer_of n g d) else None)) (none_among n (take (first_place w n g r) n.line) over) ∙ by_read (reads_first w.runs r d) (effective_writer_of n g d)
+not_denied : (w : Setting) (n : Reading) (g : Grips) (r d : ℕ) → NoneIsLive n → denied_by (point w n g) r d ≡ None
+not_denied w n g r d over =
+    ap (λ xs. option_or (find (λ x. holds_device (point w n g) x d) xs) (if reads_first w.runs r d then live_writer (effective_writer_of n g d) else None))
+    (none_among n (take (first_place (point w n g) r) n.line) over) ∙ by_read (reads_first w.runs r d) (effective_writer_of n g d)
   where
     live_writer : Option ℕ → Option ℕ
     live_writer None = None
@@ -67,20 +70,20 @@ not_denied w n g r d over = ap (λ xs. option_or (find (λ x. holds_device w n g
     by_read true (Some x) = ap (λ b. cond b (Some x) None) (over x)
 
 -- so a run is placed
-placed_at_once : (w : Setting) (n : Reading) (g : Grips) (r m : ℕ) → NoneIsLive n → is_wait (place_choice r m (scheduled_place w n g r m)) ≡ false
+placed_at_once : (w : Setting) (n : Reading) (g : Grips) (r m : ℕ) → NoneIsLive n → is_wait (place_choice r m (scheduled_place (point w n g) r m)) ≡ false
 placed_at_once w n g r m over = by_scheduler (scheduler_of w.mode)
   where
     admit : Option Denial → Placing
-    admit None = At (split_at n.line (first_place w n g r))
+    admit None = At (split_at n.line (first_place (point w n g) r))
     admit (Some x) = if nat_le (unwrap_or (n.run r).arrived 0 + patience) m then at_end n else DeniedBy x.device x.run
 
     place_by : Scheduler → Placing
     place_by Fcfs = at_end n
-    place_by JustInTime = just_in_time w n g r m
+    place_by JustInTime = just_in_time (point w n g) r m
     place_by Timeline = timeline w n r m
 
     denial : ℕ → Option Denial
-    denial d = option_map (λ x. record { device = d; run = x }) (denied_by w n g r d)
+    denial d = option_map (λ x. record { device = d; run = x }) (denied_by (point w n g) r d)
 
     none_denies : (ds : List ℕ) → first_some denial ds ≡ None
     none_denies [] = refl
@@ -142,28 +145,28 @@ home_free : (w : Setting) (g : Grips) (r : ℕ) → ((d : ℕ) → g d ≡ None)
 home_free w g r home = none_found (has_grip g r) (device_numbers w) (λ d. ap (λ o. unwrap_or (option_map (λ p. p.maker == r) o) false) (home d))
 
 -- with its devices home a doomed run is undone or ends
-doomed_goes : (w : Setting) (n : Reading) (g : Grips) (r : ℕ) (cause : Cause) → ((d : ℕ) → g d ≡ None) → is_wait (decide_doomed w n g r cause) ≡ false
+doomed_goes : (w : Setting) (n : Reading) (g : Grips) (r : ℕ) (cause : Cause) → ((d : ℕ) → g d ≡ None) → is_wait (decide_doomed (point w n g) r cause) ≡ false
 doomed_goes w n g r cause home = by_model (is_weak w.mode)
   where
     while_out : Option ℕ → Option ℕ
     while_out None = None
     while_out (Some d) = if is_out g d then Some d else None
 
-    driven_or_dropped : (d : ℕ) (b : Bool) → is_wait (if b then HandsOut d (Undoes (value_without w n g r d)) else Moves (Undid (run_no r) (device_no d) false ∷ [])) ≡ false
+    driven_or_dropped : (d : ℕ) (b : Bool) → is_wait (if b then HandsOut d (Undoes (value_without (point w n g) r d)) else Moves (Undid (run_no r) (device_no d) false ∷ [])) ≡ false
     driven_or_dropped d true = refl
     driven_or_dropped d false = refl
 
-    by_next : (o : Option ℕ) → is_wait (first_case (option_map (λ d. Waits (Busy (device_no d))) (while_out o) ∷ option_map (undo_choice w n g r) o ∷ []) (aborts r cause)) ≡ false
+    by_next : (o : Option ℕ) → is_wait (first_case (option_map (λ d. Waits (Busy (device_no d))) (while_out o) ∷ option_map (undo_choice (point w n g) r) o ∷ []) (aborts r cause)) ≡ false
     by_next None = refl
-    by_next (Some d) = ap (λ b. is_wait (first_case (option_map (λ e. Waits (Busy (device_no e))) (if b then Some d else None) ∷ Some (undo_choice w n g r d) ∷ []) (aborts r cause))) (ap (λ o. is_some o) (home d)) ∙ driven_or_dropped d (n.up d)
+    by_next (Some d) = ap (λ b. is_wait (first_case (option_map (λ e. Waits (Busy (device_no e))) (if b then Some d else None) ∷ Some (undo_choice (point w n g) r d) ∷ []) (aborts r cause))) (ap (λ o. is_some o) (home d)) ∙ driven_or_dropped d (n.up d)
 
-    by_model : (b : Bool) → is_wait (first_case (if b then [] else undo_cases w n g r) (aborts r cause)) ≡ false
+    by_model : (b : Bool) → is_wait (first_case (if b then [] else undo_cases (point w n g) r) (aborts r cause)) ≡ false
     by_model true = refl
-    by_model false = by_next (next_undo_of w n g r)
+    by_model false = by_next (next_undo_of (point w n g) r)
 
 -- .. and the next command is answered, or its device goes out, in a model with an order where the run stands behind no live run
-command_goes : (w : Setting) (n : Reading) (g : Grips) (r m k : ℕ) (c : Command) → (is_weak w.mode ≡ false → live_before n r ≡ []) → ((d : ℕ) → g d ≡ None) → is_wait (decide_command w n g r m k c) ≡ false
-command_goes w n g r m k c first home = elim (holds c.when (n.run r).register) as (λ b. is_wait (if b then first_case (command_cases (is_weak w.mode) w n g r m k c) (HandsOut c.device.0 (Commands k)) else skipped_command w n r k) ≡ false) [
+command_goes : (w : Setting) (n : Reading) (g : Grips) (r m k : ℕ) (c : Command) → (is_weak w.mode ≡ false → live_before n r ≡ []) → ((d : ℕ) → g d ≡ None) → is_wait (decide_command (point w n g) r m k c) ≡ false
+command_goes w n g r m k c first home = elim (holds c.when (n.run r).register) as (λ b. is_wait (if b then first_case (command_cases (is_weak w.mode) (point w n g) r m k c) (HandsOut c.device.0 (Commands k)) else skipped_command (point w n g) r k) ≡ false) [
   | true ↦ done
   | false ↦ ap (λ o. is_wait (first_case (option_map (λ x. Waits (Strict (run_no x))) o ∷ []) (Moves (skip_entries r k)))) unheld
 ]
@@ -178,43 +181,43 @@ command_goes w n g r m k c first home = elim (holds c.when (n.run r).register) a
     answers true = refl
     answers false = refl
 
-    unbarred : is_wait (unbarred_command w n g r k c) ≡ false
+    unbarred : is_wait (unbarred_command (point w n g) r k c) ≡ false
     unbarred =
-        let at_home : busy_wait w n g r c.device.0 ≡ false = ap (λ o. (is_weak w.mode || not (sees_down n r c.device.0)) && is_some o) (home c.device.0) ∙ and-false (is_weak w.mode || not (sees_down n r c.device.0)) in
-        ap (λ b. is_wait (first_case (only_if b (Waits (Busy c.device)) ∷ down_case w n r k c ∷ []) (HandsOut c.device.0 (Commands k)))) at_home ∙ answers (answers_down w n r c.device.0)
+        let at_home : busy_wait (point w n g) r c.device.0 ≡ false = ap (λ o. (is_weak w.mode || not (sees_down n r c.device.0)) && is_some o) (home c.device.0) ∙ and-false (is_weak w.mode || not (sees_down n r c.device.0)) in
+        ap (λ b. is_wait (first_case (only_if b (Waits (Busy c.device)) ∷ down_case (point w n g) r k c ∷ []) (HandsOut c.device.0 (Commands k)))) at_home ∙ answers (answers_down w n r c.device.0)
 
-    in_front : live_before n r ≡ [] → is_wait (strong_command w n g r m k c) ≡ false
+    in_front : live_before n r ≡ [] → is_wait (strong_command (point w n g) r m k c) ≡ false
     in_front none =
-        let alone : WaitsForNone w n g r = waits_for_none w n g r none in
-        let behind' : behind_wait w n g r c.device.0 ≡ None = alone.behind c.device.0 in
-        let clean : dirty_wait w n g r c ≡ None = alone.dirty c in
+        let alone : WaitsForNone (point w n g) r = waits_for_none w n g r none in
+        let behind' : behind_wait (point w n g) r c.device.0 ≡ None = alone.behind c.device.0 in
+        let clean : dirty_wait (point w n g) r c ≡ None = alone.dirty c in
         let free : strict_wait w n r ≡ None = alone.strict in
-        ap is_wait (command_current w n g r m k c (ap (find (is_overdue w n g r c.device.0 m)) none))
+        ap is_wait (command_current (point w n g) r m k c (ap (find (is_overdue (point w n g) r c.device.0 m)) none))
         ∙ (λ i. is_wait (first_case (option_map (λ x. Waits (Behind c.device (run_no x))) (behind' i) ∷ option_map (λ x. Waits (Dirty c.device (run_no x)))
-        (clean i) ∷ option_map (λ x. Waits (Strict (run_no x))) (free i) ∷ busy_case w n g r c ∷ down_case w n r k c ∷ []) (HandsOut c.device.0 (Commands k))))
+        (clean i) ∷ option_map (λ x. Waits (Strict (run_no x))) (free i) ∷ busy_case (point w n g) r c ∷ down_case (point w n g) r k c ∷ []) (HandsOut c.device.0 (Commands k))))
         ∙ unbarred
 
-    done : is_wait (first_case (command_cases (is_weak w.mode) w n g r m k c) (HandsOut c.device.0 (Commands k))) ≡ false
-    done = elim (is_weak w.mode) as (λ b. is_weak w.mode ≡ b → is_wait (first_case (command_cases b w n g r m k c) (HandsOut c.device.0 (Commands k))) ≡ false) [
+    done : is_wait (first_case (command_cases (is_weak w.mode) (point w n g) r m k c) (HandsOut c.device.0 (Commands k))) ≡ false
+    done = elim (is_weak w.mode) as (λ b. is_weak w.mode ≡ b → is_wait (first_case (command_cases b (point w n g) r m k c) (HandsOut c.device.0 (Commands k))) ≡ false) [
       | true ↦ (λ weak. unbarred)
       | false ↦ (λ strong. in_front (first strong))
     ] refl
 
 -- with its devices home a run goes on: it arrives; it is placed, where it waits for no run that it follows and is denied no device; or, in a model with an order where it stands behind no live run, it acts
 pub run_goes : (w : Setting) (n : Reading) (g : Grips) (r m : ℕ) → ((d : ℕ) → g d ≡ None)
-    → (is_none (n.run r).placed ≡ true → (follow_wait w n r ≡ None) × (is_wait (place_choice r m (scheduled_place w n g r m)) ≡ false))
+    → (is_none (n.run r).placed ≡ true → (follow_wait w n r ≡ None) × (is_wait (place_choice r m (scheduled_place (point w n g) r m)) ≡ false))
     → (is_none (n.run r).placed ≡ false → is_weak w.mode ≡ false → live_before n r ≡ [])
-    → is_wait (decide w n g r m) ≡ false
+    → is_wait (decide (point w n g) r m) ≡ false
 run_goes w n g r m home comes first =
     by_test IsGoing (not (is_run w.runs r)) Absent _ (λ e. refl)
     (λ run. by_map IsGoing (λ e. Over e []) (n.run r).ended _ (λ e at. refl)
     (λ going. by_map IsGoing (λ d. Waits (Busy (device_no d))) (grip_wait w g r) _ (λ d at. absurd (let both : None ≡ Some d = sym (home_free w g r home) ∙ at in cc))
     (λ free. by_test IsGoing (is_none (n.run r).arrived) (Moves (Arrived (run_no r) m ∷ [])) _ (λ e. refl)
-    (λ came. by_test IsGoing (is_none (n.run r).placed) (decide_arrived w n g r m) _
+    (λ came. by_test IsGoing (is_none (n.run r).placed) (decide_arrived (point w n g) r m) _
     (λ unplaced. let may = comes unplaced in by_map IsGoing (λ f. Waits (Follow f)) (follow_wait w n r) _ (λ f at. absurd (let both : None ≡ Some f = sym may.0 ∙ at in cc)) (λ leader. may.1))
-    (λ placed. by_map IsGoing (decide_doomed w n g r) (n.run r).doomed _ (λ cause at. doomed_goes w n g r cause home)
-    (λ sound. by_map IsGoing (decide_command w n g r m (next_of n r)) (next_command w n r) (decide_answered w n g r) (λ c at. command_goes w n g r m (next_of n r) c (first placed) home)
-    (λ none. ends (down_at_end w n g r))))))))
+    (λ placed. by_map IsGoing (decide_doomed (point w n g) r) (n.run r).doomed _ (λ cause at. doomed_goes w n g r cause home)
+    (λ sound. by_map IsGoing (decide_command (point w n g) r m (next_of n r)) (next_command w n r) (decide_answered (point w n g) r) (λ c at. command_goes w n g r m (next_of n r) c (first placed) home)
+    (λ none. ends (down_at_end (point w n g) r))))))))
   where
     IsGoing : Choice → Type 0
     IsGoing c = is_wait c ≡ false

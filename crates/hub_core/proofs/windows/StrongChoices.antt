@@ -24,7 +24,8 @@ use Rattle.hub_core.specs.HubKept.{ConfigurationIsKept, is_placed_later, placed_
 use Rattle.hub_core.specs.Openings.{names_values_of}
 use Rattle.hub_core.specs.Decisions.{current_command, skipped_command, strong_command, strong_doomed}
 use Rattle.hub_core.specs.Steps.{HandsOut, Moves, aborts, command_cases, decide_command, decide_doomed, first_case, undo_cases}
-use Rattle.lock_leasing.specs.Configurations.{Commands, Configuration, Grips, read_of}
+use Rattle.lock_leasing.specs.Configurations.{Configuration, Point, point, point_of, read_of}
+use Rattle.lock_leasing.specs.declared.purposes.Purpose.TheVariants.{Commands}
 use Rattle.lock_leasing.specs.Leases.{NeverOverdue}
 use Rattle.lock_leasing.specs.Places.{IsClear, in_order}
 use Rattle.lock_leasing.specs.Waits.{follow_wait}
@@ -48,12 +49,12 @@ pub record StrongSteps (w : Setting) (n : Reading) : Type 0 where
   pub standing : (r : ℕ) → is_live n r ≡ true → list_any (is_ran r) n.line ≡ true
 
 -- what is known of the place of a run that is placed at this moment: the run waits for no other, the place is behind what is sealed, nothing behind the place must stand before it as the line stands then, and where runs are served as they come it is the end of the line
-pub record IsPlacing (w : Setting) (n : Reading) (g : Grips) (r at m : ℕ) : Type 0 where
-  pub leader : follow_wait w n r ≡ None
-  pub clear : IsClear w (in_order n (line_for w n r m)) g r at
-  pub sealed : sealed_in n ≤ at
-  pub within : at ≤ length n.line
-  pub last : scheduler_of w.mode ≡ Fcfs → at ≡ length n.line
+pub record IsPlacing (p : Point) (r at m : ℕ) : Type 0 where
+  pub leader : follow_wait p.setting p.reading r ≡ None
+  pub clear : IsClear (point p.setting (in_order p.reading (line_for p.setting p.reading r m)) p.grips) r at
+  pub sealed : sealed_in p.reading ≤ at
+  pub within : at ≤ length p.reading.line
+  pub last : scheduler_of p.setting.mode ≡ Fcfs → at ≡ length p.reading.line
 
 -- Leases
 
@@ -90,11 +91,13 @@ placed_before n r (Failed d k ∷ is) ordered there = subst (λ l. Each (λ q. n
 placed_before n r (Back d k ∷ is) ordered there = subst (λ l. Each (λ q. nat_lt (stamp_of n q) (stamp_of n r) ≡ true) (live_runs n l)) (sym (take_while-cons (λ i. not (is_ran r i)) (Back d k) is)) (placed_before n r is (grind (arith, common_steps)) there)
 
 -- where each run was placed before those behind it, no lease is ever overdue
-pub never_overdue : (w : Setting) (n : Reading) (g : Grips) (r d : ℕ) → IsTrue (placed_in_order n n.line) → list_any (is_ran r) n.line ≡ true → NeverOverdue w n g r d
-never_overdue w n g r d ordered there m = find_none (is_overdue w n g r d m) (live_before n r) (each_is (λ x. nat_lt (stamp_of n x) (stamp_of n r) ≡ true) (λ x. is_overdue w n g r d m x ≡ false) (live_before n r) (λ x before'. not_overdue x before') (placed_before n r n.line ordered there))
+pub never_overdue : (p : Point) (r d : ℕ) → IsTrue (placed_in_order p.reading p.reading.line) → list_any (is_ran r) p.reading.line ≡ true → NeverOverdue p r d
+never_overdue p r d ordered there m =
+    find_none (is_overdue p r d m) (live_before p.reading r) (each_is (λ x. nat_lt (stamp_of p.reading x) (stamp_of p.reading r) ≡ true)
+    (λ x. is_overdue p r d m x ≡ false) (live_before p.reading r) (λ x before'. not_overdue x before') (placed_before p.reading r p.reading.line ordered there))
   where
-    not_overdue : (x : ℕ) → nat_lt (stamp_of n x) (stamp_of n r) ≡ true → is_overdue w n g r d m x ≡ false
-    not_overdue x less = let later : nat_lt (stamp_of n r) (stamp_of n x) ≡ false = grind (arith, common_steps) in rw later (grind (arith, common_steps))
+    not_overdue : (x : ℕ) → nat_lt (stamp_of p.reading x) (stamp_of p.reading r) ≡ true → is_overdue p r d m x ≡ false
+    not_overdue x less = let later : nat_lt (stamp_of p.reading r) (stamp_of p.reading x) ≡ false = grind (arith, common_steps) in rw later (grind (arith, common_steps))
 
 -- The cases
 
@@ -103,20 +106,20 @@ take_all [] = refl
 take_all (i ∷ is) = ap suc (take_all is)
 
 -- the next command in a model with an order, where its guard holds, ..
-pub command_is : (w : Setting) (n : Reading) (g : Grips) (r m k : ℕ) (c : Command) → is_weak w.mode ≡ false → holds c.when (n.run r).register ≡ true → decide_command w n g r m k c ≡ strong_command w n g r m k c
-command_is w n g r m k c strong guard = (λ i. if guard i then first_case (command_cases (strong i) w n g r m k c) (HandsOut c.device.0 (Commands k)) else skipped_command w n r k)
+pub command_is : (p : Point) (r m k : ℕ) (c : Command) → is_weak p.setting.mode ≡ false → holds c.when (p.reading.run r).register ≡ true → decide_command p r m k c ≡ strong_command p r m k c
+command_is p r m k c strong guard = (λ i. if guard i then first_case (command_cases (strong i) p r m k c) (HandsOut c.device.0 (Commands k)) else skipped_command p r k)
 
 -- .. or not
-pub skip_is : (w : Setting) (n : Reading) (g : Grips) (r m k : ℕ) (c : Command) → holds c.when (n.run r).register ≡ false → decide_command w n g r m k c ≡ skipped_command w n r k
-skip_is w n g r m k c guard = ap (λ b. if b then first_case (command_cases (is_weak w.mode) w n g r m k c) (HandsOut c.device.0 (Commands k)) else skipped_command w n r k) guard
+pub skip_is : (p : Point) (r m k : ℕ) (c : Command) → holds c.when (p.reading.run r).register ≡ false → decide_command p r m k c ≡ skipped_command p r k
+skip_is p r m k c guard = ap (λ b. if b then first_case (command_cases (is_weak p.setting.mode) p r m k c) (HandsOut c.device.0 (Commands k)) else skipped_command p r k) guard
 
 -- .. where no lease on its device is overdue
-pub command_current : (w : Setting) (n : Reading) (g : Grips) (r m k : ℕ) (c : Command) → overdue_for w n g r c.device.0 m ≡ None → strong_command w n g r m k c ≡ current_command w n g r k c
-command_current w n g r m k c none = ap (λ o. first_case (option_map (λ x. Moves (Doomed (run_no x) (Revoked (run_no r) c.device (lease_deadline w n x c.device.0) m) ∷ [])) o ∷ []) (current_command w n g r k c)) none
+pub command_current : (p : Point) (r m k : ℕ) (c : Command) → overdue_for p r c.device.0 m ≡ None → strong_command p r m k c ≡ current_command p r k c
+command_current p r m k c none = ap (λ o. first_case (option_map (λ x. Moves (Doomed (run_no x) (Revoked (run_no r) c.device (lease_deadline p.setting p.reading x c.device.0) m) ∷ [])) o ∷ []) (current_command p r k c)) none
 
 -- a doomed run
-pub doomed_is : (w : Setting) (n : Reading) (g : Grips) (r : ℕ) (cause : Cause) → is_weak w.mode ≡ false → decide_doomed w n g r cause ≡ strong_doomed w n g r cause
-doomed_is w n g r cause strong = ap (λ b. first_case (if b then [] else undo_cases w n g r) (aborts r cause)) strong
+pub doomed_is : (p : Point) (r : ℕ) (cause : Cause) → is_weak p.setting.mode ≡ false → decide_doomed p r cause ≡ strong_doomed p r cause
+doomed_is p r cause strong = ap (λ b. first_case (if b then [] else undo_cases p r) (aborts r cause)) strong
 
 -- A configuration that is kept
 
@@ -138,5 +141,5 @@ strong_steps s rounds opened held kept =
     }
 
 -- first come first served no lease is ever overdue
-pub served_in_turn : (s : Configuration) (rounds opened : ℕ) (held : ℕ → ℕ) (r d : ℕ) → ConfigurationIsKept s rounds opened held → s.setting.mode.scheduler ≡ Fcfs → is_live (read_of s) r ≡ true → NeverOverdue s.setting (read_of s) s.grips r d
-served_in_turn s rounds opened held r d kept first live = never_overdue s.setting (read_of s) s.grips r d (kept.history.in_order first) ((strong_steps s rounds opened held kept).standing r live)
+pub served_in_turn : (s : Configuration) (rounds opened : ℕ) (held : ℕ → ℕ) (r d : ℕ) → ConfigurationIsKept s rounds opened held → s.setting.mode.scheduler ≡ Fcfs → is_live (read_of s) r ≡ true → NeverOverdue (point_of s) r d
+served_in_turn s rounds opened held r d kept first live = never_overdue (point_of s) r d (kept.history.in_order first) ((strong_steps s rounds opened held kept).standing r live)

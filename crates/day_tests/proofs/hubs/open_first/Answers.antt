@@ -17,6 +17,6 @@ open_window-requires g c =
     let opened : home.opened ≡ 0 = search rules in
     let few : home.opened ≤ 288 = omega (arith, opened) in
     record {
-      may = may_open D.tag D.stands D.turns D.probes D.faults script _ 0 window home c.in_ok-roster.roster
+      may = may_open D.shows script _ 0 window home c.in_ok-roster.roster
           (record { sound = c.requires.sound; goes = refl; at = at; runs = runs; kept = c.kept.ensures; kinds = kinds; opened = few });
     }

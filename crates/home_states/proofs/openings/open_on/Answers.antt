@@ -13,4 +13,4 @@ open-requires c =
     let at : slice_get script.windows.items c.args.number ≡ Some window = search rules in
     let runs : runs_of c.in-Ok.roster ≡ script_runs script c.args.number = search rules in
     let few : home.opened < 2 ^ 31 = search rules in
-    record { may = may_open_ever _ _ _ _ _ script c.args.mode c.args.number window home c.in-Ok.roster c.script.ensures.sound c.requires.goes at runs c.kept.ensures c.requires.fits few }
+    record { may = may_open_ever _ script c.args.mode c.args.number window home c.in-Ok.roster c.script.ensures.sound c.requires.goes at runs c.kept.ensures c.requires.fits few }

@@ -2,7 +2,6 @@ use Rattle.hub_commands.proofs.DaysUnderWay.{starts}
 use Rattle.hub_commands.proofs.PlayedDays.{head_alone, unbuilt}
 use Rattle.hub_commands.proofs.days.begin.Goals as goal
 use Rattle.hub_commands.specs.Days.{new_course}
-use Rattle.hub_commands.specs.Finishes.{shown_by}
 use Rattle.std.proofs.Common.{None}
 
 pub returns-in_default-clause-goes_on : goal.returns-in_default-clause-goes_on
@@ -10,7 +9,7 @@ returns-in_default-clause-goes_on g c =
     let D = g.B.Dev.Device in
     let K = g.K.Sink in (
       c.end_without_devices.ensures.status,
-      unbuilt (g.W.Way.works c.args.way.now) (shown_by D.tag D.plan D.stands D.turns D.probes D.faults) (new_course c.args.script.now) c.args.options
+      unbuilt (g.W.Way.works c.args.way.now) D.shows (new_course c.args.script.now) c.args.options
           (K.holds c.args.sink.now) (K.faults c.args.sink.now)
           c.new.result c.end_without_devices.result.day c.end_without_devices.result.fault
           c.new.ensures.empty c.end_without_devices.ensures.day c.end_without_devices.ensures.fault,
@@ -23,6 +22,6 @@ pub returns-clause-goes_on : goal.returns-clause-goes_on
 returns-clause-goes_on g c =
     let D = g.B.Dev.Device in
     c.begin_on.ensures.begun (new_course c.args.script.now)
-    (starts (g.W.Way.works c.args.way.now) D.tag D.plan D.stands D.turns D.probes D.faults c.args.script.now c.args.options.mode c.in-Ok.home
+    (starts (g.W.Way.works c.args.way.now) D.shows c.args.script.now c.args.options.mode c.in-Ok.home
     c.in-Ok.ensures.devices c.in-Ok.ensures.kinds c.in-Ok.ensures.world c.in-Ok.ensures.opened)
     (head_alone c.head_text.result c.args.options.mode c.head_text.ensures)

@@ -1,7 +1,6 @@
 use Rattle.hub_commands.proofs.KeptWindows.{stop_back}
 use Rattle.hub_commands.proofs.PlayedDays.{begun, head_stopped}
 use Rattle.hub_commands.proofs.days.begin_on.Goals as goal
-use Rattle.hub_commands.specs.Finishes.{shown_by}
 use Rattle.std.proofs.Common.{ap, length}
 
 pub returns-in-Ok-clause-begun : goal.returns-in-Ok-clause-begun
@@ -9,7 +8,7 @@ returns-in-Ok-clause-begun g c course starts head =
     let D = g.D.Device in
     let K = g.K.Sink in (
       ap (λ ws. length ws) c.new.ensures.empty,
-      begun (g.W.Way.works c.args._way.now) (shown_by D.tag D.plan D.stands D.turns D.probes D.faults) course c.args.options
+      begun (g.W.Way.works c.args._way.now) D.shows course c.args.options
           (K.holds c.args.sink.now) (K.holds c.write_piece.new.sink) (K.faults c.args.sink.now) (K.faults c.write_piece.new.sink)
           c.args.home c.new.result.items c.args.head starts c.new.ensures.empty head c.in-Ok.ensures,
     )
@@ -19,7 +18,7 @@ returns-in-Err-clause-begun g c course starts head =
     let D = g.D.Device in
     let K = g.K.Sink in (
       c.stop.ensures.status,
-      head_stopped (g.W.Way.works c.args._way.now) (shown_by D.tag D.plan D.stands D.turns D.probes D.faults) course c.args.options
+      head_stopped (g.W.Way.works c.args._way.now) D.shows course c.args.options
           (K.holds c.args.sink.now) (K.holds c.write_piece.new.sink) (K.faults c.args.sink.now) (K.faults c.write_piece.new.sink)
           c.args.home c.new.result c.args.head c.in-Err.fault c.stop.result.day c.stop.result.fault
           starts c.new.ensures.empty head c.in-Err.ensures c.stop.ensures.ends,

@@ -3,7 +3,6 @@ use Rattle.hub_commands.proofs.PlayedDays.{goes_on, lines_stopped, starved}
 use Rattle.hub_commands.proofs.Snocs.{length_more}
 use Rattle.hub_commands.proofs.days.go_on.Goals as goal
 use Rattle.hub_commands.specs.Days.{course_behind}
-use Rattle.hub_commands.specs.Finishes.{shown_by}
 use Rattle.hub_commands.specs.Going.{NextIs, windows_in}
 use Rattle.std.proofs.Common.{Err, None, Ok, ap, length, subst, sym, ◌∙◌}
 
@@ -11,12 +10,12 @@ pub returns-in-Err-clause-written : goal.returns-in-Err-clause-written
 returns-in-Err-clause-written g c course held f home records going next =
     let D = g.D.Device in
     let K = g.K.Sink in
-    let same : NextIs (g.W.Way.works c.args._way.now) (shown_by D.tag D.plan D.stands D.turns D.probes D.faults)
+    let same : NextIs (g.W.Way.works c.args._way.now) D.shows
     (course_behind c.args.script.now c.args.before course) c.args.options.mode records (Err c.in-Err.windows) =
-    subst (λ n. NextIs (g.W.Way.works c.args._way.now) (shown_by D.tag D.plan D.stands D.turns D.probes D.faults)
+    subst (λ n. NextIs (g.W.Way.works c.args._way.now) D.shows
     (course_behind c.args.script.now c.args.before course) c.args.options.mode records n) c.in-Err.is next in (
       c.end_without_devices.ensures.status,
-      starved (g.W.Way.works c.args._way.now) (shown_by D.tag D.plan D.stands D.turns D.probes D.faults) (course_behind c.args.script.now c.args.before course) c.args.options
+      starved (g.W.Way.works c.args._way.now) D.shows (course_behind c.args.script.now c.args.before course) c.args.options
           held (K.holds c.args.sink.now) f (K.faults c.args.sink.now)
           home records c.in-Err.windows c.end_without_devices.result.day c.end_without_devices.result.fault
           going same c.end_without_devices.ensures.day c.end_without_devices.ensures.fault,
@@ -26,12 +25,12 @@ pub returns-in-Ok-write_piece-clause-written : goal.returns-in-Ok-write_piece-cl
 returns-in-Ok-write_piece-clause-written g c course held f home records going next =
     let D = g.D.Device in
     let K = g.K.Sink in
-    let gone : NextIs (g.W.Way.works c.args._way.now) (shown_by D.tag D.plan D.stands D.turns D.probes D.faults)
+    let gone : NextIs (g.W.Way.works c.args._way.now) D.shows
     (course_behind c.args.script.now c.args.before course) c.args.options.mode records (Ok c.in-Ok.day) =
-    subst (λ n. NextIs (g.W.Way.works c.args._way.now) (shown_by D.tag D.plan D.stands D.turns D.probes D.faults)
+    subst (λ n. NextIs (g.W.Way.works c.args._way.now) D.shows
     (course_behind c.args.script.now c.args.before course) c.args.options.mode records n) c.in-Ok.is next in (
       ap (λ ws. length ws) gone.more ∙ length_more records gone.closed,
-      goes_on (g.W.Way.works c.args._way.now) (shown_by D.tag D.plan D.stands D.turns D.probes D.faults) (course_behind c.args.script.now c.args.before course) c.args.options
+      goes_on (g.W.Way.works c.args._way.now) D.shows (course_behind c.args.script.now c.args.before course) c.args.options
           held (K.holds c.args.sink.now) (K.holds c.write_piece.new.sink) f (K.faults c.args.sink.now) (K.faults c.write_piece.new.sink)
           home c.in-Ok.day.home records c.in-Ok.day.windows.items c.last_lines-lines.result
           going gone c.last_lines-lines.ensures c.in-Ok-write_piece.ensures,
@@ -41,12 +40,12 @@ pub returns-in-Err-write_piece-clause-written : goal.returns-in-Err-write_piece-
 returns-in-Err-write_piece-clause-written g c course held f home records going next =
     let D = g.D.Device in
     let K = g.K.Sink in
-    let gone : NextIs (g.W.Way.works c.args._way.now) (shown_by D.tag D.plan D.stands D.turns D.probes D.faults)
+    let gone : NextIs (g.W.Way.works c.args._way.now) D.shows
     (course_behind c.args.script.now c.args.before course) c.args.options.mode records (Ok c.in-Ok.day) =
-    subst (λ n. NextIs (g.W.Way.works c.args._way.now) (shown_by D.tag D.plan D.stands D.turns D.probes D.faults)
+    subst (λ n. NextIs (g.W.Way.works c.args._way.now) D.shows
     (course_behind c.args.script.now c.args.before course) c.args.options.mode records n) c.in-Ok.is next in (
       c.stop.ensures.status,
-      lines_stopped (g.W.Way.works c.args._way.now) (shown_by D.tag D.plan D.stands D.turns D.probes D.faults) (course_behind c.args.script.now c.args.before course) c.args.options
+      lines_stopped (g.W.Way.works c.args._way.now) D.shows (course_behind c.args.script.now c.args.before course) c.args.options
           held (K.holds c.args.sink.now) (K.holds c.write_piece.new.sink) f (K.faults c.args.sink.now) (K.faults c.write_piece.new.sink)
           home c.in-Ok.day.home records c.in-Ok.day.windows c.last_lines-lines.result c.in-Err-write_piece.fault c.stop.result.day c.stop.result.fault
           going gone c.last_lines-lines.ensures c.in-Err-write_piece.ensures c.stop.ensures.ends,

@@ -2,7 +2,6 @@ use Rattle.day_report.specs.Days.{head_text, kept_line}
 use Rattle.hub_commands.proofs.BegunBehind.{begins_under_way, some_beginning}
 use Rattle.hub_commands.proofs.PlayedDays.{unbuilt}
 use Rattle.hub_commands.proofs.kept_days.begin_behind.Goals as goal
-use Rattle.hub_commands.specs.Finishes.{shown_by}
 use Rattle.hub_commands.specs.KeptDays.{kept_course}
 use Rattle.hub_commands.specs.Ways.{IsReplayOf}
 use Rattle.std.proofs.Common.{IfOk, None, subst, ◌++◌, ◌≡◌}
@@ -17,7 +16,7 @@ returns-in_default-clause-goes_on g c =
       goes_on = some.1;
       begun = (
         c.end_without_devices.ensures.status,
-        unbuilt IsReplayOf (shown_by D.tag D.plan D.stands D.turns D.probes D.faults) (kept_course c.args.journal.now.kept some.0) c.args.options
+        unbuilt IsReplayOf D.shows (kept_course c.args.journal.now.kept some.0) c.args.options
             (K.holds c.args.sink.now) (K.faults c.args.sink.now)
             c.new.result c.end_without_devices.result.day c.end_without_devices.result.fault
             c.new.ensures.empty c.end_without_devices.ensures.day c.end_without_devices.ensures.fault,
@@ -35,6 +34,6 @@ returns-clause-goes_on g c =
       begins = on.begins;
       goes_on = on.goes_on;
       begun = c.begin_on.ensures.begun (kept_course c.args.journal.now.kept on.begins)
-          (begins_under_way IsReplayOf D.tag D.plan D.stands D.turns D.probes D.faults c.args.journal.now.kept on.begins c.args.options.mode c.in-Ok.home on.home_begins)
+          (begins_under_way IsReplayOf D.shows c.args.journal.now.kept on.begins c.args.options.mode c.in-Ok.home on.home_begins)
           (subst (λ n. IfOk c.kept_head_text-head.result (λ b. b ≡ head_text c.args.options.mode ++ kept_line n)) c.kept.ensures c.kept_head_text-head.ensures);
     }

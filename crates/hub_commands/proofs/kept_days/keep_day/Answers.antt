@@ -3,7 +3,7 @@ use Rattle.hub_commands.proofs.KeptDays.{behind_all, ended_kept, starts_kept}
 use Rattle.hub_commands.proofs.KeptWindows.{back_windows}
 use Rattle.hub_commands.proofs.kept_days.keep_day.Goals as goal
 use Rattle.hub_commands.specs.Days.{course_behind}
-use Rattle.hub_commands.specs.Finishes.{shown_by, written}
+use Rattle.hub_commands.specs.Finishes.{written}
 use Rattle.hub_commands.specs.Going.{IsGoingOn}
 use Rattle.hub_commands.specs.KeptDays.{HasEndedBehind, HasEndedKept, kept_course}
 use Rattle.hub_commands.specs.Ways.{IsReplayOf}
@@ -23,7 +23,7 @@ returns-in-Err g c =
       ends = record {
         begins = begun.begins;
         goes_on = begun.goes_on;
-        ended = ended_kept Q.told Q.seen Q.images Q.moment Q.images_since Q.faults c.args.script.now c.args.journal.kept IsReplayOf (shown_by D.tag D.plan D.stands D.turns D.probes D.faults) (kept_course c.args.journal.kept begun.begins) c.args.options
+        ended = ended_kept Q.told Q.seen Q.images Q.moment Q.images_since Q.faults c.args.script.now c.args.journal.kept IsReplayOf D.shows (kept_course c.args.journal.kept begun.begins) c.args.options
             (written (K.holds c.args.sink.now) (K.holds c.begin_behind.new.sink) (K.faults c.args.sink.now) (K.faults c.begin_behind.new.sink)) c.args.journal.disk c.hand_back.result [] c.args.journal c.in-Err.finish.day c.in-Err.finish.fault
             (starts_kept Q.told Q.seen Q.images Q.moment Q.images_since Q.faults c.args.script.now c.args.journal.kept c.args.journal [] g.met.Q.Disk.only_now refl c.requires.kinds c.requires.most refl)
             c.hand_back.ensures.disk c.hand_back.ensures.durable begun.begun.1 (back_windows c.in-Err.finish.day [] c.in-Err.ensures.kept);
@@ -41,7 +41,7 @@ windows-init g c =
     let same : c.args.journal.kept ≡ before = sym c.kept-before.ensures in
     let goes_on : GoesOnBehind c.args.script.now before c.args.journal.last begun.begins = subst (λ n. GoesOnBehind c.args.script.now n c.args.journal.last begun.begins) same begun.goes_on in
     let sink = written (K.holds c.args.sink.now) (K.holds c.begin_behind.new.sink) (K.faults c.args.sink.now) (K.faults c.begin_behind.new.sink) in
-    let shown = shown_by D.tag D.plan D.stands D.turns D.probes D.faults in
+    let shown = D.shows in
     let going : IsGoingOn IsReplayOf shown (kept_course before begun.begins) c.args.options sink c.in-Ok.day.home c.in-Ok.day.windows.items =
     subst (λ n. IsGoingOn IsReplayOf shown (kept_course n begun.begins) c.args.options sink c.in-Ok.day.home c.in-Ok.day.windows.items) same begun.begun.1 in
     let none = λ (last : c.args.journal.last ≡ None). sym same ∙ c.begin_behind.ensures.none last in
@@ -110,7 +110,7 @@ returns-in-Err-keep_next g c =
     let so = c.windows.invariant.so_far in
     let before = c.kept-before.result in
     let same : c.args.journal.kept ≡ before = sym c.kept-before.ensures in
-    let shown = shown_by D.tag D.plan D.stands D.turns D.probes D.faults in
+    let shown = D.shows in
     let sink = written (K.holds c.args.sink.now) (K.holds c.keep_next.new.sink) (K.faults c.args.sink.now) (K.faults c.keep_next.new.sink) in
     let ended = c.in-Err-keep_next.ended in
     let end = c.in-Err-keep_next.ensures (kept_course before so.0) (K.holds c.args.sink.now) (K.faults c.args.sink.now) c.args.journal.disk so.2 in
@@ -135,7 +135,7 @@ returns g c =
     let so = c.windows.invariant.so_far in
     let before = c.kept-before.result in
     let same : c.args.journal.kept ≡ before = sym c.kept-before.ensures in
-    let shown = shown_by D.tag D.plan D.stands D.turns D.probes D.faults in
+    let shown = D.shows in
     let sink = written (K.holds c.args.sink.now) (K.holds c.end-finish.new.sink) (K.faults c.args.sink.now) (K.faults c.end-finish.new.sink) in
     let course = course_behind c.args.script.now before (kept_course before so.0) in
     let counted = c.windows.invariant.counted in

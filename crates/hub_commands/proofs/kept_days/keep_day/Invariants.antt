@@ -1,5 +1,5 @@
 use Rattle.hub_commands.proofs.kept_days.keep_day.Given as goal
-use Rattle.hub_commands.specs.Finishes.{shown_by, written}
+use Rattle.hub_commands.specs.Finishes.{written}
 use Rattle.hub_commands.specs.KeptDays.{IsKeptSoFar, kept_course}
 use Rattle.hub_commands.specs.Ways.{IsReplayOf}
 use Rattle.legal_days.specs.LegalDays.{Beginning}
@@ -15,6 +15,6 @@ invariant-windows g l =
     record {
       counted : length l.kept.day.windows.items ≡ l.counter;
       so_far : (begins : Beginning) × GoesOnBehind l.script l.before l.fn.journal.last begins
-          × IsKeptSoFar IsReplayOf (shown_by D.tag D.plan D.stands D.turns D.probes D.faults) Q.told Q.seen Q.images Q.moment Q.images_since Q.faults l.script l.before (kept_course l.before begins) l.options
+          × IsKeptSoFar IsReplayOf D.shows Q.told Q.seen Q.images Q.moment Q.images_since Q.faults l.script l.before (kept_course l.before begins) l.options
           (written (K.holds l.fn.sink) (K.holds l.sink) (K.faults l.fn.sink) (K.faults l.sink)) l.fn.journal.disk l.kept.day.home l.kept.day.windows.items l.kept.journal;
     }

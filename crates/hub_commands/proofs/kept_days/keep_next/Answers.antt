@@ -2,7 +2,7 @@ use Rattle.hub_commands.proofs.KeptDays.{ended_kept}
 use Rattle.hub_commands.proofs.PlayedDays.{starved}
 use Rattle.hub_commands.proofs.kept_days.keep_next.Goals as goal
 use Rattle.hub_commands.specs.Days.{course_behind}
-use Rattle.hub_commands.specs.Finishes.{shown_by, written}
+use Rattle.hub_commands.specs.Finishes.{written}
 use Rattle.hub_commands.specs.KeptDays.{windows_of}
 use Rattle.hub_commands.specs.Ways.{IsReplayOf}
 use Rattle.routine_reader.specs.Scripts.{plain_window}
@@ -29,7 +29,7 @@ returns-in-Err g c course held f first so =
     let D = g.D.Device in
     let K = g.K.Sink in
     let Q = g.Q.Disk in
-    let shown = shown_by D.tag D.plan D.stands D.turns D.probes D.faults in
+    let shown = D.shows in
     let behind = course_behind c.args.script.now c.args.before course in (
       c.end_without_devices-finish.ensures.status,
       ended_kept Q.told Q.seen Q.images Q.moment Q.images_since Q.faults c.args.script.now c.args.before IsReplayOf shown behind c.args.options

@@ -4,7 +4,7 @@ use Rattle.hub_commands.proofs.KeptDays.{ended_kept, ended_unkept, kept_more}
 use Rattle.hub_commands.proofs.KeptWindows.{back_windows}
 use Rattle.hub_commands.proofs.kept_days.write_kept.Goals as goal
 use Rattle.hub_commands.specs.Days.{course_behind}
-use Rattle.hub_commands.specs.Finishes.{shown_by, written}
+use Rattle.hub_commands.specs.Finishes.{written}
 use Rattle.hub_commands.specs.KeptDays.{IsJournalSoFar}
 use Rattle.hub_commands.specs.Ways.{IsReplayOf}
 use Rattle.std.proofs.Common.{subst, sym, ◌∙◌}
@@ -19,7 +19,7 @@ returns-in-Ok-go_on g c course held f first home records so gone =
     let Q = g.Q.Disk in
     let next = c.args.next.day in
     let on = c.in-Ok-go_on.ensures.written course held f home records so.going gone in
-    let is = c.world.ensures.world ∙ last_state IsReplayOf D.tag D.plan D.stands D.turns D.probes D.faults (course_behind c.args.script.now c.args.before course) c.args.options.mode next.home records next.windows.items gone.closed gone.under_way gone.more in (
+    let is = c.world.ensures.world ∙ last_state IsReplayOf D.shows (course_behind c.args.script.now c.args.before course) c.args.options.mode next.home records next.windows.items gone.closed gone.under_way gone.more in (
       on.0,
       record {
         going = on.1;
@@ -36,9 +36,9 @@ returns-in-Err-go_on g c course held f first home records so gone =
     let Q = g.Q.Disk in
     let next = c.args.next.day in
     let end = c.in-Err-go_on.ensures.written course held f home records so.going gone in
-    let is = c.world.ensures.world ∙ last_state IsReplayOf D.tag D.plan D.stands D.turns D.probes D.faults (course_behind c.args.script.now c.args.before course) c.args.options.mode next.home records next.windows.items gone.closed gone.under_way gone.more in (
+    let is = c.world.ensures.world ∙ last_state IsReplayOf D.shows (course_behind c.args.script.now c.args.before course) c.args.options.mode next.home records next.windows.items gone.closed gone.under_way gone.more in (
       end.0,
-      ended_kept Q.told Q.seen Q.images Q.moment Q.images_since Q.faults c.args.script.now c.args.before IsReplayOf (shown_by D.tag D.plan D.stands D.turns D.probes D.faults) (course_behind c.args.script.now c.args.before course) c.args.options
+      ended_kept Q.told Q.seen Q.images Q.moment Q.images_since Q.faults c.args.script.now c.args.before IsReplayOf D.shows (course_behind c.args.script.now c.args.before course) c.args.options
           (written held (K.holds c.go_on.new.sink) f (K.faults c.go_on.new.sink)) first c.hand_back.result next.windows.items c.in-Ok.journal c.in-Err-go_on.finish.day c.in-Err-go_on.finish.fault
           (kept_more Q.told Q.seen Q.images Q.moment Q.images_since Q.faults c.args.script.now c.args.before first records c.args.next.journal so.on_disk next.windows.items gone.closed gone.more c.world.result.now.devices.items is
           c.in-Ok.journal c.in-Ok.ensures.home.0 c.in-Ok.ensures.home.1 c.in-Ok.ensures.last.0 c.in-Ok.ensures.later c.in-Ok.ensures.kept c.in-Ok.ensures.any_moment)
@@ -52,9 +52,9 @@ returns-in-Err g c course held f first home records so gone =
     let Q = g.Q.Disk in
     let next = c.args.next.day in (
       c.end_unkept.ensures.status,
-      ended_unkept Q.told Q.seen Q.images Q.moment Q.images_since Q.faults c.args.script.now c.args.before IsReplayOf (shown_by D.tag D.plan D.stands D.turns D.probes D.faults) (course_behind c.args.script.now c.args.before course) c.args.options
+      ended_unkept Q.told Q.seen Q.images Q.moment Q.images_since Q.faults c.args.script.now c.args.before IsReplayOf D.shows (course_behind c.args.script.now c.args.before course) c.args.options
           (written held (K.holds c.args.sink.now) f (K.faults c.args.sink.now)) first c.in-Err.disk home next.home records next.windows c.args.next.journal c.end_unkept.result.day c.end_unkept.result.fault
           g.met.Q.Disk.counts_now so.going so.on_disk gone c.world.result.now.devices.items
-          (λ closed more. c.world.ensures.world ∙ last_state IsReplayOf D.tag D.plan D.stands D.turns D.probes D.faults (course_behind c.args.script.now c.args.before course) c.args.options.mode next.home records next.windows.items closed gone.under_way more)
+          (λ closed more. c.world.ensures.world ∙ last_state IsReplayOf D.shows (course_behind c.args.script.now c.args.before course) c.args.options.mode next.home records next.windows.items closed gone.under_way more)
           c.in-Err.ensures.any_moment c.in-Err.ensures.failed c.end_unkept.ensures.ends c.end_unkept.ensures.fault,
     )

@@ -1,7 +1,6 @@
 use Rattle.hub_commands.proofs.NextWindows.{next_played}
 use Rattle.hub_commands.proofs.replays.replay_day.Goals as goal
 use Rattle.hub_commands.specs.Days.{new_course}
-use Rattle.hub_commands.specs.Finishes.{shown_by}
 use Rattle.hub_commands.specs.Ways.{IsReplayOf}
 use Rattle.std.proofs.Common.{arith, length, ◌≡◌}
 
@@ -10,7 +9,7 @@ returns-in-Err-go_on g c =
     let D = g.B.Dev.Device in
     let K = g.K.Sink in
     let end = c.in-Err-go_on.ensures.written (new_course c.args.script.now) (K.holds c.args.sink.now) (K.faults c.args.sink.now) c.windows.day.home c.windows.day.windows.items c.windows.invariant.going
-    (next_played IsReplayOf (shown_by D.tag D.plan D.stands D.turns D.probes D.faults) c.args.script.now 0 c.args.options.mode c.windows.day (new_course c.args.script.now) c.replay_next-next.result
+    (next_played IsReplayOf D.shows c.args.script.now 0 c.args.options.mode c.windows.day (new_course c.args.script.now) c.replay_next-next.result
     c.windows.invariant.going.under_way c.replay_next-next.ensures.played c.replay_next-next.ensures.starved) in
     record { status = end.0; ends = end.1 }
 
@@ -19,7 +18,7 @@ windows-preserved g c =
     let D = g.B.Dev.Device in
     let K = g.K.Sink in
     let on = c.in-Ok-go_on.ensures.written (new_course c.args.script.now) (K.holds c.args.sink.now) (K.faults c.args.sink.now) c.windows.day.home c.windows.day.windows.items c.windows.invariant.going
-    (next_played IsReplayOf (shown_by D.tag D.plan D.stands D.turns D.probes D.faults) c.args.script.now 0 c.args.options.mode c.windows.day (new_course c.args.script.now) c.replay_next-next.result
+    (next_played IsReplayOf D.shows c.args.script.now 0 c.args.options.mode c.windows.day (new_course c.args.script.now) c.replay_next-next.result
     c.windows.invariant.going.under_way c.replay_next-next.ensures.played c.replay_next-next.ensures.starved) in
     let counted = c.windows.invariant.counted in
     let more = on.0 in

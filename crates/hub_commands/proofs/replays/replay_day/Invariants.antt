@@ -1,6 +1,6 @@
 use Rattle.hub_commands.proofs.replays.replay_day.Given as goal
 use Rattle.hub_commands.specs.Days.{new_course}
-use Rattle.hub_commands.specs.Finishes.{shown_by, written}
+use Rattle.hub_commands.specs.Finishes.{written}
 use Rattle.hub_commands.specs.Going.{IsGoingOn}
 use Rattle.hub_commands.specs.Ways.{IsReplayOf}
 use Rattle.std.proofs.Common.{length, ◌≡◌}
@@ -12,6 +12,6 @@ invariant-windows g l =
     let K = g.K.Sink in
     record {
       counted : length l.day.windows.items ≡ l.counter;
-      going : IsGoingOn IsReplayOf (shown_by D.tag D.plan D.stands D.turns D.probes D.faults) (new_course l.script) l.options
+      going : IsGoingOn IsReplayOf D.shows (new_course l.script) l.options
           (written (K.holds l.fn.sink) (K.holds l.sink) (K.faults l.fn.sink) (K.faults l.sink)) l.day.home l.day.windows.items;
     }

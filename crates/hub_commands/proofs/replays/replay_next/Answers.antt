@@ -19,7 +19,7 @@ next_there script before k number seen window is within same found =
 pub replay_opened-requires-clause-fresh : goal.replay_opened-requires-clause-fresh
 replay_opened-requires-clause-fresh g c =
     let D = g.D.Device in
-    next_fresh D.tag D.turns D.probes D.faults (windows_behind c.args.before c.args.script.now) c.args.mode (length c.args.day.windows.items) c.args.day.home c.in-Ok.opened.0 c.in-Ok.ensures.opened
+    next_fresh D.shows (windows_behind c.args.before c.args.script.now) c.args.mode (length c.args.day.windows.items) c.args.day.home c.in-Ok.opened.0 c.in-Ok.ensures.opened
 
 pub replay_opened-requires-clause-rounds : goal.replay_opened-requires-clause-rounds
 replay_opened-requires-clause-rounds g c =
@@ -27,7 +27,7 @@ replay_opened-requires-clause-rounds g c =
     let counted : c.len.result ≡ length c.args.day.windows.items = c.len.ensures ∙ ap (λ ws. length ws) c.in-Ok.ensures.records in
     let at = next_there c.args.script.now c.args.before (length c.args.day.windows.items) (c.args.before + c.len.result) c.as_slice.result.now c.index-as_slice-number.result
     (ap (λ n. c.args.before + n) counted) c.requires.next c.as_slice.ensures c.index-as_slice-number.is in
-    next_rounds D.tag D.turns D.probes D.faults (windows_behind c.args.before c.args.script.now) c.args.mode (length c.args.day.windows.items) c.index-as_slice-number.result c.args.day.home c.in-Ok.opened.0
+    next_rounds D.shows (windows_behind c.args.before c.args.script.now) c.args.mode (length c.args.day.windows.items) c.index-as_slice-number.result c.args.day.home c.in-Ok.opened.0
     c.in-Ok.ensures.opened at
 
 pub returns-in-Ok-replay_opened-clause-played : goal.returns-in-Ok-replay_opened-clause-played
@@ -38,8 +38,8 @@ returns-in-Ok-replay_opened-clause-played g c course under =
     (ap (λ n. c.args.before + n) counted) c.requires.next c.as_slice.ensures c.index-as_slice-number.is in
     let done = c.in-Ok-replay_opened.done in
     let behind = course_behind c.args.script.now c.args.before course in
-    subst (λ h. HasGoneOn IsReplayOf D.tag D.plan D.stands D.turns D.probes D.faults behind c.args.mode c.args.day.windows.items h c.close_next.result.windows.items) (sym c.close_next.ensures.home)
-    (next_gone IsReplayOf D.tag D.plan D.stands D.turns D.probes D.faults behind c.args.mode c.index-as_slice-number.result
+    subst (λ h. HasGoneOn IsReplayOf D.shows behind c.args.mode c.args.day.windows.items h c.close_next.result.windows.items) (sym c.close_next.ensures.home)
+    (next_gone IsReplayOf D.shows behind c.args.mode c.index-as_slice-number.result
     c.args.day.home done.0 c.in-Ok.opened.0 c.args.day.windows.items c.close_next.result.windows.items done.1
     under c.in-Ok.ensures.opened at
     c.in-Ok-replay_opened.ensures c.close_next.ensures.kept (c.close_next.ensures.windows ∙ ap (λ ws. ws ++ done.1 ∷ []) c.in-Ok.ensures.records))
@@ -56,5 +56,5 @@ returns-in-Ok-replay_opened-clause-kinds g c =
     let D = g.D.Device in
     let done = c.in-Ok-replay_opened.done in
     ap (λ h. h.kinds) c.close_next.ensures.home
-    ∙ next_kinds IsReplayOf D.tag D.plan D.turns D.probes D.faults (windows_behind c.args.before c.args.script.now) c.args.mode (length c.args.day.windows.items) c.index-as_slice-number.result
+    ∙ next_kinds IsReplayOf D.shows (windows_behind c.args.before c.args.script.now) c.args.mode (length c.args.day.windows.items) c.index-as_slice-number.result
     c.args.day.home done.0 c.in-Ok.opened.0 done.1 c.in-Ok.ensures.opened c.in-Ok-replay_opened.ensures

@@ -7,5 +7,5 @@ replay_window-requires-clause-rounds g c = rounds_within c.args.hub c.args.windo
 pub returns-in-Ok : goal.returns-in-Ok
 returns-in-Ok g c =
     let D = g.D.Device in
-    replayed_as D.tag D.plan D.turns D.probes D.faults c.args.hub c.args.window.now c.as_slice-turns.result.now c.in-Ok.done.0 c.in-Ok.done.1
+    replayed_as D.shows c.args.hub c.args.window.now c.as_slice-turns.result.now c.in-Ok.done.0 c.in-Ok.done.1
     c.requires.rounds c.as_slice-turns.ensures c.in-Ok.ensures.replayed

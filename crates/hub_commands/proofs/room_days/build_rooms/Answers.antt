@@ -1,6 +1,5 @@
 use Rattle.hub_commands.proofs.NewRooms.{one_home_more}
 use Rattle.hub_commands.proofs.room_days.build_rooms.Goals as goal
-use Rattle.hub_commands.specs.Finishes.{shown_by}
 use Rattle.room_hubs.proofs.Sizes.{rooms_few}
 use Rattle.std.proofs.Common.{[], ap, arith, length, rules, ◌++◌, ◌≡◌, ◌∷◌}
 use Rattle.std.proofs.lemmas.List.{length-append}
@@ -21,5 +20,5 @@ rooms-preserved g c =
     let size = ap (λ l. length l) more in
     record {
       count = omega (arith, count, size, length-append c.rooms.homes.items (c.in-Ok.home ∷ []));
-      each = one_home_more (shown_by D.tag D.plan D.stands D.turns D.probes D.faults) c.args.script.now c.rooms.homes.items c.in-Ok.home c.push.new.self.items more (c.rooms.room) count c.in-Ok.ensures c.rooms.invariant.each;
+      each = one_home_more D.shows c.args.script.now c.rooms.homes.items c.in-Ok.home c.push.new.self.items more (c.rooms.room) count c.in-Ok.ensures c.rooms.invariant.each;
     }

@@ -1,5 +1,4 @@
 use Rattle.hub_commands.proofs.room_days.build_rooms.Given as goal
-use Rattle.hub_commands.specs.Finishes.{shown_by}
 use Rattle.hub_commands.specs.RoomGoing.{IsNewHome}
 use Rattle.hub_core.specs.Homes.{HomeState}
 use Rattle.room_hubs.specs.RoomScripts.{room_devices}
@@ -11,5 +10,5 @@ invariant-rooms g l =
     let D = g.B.Dev.Device in
     record {
       count : length l.homes.items ≡ l.room;
-      each : (k : ℕ) (home : HomeState g.row.B-Dev.Denot) → slice_get l.homes.items k ≡ Some home → IsNewHome (shown_by D.tag D.plan D.stands D.turns D.probes D.faults) (room_devices l.script k) home;
+      each : (k : ℕ) (home : HomeState g.row.B-Dev.Denot) → slice_get l.homes.items k ≡ Some home → IsNewHome D.shows (room_devices l.script k) home;
     }

@@ -1,13 +1,12 @@
 use Rattle.hub_commands.proofs.RoomDaysGoing.{day_devices, day_own, day_roomed, few_devices, next_starved, next_stopped, next_written}
 use Rattle.hub_commands.proofs.room_days.go_on.Goals as goal
-use Rattle.hub_commands.specs.Finishes.{shown_by}
 use Rattle.hub_commands.specs.RoomGoing.{RoomNextIs}
 use Rattle.std.proofs.Common.{Err, Ok, subst}
 
 pub tell_lines-lines-requires-clause-devices : goal.tell_lines-lines-requires-clause-devices
 tell_lines-lines-requires-clause-devices g c =
     let D = g.Dev.Device in
-    let shown = shown_by D.tag D.plan D.stands D.turns D.probes D.faults in
+    let shown = D.shows in
     let next' : RoomNextIs (g.C.Clock.earliest c.args._clock.now) (g.C.Clock.latest c.args._clock.now) shown c.args.script.now c.args.mode c.requires.next.0
     (Ok c.in-Ok.day) =
     subst (λ n. RoomNextIs (g.C.Clock.earliest c.args._clock.now) (g.C.Clock.latest c.args._clock.now) shown c.args.script.now c.args.mode c.requires.next.0 n)
@@ -17,7 +16,7 @@ tell_lines-lines-requires-clause-devices g c =
 pub tell_lines-lines-requires-clause-own : goal.tell_lines-lines-requires-clause-own
 tell_lines-lines-requires-clause-own g c =
     let D = g.Dev.Device in
-    let shown = shown_by D.tag D.plan D.stands D.turns D.probes D.faults in
+    let shown = D.shows in
     let next' : RoomNextIs (g.C.Clock.earliest c.args._clock.now) (g.C.Clock.latest c.args._clock.now) shown c.args.script.now c.args.mode c.requires.next.0
     (Ok c.in-Ok.day) =
     subst (λ n. RoomNextIs (g.C.Clock.earliest c.args._clock.now) (g.C.Clock.latest c.args._clock.now) shown c.args.script.now c.args.mode c.requires.next.0 n)
@@ -27,7 +26,7 @@ tell_lines-lines-requires-clause-own g c =
 pub stop-requires-clause-rooms : goal.stop-requires-clause-rooms
 stop-requires-clause-rooms g c =
     let D = g.Dev.Device in
-    let shown = shown_by D.tag D.plan D.stands D.turns D.probes D.faults in
+    let shown = D.shows in
     let next' : RoomNextIs (g.C.Clock.earliest c.args._clock.now) (g.C.Clock.latest c.args._clock.now) shown c.args.script.now c.args.mode c.requires.next.0
     (Ok c.in-Ok.day) =
     subst (λ n. RoomNextIs (g.C.Clock.earliest c.args._clock.now) (g.C.Clock.latest c.args._clock.now) shown c.args.script.now c.args.mode c.requires.next.0 n)
@@ -37,7 +36,7 @@ stop-requires-clause-rooms g c =
 pub stop-requires-clause-devices : goal.stop-requires-clause-devices
 stop-requires-clause-devices g c =
     let D = g.Dev.Device in
-    let shown = shown_by D.tag D.plan D.stands D.turns D.probes D.faults in
+    let shown = D.shows in
     let next' : RoomNextIs (g.C.Clock.earliest c.args._clock.now) (g.C.Clock.latest c.args._clock.now) shown c.args.script.now c.args.mode c.requires.next.0
     (Ok c.in-Ok.day) =
     subst (λ n. RoomNextIs (g.C.Clock.earliest c.args._clock.now) (g.C.Clock.latest c.args._clock.now) shown c.args.script.now c.args.mode c.requires.next.0 n)
@@ -47,7 +46,7 @@ stop-requires-clause-devices g c =
 pub returns-in-Err : goal.returns-in-Err
 returns-in-Err g c held f before so_far next =
     let D = g.Dev.Device in
-    let shown = shown_by D.tag D.plan D.stands D.turns D.probes D.faults in
+    let shown = D.shows in
     let K = g.K.Sink in
     let next' : RoomNextIs (g.C.Clock.earliest c.args._clock.now) (g.C.Clock.latest c.args._clock.now) shown c.args.script.now c.args.mode before
     (Err c.in-Err.windows) =
@@ -60,7 +59,7 @@ returns-in-Err g c held f before so_far next =
 pub returns-in-Ok-write_piece : goal.returns-in-Ok-write_piece
 returns-in-Ok-write_piece g c held f before so_far next =
     let D = g.Dev.Device in
-    let shown = shown_by D.tag D.plan D.stands D.turns D.probes D.faults in
+    let shown = D.shows in
     let K = g.K.Sink in
     let next' : RoomNextIs (g.C.Clock.earliest c.args._clock.now) (g.C.Clock.latest c.args._clock.now) shown c.args.script.now c.args.mode before
     (Ok c.in-Ok.day) =
@@ -72,7 +71,7 @@ returns-in-Ok-write_piece g c held f before so_far next =
 pub returns-in-Err-write_piece : goal.returns-in-Err-write_piece
 returns-in-Err-write_piece g c held f before so_far next =
     let D = g.Dev.Device in
-    let shown = shown_by D.tag D.plan D.stands D.turns D.probes D.faults in
+    let shown = D.shows in
     let K = g.K.Sink in
     let next' : RoomNextIs (g.C.Clock.earliest c.args._clock.now) (g.C.Clock.latest c.args._clock.now) shown c.args.script.now c.args.mode before
     (Ok c.in-Ok.day) =

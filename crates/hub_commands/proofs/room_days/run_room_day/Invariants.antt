@@ -1,5 +1,5 @@
 use Rattle.hub_commands.proofs.room_days.run_room_day.Given as goal
-use Rattle.hub_commands.specs.Finishes.{shown_by, written}
+use Rattle.hub_commands.specs.Finishes.{written}
 use Rattle.hub_commands.specs.RoomGoing.{IsRoomDay, IsWrittenSoFar}
 use Rattle.std.proofs.Common.{length, ◌≡◌}
 
@@ -10,6 +10,6 @@ invariant-windows g l =
     let K = g.K.Sink in
     record {
       counted : length l.day.windows.items ≡ l.counter;
-      day : IsRoomDay (g.C.Clock.earliest l.clock) (g.C.Clock.latest l.clock) (shown_by D.tag D.plan D.stands D.turns D.probes D.faults) l.script l.mode l.day.windows.items l.day;
+      day : IsRoomDay (g.C.Clock.earliest l.clock) (g.C.Clock.latest l.clock) D.shows l.script l.mode l.day.windows.items l.day;
       written : IsWrittenSoFar l.script l.mode (written (K.holds l.fn.sink) (K.holds l.sink) (K.faults l.fn.sink) (K.faults l.sink)) l.day.windows.items;
     }

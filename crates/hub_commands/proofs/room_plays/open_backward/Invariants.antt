@@ -5,7 +5,7 @@ use Rattle.std.proofs.Common.{length}
 abbrev pub invariant-rooms : goal.invariant-rooms
 invariant-rooms g l =
     let D = g.Dev.Device in
-    IsOpeningBackward D.turns D.probes D.faults l.mode l.rounds l.fn.rosters.items l.fn.homes.items l.rosters.items l.homes.items l.hubs
+    IsOpeningBackward D.shows l.mode l.rounds l.fn.rosters.items l.fn.homes.items l.rosters.items l.homes.items l.hubs
 
 abbrev pub decreases-rooms : goal.decreases-rooms
 decreases-rooms g l = length l.homes.items

@@ -4,7 +4,6 @@ use Rattle.hub_commands.proofs.PublishedDays.{told_back}
 use Rattle.hub_commands.proofs.runs.run_day.Goals as goal
 use Rattle.hub_commands.specs.Boards.{IsToldOf}
 use Rattle.hub_commands.specs.Days.{new_course}
-use Rattle.hub_commands.specs.Finishes.{shown_by}
 use Rattle.hub_commands.specs.Ways.{IsRunWithin}
 use Rattle.std.proofs.Common.{arith, length, subst, sym, ◌∙◌, ◌≡◌}
 
@@ -13,7 +12,7 @@ returns-in-Err-go_on g c =
     let D = g.B.Dev.Device in
     let K = g.K.Sink in
     let end = c.in-Err-go_on.ensures.written (new_course c.args.script.now) (K.holds c.args.sink.now) (K.faults c.args.sink.now) c.windows.day.home c.windows.day.windows.items c.windows.invariant.going
-    (next_is (IsRunWithin (g.C.Clock.earliest c.args.clock.now) (g.C.Clock.latest c.args.clock.now)) (shown_by D.tag D.plan D.stands D.turns D.probes D.faults)
+    (next_is (IsRunWithin (g.C.Clock.earliest c.args.clock.now) (g.C.Clock.latest c.args.clock.now)) D.shows
     (new_course c.args.script.now) c.args.options.mode c.windows.day.windows.items c.run_next-next.result c.run_next-next.ensures.played
     c.run_next-next.ensures.starved) in
     record {
@@ -29,7 +28,7 @@ windows-preserved g c =
     let D = g.B.Dev.Device in
     let K = g.K.Sink in
     let on = c.in-Ok-go_on.ensures.written (new_course c.args.script.now) (K.holds c.args.sink.now) (K.faults c.args.sink.now) c.windows.day.home c.windows.day.windows.items c.windows.invariant.going
-    (next_is (IsRunWithin (g.C.Clock.earliest c.args.clock.now) (g.C.Clock.latest c.args.clock.now)) (shown_by D.tag D.plan D.stands D.turns D.probes D.faults)
+    (next_is (IsRunWithin (g.C.Clock.earliest c.args.clock.now) (g.C.Clock.latest c.args.clock.now)) D.shows
     (new_course c.args.script.now) c.args.options.mode c.windows.day.windows.items c.run_next-next.result c.run_next-next.ensures.played
     c.run_next-next.ensures.starved) in
     let counted = c.windows.invariant.counted in
@@ -57,7 +56,7 @@ pub tell_of-requires-clause-next : goal.tell_of-requires-clause-next
 tell_of-requires-clause-next g c =
     let D = g.B.Dev.Device in
     let works = IsRunWithin (g.C.Clock.earliest c.args.clock.now) (g.C.Clock.latest c.args.clock.now) in
-    let shown = shown_by D.tag D.plan D.stands D.turns D.probes D.faults in
+    let shown = D.shows in
     next_to_tell works shown c.args.script.now c.args.options.mode c.windows.day.windows.items _ c.run_next-next.result c.requires.sound c.windows.invariant.told
     (next_is works shown (new_course c.args.script.now) c.args.options.mode c.windows.day.windows.items c.run_next-next.result c.run_next-next.ensures.played c.run_next-next.ensures.starved)
 

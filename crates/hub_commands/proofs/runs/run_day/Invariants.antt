@@ -1,7 +1,7 @@
 use Rattle.hub_commands.proofs.runs.run_day.Given as goal
 use Rattle.hub_commands.specs.Boards.{IsToldOf}
 use Rattle.hub_commands.specs.Days.{new_course}
-use Rattle.hub_commands.specs.Finishes.{shown_by, written}
+use Rattle.hub_commands.specs.Finishes.{written}
 use Rattle.hub_commands.specs.Going.{IsGoingOn}
 use Rattle.hub_commands.specs.Ways.{IsRunWithin}
 use Rattle.std.proofs.Common.{length, ◌≡◌}
@@ -13,7 +13,7 @@ invariant-windows g l =
     let K = g.K.Sink in
     record {
       counted : length l.day.windows.items ≡ l.counter;
-      going : IsGoingOn (IsRunWithin (g.C.Clock.earliest l.clock) (g.C.Clock.latest l.clock)) (shown_by D.tag D.plan D.stands D.turns D.probes D.faults) (new_course l.script) l.options
+      going : IsGoingOn (IsRunWithin (g.C.Clock.earliest l.clock) (g.C.Clock.latest l.clock)) D.shows (new_course l.script) l.options
           (written (K.holds l.fn.sink) (K.holds l.sink) (K.faults l.fn.sink) (K.faults l.sink)) l.day.home l.day.windows.items;
       stands : g.O.Onlooker.stands l.onlooker;
       same : g.O.Onlooker.posts_on l.onlooker ≡ g.O.Onlooker.posts_on l.fn.onlooker;

@@ -9,7 +9,7 @@ use Rattle.std.proofs.Common.{ap, length, slice_get, subst, sym, ◌++◌, ◌<�
 pub run_opened-requires-clause-fresh : goal.run_opened-requires-clause-fresh
 run_opened-requires-clause-fresh g c κs within =
     let D = g.D.Device in
-    next_fresh D.tag D.turns D.probes D.faults c.args.script.now c.args.mode (length c.args.day.windows.items) c.args.day.home c.in-Ok.opened.0 c.in-Ok.ensures.opened
+    next_fresh D.shows c.args.script.now c.args.mode (length c.args.day.windows.items) c.args.day.home c.in-Ok.opened.0 c.in-Ok.ensures.opened
 
 pub run_opened-requires-clause-rounds : goal.run_opened-requires-clause-rounds
 run_opened-requires-clause-rounds g c κs within =
@@ -17,7 +17,7 @@ run_opened-requires-clause-rounds g c κs within =
     let number = c.len-number.ensures ∙ ap (λ ws. length ws) c.in-Ok.ensures.records in
     let there = subst (λ n. n < length c.args.script.now.windows.items) (sym number) c.requires.next in
     let at = window-there c.args.script.now c.len-number.result c.as_slice.result.now c.index-as_slice-number.result there c.as_slice.ensures c.index-as_slice-number.is in
-    next_rounds D.tag D.turns D.probes D.faults c.args.script.now c.args.mode (length c.args.day.windows.items) c.index-as_slice-number.result c.args.day.home c.in-Ok.opened.0
+    next_rounds D.shows c.args.script.now c.args.mode (length c.args.day.windows.items) c.index-as_slice-number.result c.args.day.home c.in-Ok.opened.0
     c.in-Ok.ensures.opened (ap (λ n. slice_get c.args.script.now.windows.items n) (sym number) ∙ at)
 
 pub returns-in-Ok-run_opened-clause-played : goal.returns-in-Ok-run_opened-clause-played
@@ -27,8 +27,8 @@ returns-in-Ok-run_opened-clause-played g c =
     let there = subst (λ n. n < length c.args.script.now.windows.items) (sym number) c.requires.next in
     let at = window-there c.args.script.now c.len-number.result c.as_slice.result.now c.index-as_slice-number.result there c.as_slice.ensures c.index-as_slice-number.is in
     let done = c.in-Ok-run_opened.done in
-    subst (λ h. HasGoneOn (IsRunWithin (g.C.Clock.earliest c.args.clock.now) (g.C.Clock.latest c.args.clock.now)) D.tag D.plan D.stands D.turns D.probes D.faults (new_course c.args.script.now) c.args.mode c.args.day.windows.items h c.close_next.result.windows.items) (sym c.close_next.ensures.home)
-    (next_gone (IsRunWithin (g.C.Clock.earliest c.args.clock.now) (g.C.Clock.latest c.args.clock.now)) D.tag D.plan D.stands D.turns D.probes D.faults (new_course c.args.script.now) c.args.mode c.index-as_slice-number.result
+    subst (λ h. HasGoneOn (IsRunWithin (g.C.Clock.earliest c.args.clock.now) (g.C.Clock.latest c.args.clock.now)) D.shows (new_course c.args.script.now) c.args.mode c.args.day.windows.items h c.close_next.result.windows.items) (sym c.close_next.ensures.home)
+    (next_gone (IsRunWithin (g.C.Clock.earliest c.args.clock.now) (g.C.Clock.latest c.args.clock.now)) D.shows (new_course c.args.script.now) c.args.mode c.index-as_slice-number.result
     c.args.day.home done.0 c.in-Ok.opened.0 c.args.day.windows.items c.close_next.result.windows.items done.1
     c.requires.under_way c.in-Ok.ensures.opened (ap (λ n. slice_get c.args.script.now.windows.items n) (sym number) ∙ at)
     c.in-Ok-run_opened.ensures c.close_next.ensures.kept (c.close_next.ensures.windows ∙ ap (λ ws. ws ++ done.1 ∷ []) c.in-Ok.ensures.records))

@@ -4,7 +4,7 @@ use Rattle.hub_commands.proofs.AskedModes.{still_goes}
 use Rattle.hub_commands.proofs.AskedTrials.{asked_within}
 use Rattle.hub_commands.proofs.stills.still_command.Goals as goal
 use Rattle.hub_commands.specs.CommandsTaken.{still_line_of}
-use Rattle.std.proofs.Common.{Some, inl, map, rules, string_bytes, ◌≡◌}
+use Rattle.std.proofs.Common.{Some, map, rules, string_bytes, ◌≡◌}
 
 pub replay_input-requires : goal.replay_input-requires
 replay_input-requires g c =
@@ -20,8 +20,3 @@ pub play_trial-requires-clause-most : goal.play_trial-requires-clause-most
 play_trial-requires-clause-most g c =
     let given : command_line_of (map string_bytes c.args.words.now) ≡ Some (Trial c.in-Ok-Trial.number) = search rules in
     (asked_within (map string_bytes c.args.words.now) c.in-Ok-Trial.number given).1
-
-pub returns-in-Ok-Replay-clause-ends : goal.returns-in-Ok-Replay-clause-ends
-returns-in-Ok-Replay-clause-ends g c =
-    let given : still_line_of (map string_bytes c.args.words.now) ≡ Some (Replay c.in-Ok-Replay.options) = search rules in
-    c.replay_input.ensures.ends (still_line_of (map string_bytes c.args.words.now)) (inl given)

@@ -1,6 +1,6 @@
 use Rattle.hub_commands.proofs.TrialDays.{judged_ends, whole_legal}
 use Rattle.hub_commands.proofs.trials.play_script.Goals as goal
-use Rattle.hub_commands.specs.Finishes.{shown_by, written}
+use Rattle.hub_commands.specs.Finishes.{written}
 use Rattle.hub_commands.specs.Trials.{trial_mode}
 use Rattle.std.proofs.Common.{None, Some, false, rules, ◌≡◌}
 
@@ -9,7 +9,7 @@ judge_day-requires-clause-legal g c =
     let D = g.B.Dev.Device in
     let day : c.replay_day-day.result.day ≡ Some c.in-Some-None.day = search rules in
     let none : c.replay_day-day.result.fault ≡ None = search rules in
-    whole_legal (shown_by D.tag D.plan D.stands D.turns D.probes D.faults) c.args.script.now (record { mode = trial_mode; trace = false })
+    whole_legal D.shows c.args.script.now (record { mode = trial_mode; trace = false })
     (written (Some c.args.text.held) (Some c.replay_day-day.new.sink.held) c.args.text.faults c.replay_day-day.new.sink.faults)
     c.replay_day-day.result.day c.replay_day-day.result.fault c.in-Some-None.day day none c.replay_day-day.ensures.ends
 
@@ -20,7 +20,7 @@ returns-in-Some-None-clause-ends g c =
     let day : c.replay_day-day.result.day ≡ Some c.in-Some-None.day = search rules in
     let none : c.replay_day-day.result.fault ≡ None = search rules in
     let judged = c.judge_day in
-    judged_ends (shown_by D.tag D.plan D.stands D.turns D.probes D.faults) c.args.number c.args.script.now c.requires.made
+    judged_ends D.shows c.args.number c.args.script.now c.requires.made
     (written (Some c.args.text.held) (Some c.replay_day-day.new.sink.held) c.args.text.faults c.replay_day-day.new.sink.faults)
     (written (K.holds c.args.sink.now) (K.holds judged.new.sink) (K.faults c.args.sink.now) (K.faults judged.new.sink))
     judged.result.day c.replay_day-day.result.day c.replay_day-day.result.fault c.in-Some-None.day judged.result.fault day none c.replay_day-day.ensures.ends

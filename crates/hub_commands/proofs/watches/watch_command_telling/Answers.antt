@@ -1,13 +1,13 @@
 use Rattle.hub_commands.proofs.AskedModes.{watch_goes}
-use Rattle.hub_commands.proofs.EndedCalls.{refused_call}
 use Rattle.hub_commands.proofs.ProbedDays.{probed_in_all}
 use Rattle.hub_commands.proofs.watches.watch_command_telling.Goals as goal
-use Rattle.hub_commands.specs.CommandsTaken.{watch_line_of}
-use Rattle.hub_commands.specs.Calls.{AsksFor}
 use Rattle.hub_commands.specs.Days.{boarded}
-use Rattle.hub_commands.specs.Finishes.{IsUnwritten, read_off, shown_by, written}
+use Rattle.hub_commands.specs.Finishes.{IsUnread, IsUnwritten, read_off, written}
+use Rattle.std.proofs.Common.{Some, inl, map, refl, rules, string_bytes}
+use Rattle.command_words.specs.declared.command_lines.CommandLine.TheVariants.{Watch}
+use Rattle.hub_commands.proofs.EndedCalls.{asked_for, no_script, starved_words}
+use Rattle.hub_commands.specs.CommandsTaken.{watch_line_of}
 use Rattle.hub_commands.specs.Ways.{IsRunWithin}
-use Rattle.std.proofs.Common.{map, rules, string_bytes}
 
 pub watch_day-requires-clause-goes : goal.watch_day-requires-clause-goes
 watch_day-requires-clause-goes g c κs within =
@@ -18,20 +18,34 @@ returns-clause-probed g c none =
     let D = g.B.Dev.Device in
     let K = g.K.Sink in
     let S = g.S.Source in
-    probed_in_all (g.C.Clock.earliest c.args.clock.now) (g.C.Clock.latest c.args.clock.now) (shown_by D.tag D.plan D.stands D.turns D.probes D.faults) boarded c.in-Ok-read_input.script c.in-Ok.options
+    probed_in_all (g.C.Clock.earliest c.args.clock.now) (g.C.Clock.latest c.args.clock.now) D.shows boarded c.in-Ok-read_input.script c.in-Ok.options
     (read_off (S.left c.args.source.now) (S.left c.read_input.new.source) (S.faults c.args.source.now) (S.faults c.read_input.new.source))
     (written (K.holds c.args.sink.now) (K.holds c.watch_day.new.sink) (K.faults c.args.sink.now) (K.faults c.watch_day.new.sink))
     c.watch_day.result.0.day c.watch_day.result.0.fault
     c.in-Ok-read_input.ensures.read c.watch_day.ensures.ends none
+
+pub returns-in-Err-NoMemory-clause-ends : goal.returns-in-Err-NoMemory-clause-ends
+returns-in-Err-NoMemory-clause-ends g c =
+    let D = g.B.Dev.Device in
+    let K = g.K.Sink in
+    let S = g.S.Source in
+    let source = read_off (S.left c.args.source.now) (S.left c.args.source.now) (S.faults c.args.source.now) (S.faults c.args.source.now) in
+    let unread : IsUnread source = (refl, refl) in
+    let sink = written (K.holds c.args.sink.now) (K.holds c.args.sink.now) (K.faults c.args.sink.now) (K.faults c.args.sink.now) in
+    let unwritten : IsUnwritten sink = search rules in
+    let refused = c.refuse-in-Err-NoMemory in
+    starved_words (IsRunWithin (g.C.Clock.earliest c.args.clock.now) (g.C.Clock.latest c.args.clock.now)) D.shows source sink
+    refused.result.day refused.result.fault (watch_line_of (map string_bytes c.args.words.now)) refused.ensures.fault unread (refused.ensures.day, unwritten)
 
 pub returns-in-Err-clause-ends : goal.returns-in-Err-clause-ends
 returns-in-Err-clause-ends g c =
     let D = g.B.Dev.Device in
     let K = g.K.Sink in
     let S = g.S.Source in
-    let asked : AsksFor boarded (watch_line_of (map string_bytes c.args.words.now)) c.in-Ok.options = c.in-Ok.ensures.meaning in
+    let source = read_off (S.left c.args.source.now) (S.left c.read_input.new.source) (S.faults c.args.source.now) (S.faults c.read_input.new.source) in
     let sink = written (K.holds c.args.sink.now) (K.holds c.args.sink.now) (K.faults c.args.sink.now) (K.faults c.args.sink.now) in
     let unwritten : IsUnwritten sink = search rules in
-    refused_call (IsRunWithin (g.C.Clock.earliest c.args.clock.now) (g.C.Clock.latest c.args.clock.now)) (shown_by D.tag D.plan D.stands D.turns D.probes D.faults) boarded (watch_line_of (map string_bytes c.args.words.now)) c.in-Ok.options
-    (read_off (S.left c.args.source.now) (S.left c.read_input.new.source) (S.faults c.args.source.now) (S.faults c.read_input.new.source)) sink
-    c.refuse-in-Err.result.day c.refuse-in-Err.result.fault c.in-Err.fault asked c.in-Err.ensures.read c.refuse-in-Err.ensures.day unwritten c.refuse-in-Err.ensures.fault
+    let refused = c.refuse-in-Err in
+    asked_for (IsRunWithin (g.C.Clock.earliest c.args.clock.now) (g.C.Clock.latest c.args.clock.now)) D.shows source sink
+    refused.result.day refused.result.fault (watch_line_of (map string_bytes c.args.words.now)) (Some (Watch c.in-Ok.options)) c.in-Ok.ensures.meaning
+    (inl (no_script source refused.result.fault c.in-Err.fault c.in-Err.ensures.read refused.ensures.fault, (refused.ensures.day, unwritten)))

@@ -4,4 +4,4 @@ use Rattle.std.proofs.Common.{take}
 
 -- the devices up to here are built
 abbrev pub invariant-texts : goal.invariant-texts
-invariant-texts g l = AreNew g.B.Dev.Device.tag g.B.Dev.Device.plan g.B.Dev.Device.stands g.B.Dev.Device.turns g.B.Dev.Device.probes g.B.Dev.Device.faults (take l.number l.script.devices.items) l.devices.items
+invariant-texts g l = AreNew g.B.Dev.Device.shows (take l.number l.script.devices.items) l.devices.items

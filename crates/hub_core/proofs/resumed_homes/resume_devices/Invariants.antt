@@ -3,4 +3,4 @@ use Rattle.legal_days.specs.ResumedDays.{AreResumed}
 
 -- the devices up to here are resumed
 abbrev pub invariant-texts : goal.invariant-texts
-invariant-texts g l = AreResumed g.B.Dev.Device.tag g.B.Dev.Device.plan g.B.Dev.Device.stands g.B.Dev.Device.turns g.B.Dev.Device.probes g.B.Dev.Device.faults l.script.devices.items l.world.devices.items l.place l.stands.items l.devices.items
+invariant-texts g l = AreResumed g.B.Dev.Device.shows l.script.devices.items l.world.devices.items l.place l.stands.items l.devices.items

@@ -1,7 +1,7 @@
 use Rattle.hub_core.proofs.calls.HubMarks.{marks_absent, marks_goes, marks_moved, marks_over, marks_wait, marks_weakly, model_before}
 use Rattle.hub_core.proofs.step_calls.make_step.Goals as goal
 use Rattle.device_gate.specs.declared.slips.Slip.{Slip}
-use Rattle.hub_core.specs.BlockedMarks.{AreLeft}
+use Rattle.blocked_runs.specs.Marks.{AreLeft}
 use Rattle.hub_core.specs.HubCalls.{IsTurn}
 use Rattle.hub_core.specs.MarkedRuns.{is_out_for_command}
 use Rattle.hub_core.specs.OpenHubs.{configuration_of}
@@ -9,11 +9,11 @@ use Rattle.std.proofs.Common.{false, subst, sym}
 use Rattle.std.specs.Prelude.{◌≡◌, ◌≢◌}
 
 pub returns-then-is_weak-clause-marks : goal.returns-then-is_weak-clause-marks
-returns-then-is_weak-clause-marks g c = marks_weakly g.D.Device.stands g.D.Device.turns g.D.Device.probes g.D.Device.faults c.args.window.now c.follow-turn.new.self c.args.r.0 c.args.moment _ _ (sym c.if-is_weak.ensures) c.whole-2.ensures c.follow-turn.ensures.turn c.free_weakly.ensures
+returns-then-is_weak-clause-marks g c = marks_weakly g.D.Device.shows c.args.window.now c.follow-turn.new.self c.args.r.0 c.args.moment _ _ (sym c.if-is_weak.ensures) c.whole-2.ensures c.follow-turn.ensures.turn c.free_weakly.ensures
 
 pub returns-in-Go-clause-marks : goal.returns-in-Go-clause-marks
 returns-in-Go-clause-marks g c =
-    marks_goes g.D.Device.stands g.D.Device.turns g.D.Device.probes g.D.Device.faults c.args.window.now c.follow-turn.new.self c.args.r.0 c.args.moment _ _ _
+    marks_goes g.D.Device.shows c.args.window.now c.follow-turn.new.self c.args.r.0 c.args.moment _ _ _
     (model_before c.args.window.now c.follow-turn.new.self false c.follow-turn.ensures.window (sym c.if-is_weak.ensures))
     (sym c.if-is_weak.ensures) c.whole.ensures c.whole-2.ensures
     (subst (λ t. IsTurn c.args.window.now c.args.r.0 c.args.moment t c.follow-turn.new.self) c.in-Go.is c.follow-turn.ensures.turn) c.requires.marks
@@ -22,7 +22,7 @@ returns-in-Go-clause-marks g c =
 
 pub returns-in-Moved-clause-marks : goal.returns-in-Moved-clause-marks
 returns-in-Moved-clause-marks g c =
-    marks_moved g.D.Device.stands g.D.Device.turns g.D.Device.probes g.D.Device.faults c.args.window.now c.follow-turn.new.self c.args.r.0 c.args.moment _ _ _
+    marks_moved g.D.Device.shows c.args.window.now c.follow-turn.new.self c.args.r.0 c.args.moment _ _ _
     (model_before c.args.window.now c.follow-turn.new.self false c.follow-turn.ensures.window (sym c.if-is_weak.ensures))
     (sym c.if-is_weak.ensures) c.whole.ensures c.whole-2.ensures
     (subst (λ t. IsTurn c.args.window.now c.args.r.0 c.args.moment t c.follow-turn.new.self) c.in-Moved.is c.follow-turn.ensures.turn).0 c.requires.marks
@@ -30,7 +30,7 @@ returns-in-Moved-clause-marks g c =
 
 pub returns-in-Over-clause-marks : goal.returns-in-Over-clause-marks
 returns-in-Over-clause-marks g c =
-    marks_over g.D.Device.stands g.D.Device.turns g.D.Device.probes g.D.Device.faults c.args.window.now c.follow-turn.new.self c.args.r.0 c.args.moment _ _ _ _
+    marks_over g.D.Device.shows c.args.window.now c.follow-turn.new.self c.args.r.0 c.args.moment _ _ _ _
     (model_before c.args.window.now c.follow-turn.new.self false c.follow-turn.ensures.window (sym c.if-is_weak.ensures))
     (sym c.if-is_weak.ensures) c.whole.ensures c.whole-2.ensures
     (subst (λ t. IsTurn c.args.window.now c.args.r.0 c.args.moment t c.follow-turn.new.self) c.in-Over.is c.follow-turn.ensures.turn).0 c.requires.marks
@@ -38,7 +38,7 @@ returns-in-Over-clause-marks g c =
 
 pub returns-in-Wait-clause-marks : goal.returns-in-Wait-clause-marks
 returns-in-Wait-clause-marks g c =
-    marks_wait g.D.Device.stands g.D.Device.turns g.D.Device.probes g.D.Device.faults c.args.window.now c.follow-turn.new.self c.args.r.0 c.args.moment _ _ _
+    marks_wait g.D.Device.shows c.args.window.now c.follow-turn.new.self c.args.r.0 c.args.moment _ _ _
     (model_before c.args.window.now c.follow-turn.new.self false c.follow-turn.ensures.window (sym c.if-is_weak.ensures))
     (sym c.if-is_weak.ensures) c.whole.ensures c.whole-2.ensures
     (subst (λ t. IsTurn c.args.window.now c.args.r.0 c.args.moment t c.follow-turn.new.self) c.in-Wait.is c.follow-turn.ensures.turn).0 c.requires.marks
@@ -46,7 +46,7 @@ returns-in-Wait-clause-marks g c =
 
 pub returns-in-Absent-clause-marks : goal.returns-in-Absent-clause-marks
 returns-in-Absent-clause-marks g c =
-    marks_absent g.D.Device.stands g.D.Device.turns g.D.Device.probes g.D.Device.faults c.args.window.now c.follow-turn.new.self c.args.r.0 c.args.moment _
+    marks_absent g.D.Device.shows c.args.window.now c.follow-turn.new.self c.args.r.0 c.args.moment _
     (model_before c.args.window.now c.follow-turn.new.self false c.follow-turn.ensures.window (sym c.if-is_weak.ensures))
     (sym c.if-is_weak.ensures) c.whole.ensures c.whole-2.ensures
     (subst (λ t. IsTurn c.args.window.now c.args.r.0 c.args.moment t c.follow-turn.new.self) c.in-Absent.is c.follow-turn.ensures.turn).0 c.requires.marks

@@ -13,7 +13,7 @@ returns-in-Ok-run_all g c =
     let earliest = g.C.Clock.earliest c.args.clock.now in
     let latest = g.C.Clock.latest c.args.clock.now in
     let answers = c.in-Ok-run_all.answers.items in
-    rooms_worked D.tag D.plan D.turns D.probes D.faults earliest latest c.args.hubs.items answers c.gather.result c.gather.ensures
+    rooms_worked D.shows earliest latest c.args.hubs.items answers c.gather.result c.gather.ensures
     (c.in-Ok-run_all.ensures.len ∙ ap (λ l. length l) c.in-Ok.ensures)
-    (subst (λ js. (i : ℕ) (d : _) (e : _) → i < length js → IfOk (get_or answers i d) (λ done. IsRoomWorked D.tag D.plan D.turns D.probes D.faults earliest latest (get_or js i e) done))
+    (subst (λ js. (i : ℕ) (d : _) (e : _) → i < length js → IfOk (get_or answers i d) (λ done. IsRoomWorked D.shows earliest latest (get_or js i e) done))
     c.in-Ok.ensures c.in-Ok-run_all.ensures.each)

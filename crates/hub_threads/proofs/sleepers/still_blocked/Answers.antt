@@ -1,4 +1,4 @@
-use Rattle.hub_core.specs.BlockedMarks.{has_run}
+use Rattle.blocked_runs.specs.RunBits.{has_run}
 use Rattle.hub_core.specs.BlockedRuns.{IsBlocked}
 use Rattle.hub_core.specs.OpenHubs.{configuration_of}
 use Rattle.hub_threads.proofs.RunWords.{blocked_noted, noted, word_noted}

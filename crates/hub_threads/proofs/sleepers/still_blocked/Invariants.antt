@@ -1,4 +1,4 @@
-use Rattle.hub_core.specs.BlockedMarks.{has_run}
+use Rattle.blocked_runs.specs.RunBits.{has_run}
 use Rattle.hub_core.specs.OpenHubs.{configuration_of}
 use Rattle.hub_threads.proofs.sleepers.still_blocked.Given as goal
 use Rattle.hub_threads.specs.Sleepers.{SleepersAreBlocked}

@@ -9,5 +9,5 @@ run_named-requires-clause-out g c κs within = c.in-Ok.ensures ∙ none_out c.ar
 pub returns-in-Ok-run_named-clause-worked : goal.returns-in-Ok-run_named-clause-worked
 returns-in-Ok-run_named-clause-worked g c =
     let D = g.D.Device in
-    worked_so D.tag D.plan D.stands D.turns D.probes D.faults (g.C.Clock.earliest c.args.clock.now) (g.C.Clock.latest c.args.clock.now) c.args.hub c.in-Ok-run_named.last c.closed.result.0 c.closed.result.1
-    c.kept.ensures c.in-Ok-run_named.ensures.named c.closed.ensures.stands c.closed.ensures.closed c.closed.ensures.none_left c.closed.ensures.numbered
+    worked_so D.shows (g.C.Clock.earliest c.args.clock.now) (g.C.Clock.latest c.args.clock.now) c.args.hub c.in-Ok-run_named.last c.closed.result.0 c.closed.result.1
+    c.kept.ensures c.in-Ok-run_named.ensures.named c.closed.ensures.stands c.closed.ensures.closed c.closed.ensures.none_left

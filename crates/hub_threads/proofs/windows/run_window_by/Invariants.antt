@@ -5,4 +5,4 @@ abbrev pub ghosts-run_named-N-Ledger : goal.ghosts-run_named-N-Ledger
 ghosts-run_named-N-Ledger g a = record { name = a.blank.name; parts = a.blank.parts }
 
 abbrev pub ghosts-run_named-N-Name : goal.ghosts-run_named-N-Name
-ghosts-run_named-N-Name g a = record { window = window_of g.D.Device.plan (g.C.Clock.earliest a.window.clock.now) (g.C.Clock.latest a.window.clock.now) a.hub; desk = a.desk.name }
+ghosts-run_named-N-Name g a = record { window = window_of g.D.Device.shows (g.C.Clock.earliest a.window.clock.now) (g.C.Clock.latest a.window.clock.now) a.hub; desk = a.desk.name }

@@ -13,6 +13,6 @@ open_window-requires c =
     let at = window-there script 0 c.as_slice.result.now window c.requires.there c.as_slice.ensures c.index-as_slice-0.is in
     let few : home.opened ≤ 288 = omega (arith, c.in-Ok-build.ensures.opened) in
     record {
-      may = may_open _ _ _ _ _ script mode 0 window home c.in-Ok.roster
+      may = may_open _ script mode 0 window home c.in-Ok.roster
           (record { sound = c.requires.sound; goes = c.requires.goes; at = at; runs = c.in-Ok.ensures; kept = c.kept.ensures; kinds = c.in-Ok-build.ensures.kinds; opened = few });
     }

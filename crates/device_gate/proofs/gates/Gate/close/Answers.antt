@@ -22,4 +22,4 @@ unreachable-requires g c = none_out_taken _ _ _ _ _ _ _ c.loop-place.invariant.0
 
 pub returns-clause-numbers : goal.returns-clause-numbers
 returns-clause-numbers g c =
-    numbers_after g.D.Device.tag c.loop-place.devices.items c.loop-place.places.items _ c.loop-place.invariant.0 (none_left _ _ (omega arith) c.in_default.ensures.variant.1) (λ d device is. c.self.invariant.home d device (ap (λ s. slice_get s.places d) c.self.view_is ∙ is))
+    numbers_after g.D.Device.shows c.loop-place.devices.items c.loop-place.places.items _ c.loop-place.invariant.0 (none_left _ _ (omega arith) c.in_default.ensures.variant.1) (λ d device is. c.self.invariant.home d device (ap (λ s. slice_get s.places d) c.self.view_is ∙ is))

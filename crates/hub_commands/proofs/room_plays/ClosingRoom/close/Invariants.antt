@@ -5,7 +5,7 @@ use Rattle.std.proofs.Common.{length}
 abbrev pub invariant-rooms : goal.invariant-rooms
 invariant-rooms g l =
     let D = g.Dev.Device in
-    IsTakingApart D.tag D.stands D.turns D.probes D.faults l.fn.done.items l.backward.items l.homes l.windows
+    IsTakingApart D.shows l.fn.done.items l.backward.items l.homes l.windows
 
 abbrev pub decreases-rooms : goal.decreases-rooms
 decreases-rooms g l = length l.backward.items

@@ -3,4 +3,4 @@ use Rattle.hub_core.proofs.homes.Home.known_devices.Goals as goal
 
 -- one more
 pub devices-preserved : goal.devices-preserved
-devices-preserved g c = known_more g.D.Device.turns g.D.Device.probes g.D.Device.faults c.args.self.now c.args.rounds c.devices.at c.devices.known.items c.push.new.self.items c.known_device.result c.devices.invariant c.in_ok-push.ensures.ok (λ device at. c.known_device.ensures device at)
+devices-preserved g c = known_more g.D.Device.shows c.args.self.now c.args.rounds c.devices.at c.devices.known.items c.push.new.self.items c.known_device.result c.devices.invariant c.in_ok-push.ensures.ok (λ device at. c.known_device.ensures device at)

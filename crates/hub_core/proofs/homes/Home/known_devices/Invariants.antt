@@ -3,4 +3,4 @@ use Rattle.hub_core.specs.OpeningRooms.{AreKnown}
 
 -- the devices up to here are known
 abbrev pub invariant-devices : goal.invariant-devices
-invariant-devices g l = AreKnown g.D.Device.turns g.D.Device.probes g.D.Device.faults l.self l.rounds l.at l.known.items
+invariant-devices g l = AreKnown g.D.Device.shows l.self l.rounds l.at l.known.items

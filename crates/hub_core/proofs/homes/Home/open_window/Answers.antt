@@ -37,17 +37,17 @@ invariant_of-result g c =
     (seen_home c.args.self _ _ _ c.in-Ok-behind_gate.ensures.kinds c.in-Ok-behind_gate.ensures.world c.in-Ok-behind_gate.ensures.opened)
     (setting_of_indexed _ _ _ _ _ _ c.empty.ensures.setting c.in-Ok-open.ensures) c.empty.ensures.history c.in-Ok-behind_gate.ensures.places
     c.in-Ok-behind_gate.ensures.tickets in
-    let kept : HomeIsKept g.D.Device.tag g.D.Device.stands g.D.Device.turns g.D.Device.probes g.D.Device.faults c.args.self = c.behind_gate.ensures.kept in
-    let opens : Opens g.D.Device.tag g.D.Device.stands g.D.Device.turns g.D.Device.probes g.D.Device.faults c.args.self c.args.roster c.args.mode c.args.rounds c.in-Ok.room.state.devices.items = record { kept = kept; may = c.requires.may; knows = c.in-Ok.ensures.devices } in
+    let kept : HomeIsKept g.D.Device.shows c.args.self = c.behind_gate.ensures.kept in
+    let opens : Opens g.D.Device.shows c.args.self c.args.roster c.args.mode c.args.rounds c.in-Ok.room.state.devices.items = record { kept = kept; may = c.requires.may; knows = c.in-Ok.ensures.devices } in
     let enough : most_entries (length c.args.roster.runs.items) (length c.args.self.world) c.args.rounds ≤ c.empty.result.spare = omega (arith, c.empty.ensures.spare, c.in-Ok.ensures.book.1) in
     record {
-      shown = subst (λ (t : OpenHub g.row.D.Denot). HubIsKept g.D.Device.stands g.D.Device.turns g.D.Device.probes g.D.Device.faults t) (sym same) (first_kept _ _ _ _ _ c.args.self c.args.roster c.args.mode _ _ opens);
+      shown = subst (λ (t : OpenHub g.row.D.Denot). HubIsKept g.D.Device.shows t) (sym same) (first_kept _ c.args.self c.args.roster c.args.mode _ _ opens);
       room =
           subst (λ (t : OpenHub g.row.D.Denot). HasRoomLeft c.args.rounds (record { setting = t.setting; history = t.history; spare = c.empty.result.spare })
           c.in-Ok.room.closing) (sym same) (first_room c.args.self c.args.roster c.args.mode c.args.rounds _ _ kept.size enough c.in-Ok.ensures.closing);
       order = subst (λ (t : OpenHub g.row.D.Denot). OrderIsBeside c.args.rounds (record { setting = t.setting; history = t.history; spare = c.empty.result.spare }) (configuration_of t).grips c.in-Ok.room.state.order.line c.in-Ok.room.state.order.table) (sym same)
-          (first_order _ _ _ _ _ c.args.self c.args.roster c.args.mode c.args.rounds c.empty.result.spare _ _ _ opens c.in-Ok.ensures.order);
-      hands = subst (λ (t : OpenHub g.row.D.Denot). HandsAre t.setting (configuration_of t).grips c.in-Ok.room.state.hands.items) (sym same) (first_hands _ _ _ _ _ c.args.self c.args.roster c.args.mode c.args.rounds _ _ opens c.in-Ok.ensures.hands);
+          (first_order _ c.args.self c.args.roster c.args.mode c.args.rounds c.empty.result.spare _ _ _ opens c.in-Ok.ensures.order);
+      hands = subst (λ (t : OpenHub g.row.D.Denot). HandsAre t.setting (configuration_of t).grips c.in-Ok.room.state.hands.items) (sym same) (first_hands _ c.args.self c.args.roster c.args.mode c.args.rounds _ _ opens c.in-Ok.ensures.hands);
     }
 
 -- no run is marked as blocked
@@ -62,11 +62,11 @@ invariant_of-result-in-Ok-behind_gate g c = record {
 
 pub returns-in-Ok-behind_gate-clause-opened : goal.returns-in-Ok-behind_gate-clause-opened
 returns-in-Ok-behind_gate-clause-opened g c =
-    let kept : HomeIsKept g.D.Device.tag g.D.Device.stands g.D.Device.turns g.D.Device.probes g.D.Device.faults c.args.self = c.behind_gate.ensures.kept in
-    let opens : Opens g.D.Device.tag g.D.Device.stands g.D.Device.turns g.D.Device.probes g.D.Device.faults c.args.self c.args.roster c.args.mode c.args.rounds c.in-Ok.room.state.devices.items = record { kept = kept; may = c.requires.may; knows = c.in-Ok.ensures.devices } in
-    subst (λ (t : OpenHub g.row.D.Denot). IsOpened g.D.Device.turns g.D.Device.probes g.D.Device.faults (setting_for c.args.self c.args.roster c.args.mode) c.args.rounds c.args.self t)
+    let kept : HomeIsKept g.D.Device.shows c.args.self = c.behind_gate.ensures.kept in
+    let opens : Opens g.D.Device.shows c.args.self c.args.roster c.args.mode c.args.rounds c.in-Ok.room.state.devices.items = record { kept = kept; may = c.requires.may; knows = c.in-Ok.ensures.devices } in
+    subst (λ (t : OpenHub g.row.D.Denot). IsOpened g.D.Device.shows (setting_for c.args.self c.args.roster c.args.mode) c.args.rounds c.args.self t)
     (sym (is_first_hub c.args.self c.args.roster c.args.mode c.args.rounds c.in-Ok.room.state.devices.items _ _ _ _ _ _ _ _
     (seen_home c.args.self _ _ _ c.in-Ok-behind_gate.ensures.kinds c.in-Ok-behind_gate.ensures.world c.in-Ok-behind_gate.ensures.opened)
     (setting_of_indexed _ _ _ _ _ _ c.empty.ensures.setting c.in-Ok-open.ensures) c.empty.ensures.history c.in-Ok-behind_gate.ensures.places
     c.in-Ok-behind_gate.ensures.tickets))
-    (first_opened _ _ _ _ _ c.args.self c.args.roster c.args.mode _ _ opens)
+    (first_opened _ c.args.self c.args.roster c.args.mode _ _ opens)

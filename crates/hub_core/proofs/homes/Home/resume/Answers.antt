@@ -5,23 +5,23 @@ use Rattle.hub_core.proofs.homes.Home.resume.Goals as goal
 pub invariant_of-result : goal.invariant_of-result
 invariant_of-result g c =
     let D = g.D.Device in
-    kept_resumed D.tag D.plan D.stands D.turns D.probes D.faults c.args.script.now c.args.world.now.devices.items c.in_ok-devices.world.devices.items c.in_ok-devices.devices.items
+    kept_resumed D.shows c.args.script.now c.args.world.now.devices.items c.in_ok-devices.world.devices.items c.in_ok-devices.devices.items
     c.requires.world c.in_ok-devices.ensures c.in_ok-kinds.kinds.items c.requires.sound c.in_ok-kinds.ensures.kinds
 
 pub returns-clause-world : goal.returns-clause-world
 returns-clause-world g c =
     let D = g.D.Device in
-    state_resumed D.tag D.plan D.stands D.turns D.probes D.faults c.args.script.now c.args.world.now.devices.items c.in_ok-devices.world.devices.items c.in_ok-devices.devices.items
+    state_resumed D.shows c.args.script.now c.args.world.now.devices.items c.in_ok-devices.world.devices.items c.in_ok-devices.devices.items
     c.requires.world c.in_ok-devices.ensures
 
 pub returns-clause-devices : goal.returns-clause-devices
 returns-clause-devices g c =
     let D = g.D.Device in
-    left_resumed D.tag D.plan D.stands D.turns D.probes D.faults c.args.script.now c.args.world.now.devices.items c.in_ok-devices.world.devices.items c.in_ok-devices.devices.items
+    left_resumed D.shows c.args.script.now c.args.world.now.devices.items c.in_ok-devices.world.devices.items c.in_ok-devices.devices.items
     c.requires.world c.in_ok-devices.ensures
 
 pub returns-clause-unprobed : goal.returns-clause-unprobed
 returns-clause-unprobed g c =
     let D = g.D.Device in
-    never_probed D.tag D.plan D.stands D.turns D.probes D.faults c.args.script.now c.args.world.now.devices.items c.in_ok-devices.world.devices.items c.in_ok-devices.devices.items
+    never_probed D.shows c.args.script.now c.args.world.now.devices.items c.in_ok-devices.world.devices.items c.in_ok-devices.devices.items
     c.requires.world c.in_ok-devices.ensures

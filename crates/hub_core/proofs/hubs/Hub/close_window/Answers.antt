@@ -4,6 +4,6 @@ use Rattle.hub_core.specs.OpenHubs.{OpenHub}
 use Rattle.legal_days.specs.LegalWindows.{IsLegalWindow}
 use Rattle.std.proofs.Common.{subst}
 
-pub returns-in-Ok-clause-sealed : goal.returns-in-Ok-clause-sealed
-returns-in-Ok-clause-sealed g c strong =
-    legal_begins c.args.self.setting c.in-Ok.closed.1 (subst (λ (s : OpenHub g.row.D.Denot). IsLegalWindow s.setting c.in-Ok.closed.1) c.self.view_is c.in-Ok.ensures.closed.legal) strong
+pub returns-clause-sealed : goal.returns-clause-sealed
+returns-clause-sealed g c strong =
+    legal_begins c.args.self.setting c.closed.result.1 (subst (λ (s : OpenHub g.row.D.Denot). IsLegalWindow s.setting c.closed.result.1) c.self.view_is c.closed.ensures.legal) strong

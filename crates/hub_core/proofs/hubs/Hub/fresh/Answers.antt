@@ -15,5 +15,5 @@ returns-then-is_some g c = (
 pub returns : goal.returns
 returns g c =
     subst (λ (s : OpenHub g.row.D.Denot). IsTrue c.has_all_probes.result ↔ (configuration_of s ≡ opened s.setting s.rounds)) c.self.view_is
-    (fresh_hub g.D.Device.stands g.D.Device.turns g.D.Device.probes g.D.Device.faults _ _ c.first_out.result c.has_all_probes.result c.window.view_is c.window.invariant.shown (sym c.len.ensures ∙ c.if-len-ne0.false) c.if-window-ne0.false
+    (fresh_hub g.D.Device.shows _ _ c.first_out.result c.has_all_probes.result c.window.view_is c.window.invariant.shown (sym c.len.ensures ∙ c.if-len-ne0.false) c.if-window-ne0.false
     c.first_out.ensures.none (sym c.is_some.ensures ∙ c.if-is_some.false) c.has_all_probes.ensures)

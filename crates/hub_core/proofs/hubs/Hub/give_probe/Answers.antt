@@ -5,8 +5,8 @@ use Rattle.hub_core.proofs.calls.FinalItems.{probe_given_sealed, seen_so}
 use Rattle.hub_core.proofs.calls.HubMarks.{marks_probe_given, model_before}
 use Rattle.hub_core.proofs.calls.Placings.{kept_for}
 use Rattle.hub_core.proofs.hubs.Hub.give_probe.Goals as goal
-use Rattle.hub_core.proofs.hubs.Hub.give_probe.Goals.{then-is_weak, else-is_weak}
-use Rattle.hub_core.specs.BlockedMarks.{AreLeft}
+use Rattle.hub_core.proofs.hubs.Hub.give_probe.Goals.{else-is_weak, then-is_weak}
+use Rattle.blocked_runs.specs.Marks.{AreLeft}
 use Rattle.hub_core.specs.BlockedRuns.{is_quiet}
 use Rattle.hub_core.specs.HubCalls.{IsProbeGiven}
 use Rattle.hub_core.specs.MarkedRuns.{IsAnsweredStill}
@@ -18,7 +18,7 @@ use Rattle.std.specs.Prelude.{true, ◌≡◌, ◌≢◌, ◌⊎◌}
 pub invariant_of-self-else-is_weak : goal.invariant_of-self-else-is_weak
 invariant_of-self-else-is_weak g c = record {
   marks =
-      marks_probe_given g.D.Device.stands g.D.Device.turns g.D.Device.probes g.D.Device.faults c.self.inside.window c.give_probe.new.self c.args.grip
+      marks_probe_given g.D.Device.shows c.self.inside.window c.give_probe.new.self c.args.grip
       c.in-Ok.made _ _ (model_before c.self.inside.window c.give_probe.new.self false c.give_probe.ensures.window (sym c.if-is_weak.ensures))
       (sym c.if-is_weak.ensures) c.whole.ensures c.whole-in-Ok.ensures
       (subst (λ made. IsProbeGiven c.self.inside.window c.args.grip made c.give_probe.new.self) c.in-Ok.is c.give_probe.ensures.given) c.self.invariant.marks
@@ -36,6 +36,6 @@ invariant_of-self g c = record {
 
 pub returns-after-is_weak-clause-sealed : goal.returns-after-is_weak-clause-sealed
 returns-after-is_weak-clause-sealed g c = elim c.if-is_weak.branch [
-  | then-is_weak w ↦ seen_so c.self.view_is w.self-is (probe_given_sealed g.D.Device.stands g.D.Device.turns g.D.Device.probes g.D.Device.faults c.self.inside.window c.give_probe.new.self c.args.grip c.give_probe.result c.give_probe.ensures.given c.whole-in-Ok.ensures)
-  | else-is_weak w ↦ seen_so c.self.view_is w.self-is (probe_given_sealed g.D.Device.stands g.D.Device.turns g.D.Device.probes g.D.Device.faults c.self.inside.window c.give_probe.new.self c.args.grip c.give_probe.result c.give_probe.ensures.given c.whole-in-Ok.ensures)
+  | then-is_weak w ↦ seen_so c.self.view_is w.self-is (probe_given_sealed g.D.Device.shows c.self.inside.window c.give_probe.new.self c.args.grip c.give_probe.result c.give_probe.ensures.given c.whole-in-Ok.ensures)
+  | else-is_weak w ↦ seen_so c.self.view_is w.self-is (probe_given_sealed g.D.Device.shows c.self.inside.window c.give_probe.new.self c.args.grip c.give_probe.result c.give_probe.ensures.given c.whole-in-Ok.ensures)
 ]

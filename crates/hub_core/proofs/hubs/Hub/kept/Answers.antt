@@ -6,6 +6,6 @@ use Rattle.std.specs.Prelude.{slice_get}
 
 pub returns : goal.returns
 returns g c =
-    stands_hub g.D.Device.tag g.D.Device.stands g.D.Device.turns g.D.Device.probes g.D.Device.faults _
+    stands_hub g.D.Device.shows _
     (λ d device at. c.numbered.ensures d device (ap (λ (s : OpenHub g.row.D.Denot). slice_get s.places d) (c.window.view_is ∙ c.self.view_is) ∙ at))
-    (kept_at g.D.Device.stands g.D.Device.turns g.D.Device.probes g.D.Device.faults _ _ (c.window.view_is ∙ c.self.view_is) c.window.invariant.shown)
+    (kept_at g.D.Device.shows _ _ (c.window.view_is ∙ c.self.view_is) c.window.invariant.shown)

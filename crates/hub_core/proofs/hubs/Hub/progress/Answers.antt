@@ -1,7 +1,8 @@
+use Rattle.hub_core.proofs.calls.HubLaws.{kept_at, moves_hub}
 use Rattle.hub_core.proofs.hubs.Hub.progress.Goals as goal
-use Rattle.hub_core.specs.HubCalls.{SomeRunMoves}
-use Rattle.hub_core.specs.OpenHubs.{OpenHub, configuration_of}
-use Rattle.std.proofs.Common.{subst}
+use Rattle.std.proofs.Common.{◌∙◌}
 
 pub returns : goal.returns
-returns g c = subst (λ (t : OpenHub g.row.D.Denot). SomeRunMoves (configuration_of t)) c.self.view_is c.progress.ensures
+returns g c =
+    moves_hub g.D.Device.shows _
+    (kept_at g.D.Device.shows _ _ (c.window.view_is ∙ c.self.view_is) c.window.invariant.shown)

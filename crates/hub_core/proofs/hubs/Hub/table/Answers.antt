@@ -3,13 +3,13 @@ use Rattle.hub_core.proofs.hubs.Hub.table.Goals as goal
 use Rattle.history_book.specs.Settings.{is_weak}
 use Rattle.hub_core.specs.OpenHubs.{OpenHub, configuration_of}
 use Rattle.lineage_table.specs.Lineages.{accesses_at}
-use Rattle.lock_leasing.specs.Configurations.{read_of}
+use Rattle.lock_leasing.specs.Configurations.{point_of}
 use Rattle.lock_leasing.specs.Tables.{Represents}
 use Rattle.std.proofs.Common.{[], false, length, subst, true, ◌≡◌, ◌≤◌, ℕ, ◌∙◌}
 
 pub returns-clause-represents : goal.returns-clause-represents
 returns-clause-represents g c =
-    subst (λ (t : OpenHub g.row.D.Denot). is_weak t.setting.mode ≡ false → Represents t.setting (read_of (configuration_of t)) (configuration_of t).grips c.window.inside.order.table) (c.window.view_is ∙ c.self.view_is)
+    subst (λ (t : OpenHub g.row.D.Denot). is_weak t.setting.mode ≡ false → Represents (point_of (configuration_of t)) c.window.inside.order.table) (c.window.view_is ∙ c.self.view_is)
     (λ strong. (standing_whole c.window.inside c.kept.ensures strong c.window.invariant).its_table)
 
 -- at most one access for each run

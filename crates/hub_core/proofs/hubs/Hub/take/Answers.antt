@@ -4,7 +4,7 @@ use Rattle.hub_core.proofs.calls.Placings.{still_for, turn_earliest}
 use Rattle.hub_core.proofs.hubs.Hub.take.Goals as goal
 use Rattle.device_gate.specs.declared.slips.Slip.{Slip}
 use Rattle.history_book.specs.Settings.{Setting, is_weak}
-use Rattle.hub_core.specs.BlockedMarks.{AreLeft}
+use Rattle.blocked_runs.specs.Marks.{AreLeft}
 use Rattle.hub_core.specs.HubCalls.{PlansEarliest}
 use Rattle.hub_core.specs.MarkedRuns.{is_out_for_command}
 use Rattle.hub_core.specs.OpenHubs.{OpenHub, configuration_of}
@@ -15,7 +15,7 @@ use Rattle.std.specs.Prelude.{◌≡◌, ◌≢◌}
 pub invariant_of-self : goal.invariant_of-self
 invariant_of-self g c = record {
   marks =
-      marks_goes g.D.Device.stands g.D.Device.turns g.D.Device.probes g.D.Device.faults c.self.inside.window c.hand_out-grip.new.self c.args.r.0 c.args.moment _
+      marks_goes g.D.Device.shows c.self.inside.window c.hand_out-grip.new.self c.args.r.0 c.args.moment _
       _ _ (sym c.if-not-is_weak.ensures) (ap (λ (w : Setting). is_weak w.mode) c.hand_out-grip.ensures.window.setting ∙ sym c.if-not-is_weak.ensures)
       c.whole.ensures c.whole-in-HandsOut.ensures c.hand_out-grip.ensures.out c.self.invariant.marks
       (subst (λ (x : Slip). AreLeft c.self.inside.blocked c.free_going.new.blocked
@@ -26,14 +26,14 @@ invariant_of-self g c = record {
 pub invariant_of-self-then-not-is_weak-2 : goal.invariant_of-self-then-not-is_weak-2
 invariant_of-self-then-not-is_weak-2 g c = record {
   marks =
-      marks_wait g.D.Device.stands g.D.Device.turns g.D.Device.probes g.D.Device.faults c.self.inside.window c.wait.new.self c.args.r.0 c.args.moment _ _ _
+      marks_wait g.D.Device.shows c.self.inside.window c.wait.new.self c.args.r.0 c.args.moment _ _ _
       (sym c.if-not-is_weak-2.ensures) (ap (λ (w : Setting). is_weak w.mode) c.wait.ensures.window.setting ∙ sym c.if-not-is_weak-2.ensures) c.whole.ensures
       c.whole-in-Waits.ensures c.wait.ensures.turn.0 c.self.invariant.marks c.mark_waiting.ensures;
   scratch = still_for c.self.inside.window c.wait.new.self c.self.inside.scratch c.decide-chosen.new.scratch c.decide-chosen.ensures.size c.wait.ensures.window c.self.invariant.scratch;
 }
 
 pub returns-in-Waits-clause-sealed : goal.returns-in-Waits-clause-sealed
-returns-in-Waits-clause-sealed g c = seen_so c.self.view_is (λ i. c.wait.new.self) (turn_sealed g.D.Device.stands g.D.Device.turns g.D.Device.probes g.D.Device.faults c.self.inside.window c.wait.new.self c.args.r.0 c.args.moment (Wait c.in-Waits.why) c.wait.ensures.turn c.whole-in-Waits.ensures)
+returns-in-Waits-clause-sealed g c = seen_so c.self.view_is (λ i. c.wait.new.self) (turn_sealed g.D.Device.shows c.self.inside.window c.wait.new.self c.args.r.0 c.args.moment (Wait c.in-Waits.why) c.wait.ensures.turn c.whole-in-Waits.ensures)
 
 pub returns-in_default-clause-earliest : goal.returns-in_default-clause-earliest
 returns-in_default-clause-earliest g c = subst (λ (s : OpenHub g.row.D.Denot). PlansEarliest (configuration_of s) c.args.r.0 c.make_step.result) c.self.view_is
@@ -41,5 +41,5 @@ returns-in_default-clause-earliest g c = subst (λ (s : OpenHub g.row.D.Denot). 
 
 pub returns-in_default-clause-sealed : goal.returns-in_default-clause-sealed
 returns-in_default-clause-sealed g c =
-    seen_so c.self.view_is (λ i. c.make_step.new.window) (turn_sealed g.D.Device.stands g.D.Device.turns g.D.Device.probes g.D.Device.faults
+    seen_so c.self.view_is (λ i. c.make_step.new.window) (turn_sealed g.D.Device.shows
     c.self.inside.window c.make_step.new.window c.args.r.0 c.args.moment c.make_step.result c.make_step.ensures.turn c.make_step.ensures.kept)

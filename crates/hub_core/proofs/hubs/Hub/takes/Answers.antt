@@ -5,6 +5,6 @@ use Rattle.std.proofs.Common.{ap, sym, ◌∙◌}
 
 pub command-requires : goal.command-requires
 command-requires g c =
-    let purpose = ap (λ (x : DeviceProgress). x.purpose) (sym c.known.ensures) ∙ c.in-Command.is in
-    let both = command_out g.D.Device.stands g.D.Device.turns g.D.Device.probes g.D.Device.faults _ c.args.d.0 c.in-Some.slip c.in-Command.k c.window.invariant.shown c.in-Some.ensures purpose in
+    let purpose = ap (λ (x : DeviceProgress). x.purpose) (sym c.known.ensures) ∙ c.in-Commands.is in
+    let both = command_out g.D.Device.shows _ c.args.d.0 c.in-Some.slip c.in-Commands.k c.window.invariant.shown c.in-Some.ensures purpose in
     record { run = both.0; there = both.1 }

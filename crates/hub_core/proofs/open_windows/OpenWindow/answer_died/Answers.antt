@@ -4,7 +4,7 @@ use Rattle.history_book.specs.ReadHistories.{HistoryState}
 use Rattle.history_book.specs.Settings.{is_weak}
 use Rattle.history_book.specs.declared.entries.Entry.TheVariants.{Did}
 use Rattle.home_types.specs.declared.commands.Answer.TheVariants.{Down}
-use Rattle.hub_core.proofs.calls.Deaths.{after_death, death_entries, death_follows, death_made, death_may, died_back, died_whole}
+use Rattle.hub_core.proofs.calls.Deaths.{after_death, death_entries, death_follows, death_made, death_may, died_back, died_whole, found_first}
 use Rattle.hub_core.proofs.calls.Homecomings.{CameHome, back_given, grip_back, may_come}
 use Rattle.hub_core.proofs.calls.HubChanges.{doom_follows}
 use Rattle.hub_core.proofs.calls.HubReturns.{command_back}
@@ -12,9 +12,9 @@ use Rattle.hub_core.proofs.calls.PackedEntries.{three_packed}
 use Rattle.hub_core.proofs.open_windows.OpenWindow.answer_died.Goals as goal
 use Rattle.hub_core.proofs.steps.LastAnswers.{just_answered}
 use Rattle.hub_core.specs.declared.open_windows.OpenWindow.TheInside.{Inside}
-use Rattle.window_order.specs.declared.purposes.Purpose.TheVariants.{Command as ForCommand}
 use Rattle.std.proofs.Common.{ap, arith, refl, sym, ◌∙◌}
 use Rattle.std.specs.Prelude.{Some, ◌<◌}
+use Rattle.lock_leasing.specs.declared.purposes.Purpose.TheVariants.{Commands}
 
 pub come_home-came-requires : goal.come_home-came-requires
 come_home-came-requires g c = record { may = may_come c.self.inside c.args.self.now c.args.grip c.self.view_is c.requires.kept c.self.invariant }
@@ -25,27 +25,27 @@ died_by-cause-requires g c = let command = command_back c.self.inside c.args.sel
 pub note_fall-fell-requires : goal.note_fall-fell-requires
 note_fall-fell-requires g c = record {
   may =
-      death_may c.self.inside c.args.k _ c.args.grip c.slip-slip.result c.come_home-came.result.events (grip_back c.self.inside c.args.self.now
-      (ForCommand c.args.k) _ c.args.grip c.self.view_is c.requires.kept c.requires.purpose c.come_home-came.ensures.called)
+      death_may c.self.inside c.args.k c.args.grip c.slip-slip.result c.come_home-came.result.events (grip_back c.self.inside c.args.self.now
+      (Commands c.args.k) c.args.grip c.self.view_is c.requires.kept c.requires.purpose c.come_home-came.ensures.called)
       (record { same = c.slip-slip.ensures; up = refl; died = c.requires.died; events_are = c.come_home-came.ensures.events }) c.self.invariant;
   follows =
-      death_follows c.self.inside c.args.k _ c.args.grip c.slip-slip.result (grip_back c.self.inside c.args.self.now (ForCommand c.args.k) _ c.args.grip
+      death_follows c.self.inside c.args.k c.args.grip c.slip-slip.result (grip_back c.self.inside c.args.self.now (Commands c.args.k) c.args.grip
       c.self.view_is c.requires.kept c.requires.purpose c.come_home-came.ensures.called) c.slip-slip.ensures c.requires.died c.self.invariant;
 }
 
 pub push-requires : goal.push-requires
 push-requires g c =
-    let after = after_death c.self.inside c.args.k _ c.args.grip c.slip-slip.result c.is_first-first.result c.died_by-cause.result c.note_fall-fell.new.history
+    let after = after_death c.self.inside c.args.k c.args.grip c.slip-slip.result c.is_first-first.result c.died_by-cause.result c.note_fall-fell.new.history
     c.note_fall-fell.new.order.table (grip_back c.self.inside c.args.self.now
-    (ForCommand c.args.k) _ c.args.grip c.self.view_is c.requires.kept c.requires.purpose c.come_home-came.ensures.called) c.slip-slip.ensures c.requires.died
+    (Commands c.args.k) c.args.grip c.self.view_is c.requires.kept c.requires.purpose c.come_home-came.ensures.called) c.slip-slip.ensures c.requires.died
     c.is_first-first.ensures c.died_by-cause.ensures c.note_fall-fell.ensures.history c.note_fall-fell.ensures.order.counted c.self.invariant in
     record { room = after.room; follows = takes_first c.note_fall-fell.new.history c.slip-slip.result.maker _ _ after.takes }
 
 pub note_answer-requires : goal.note_answer-requires
 note_answer-requires g c =
-    let after = after_death c.self.inside c.args.k _ c.args.grip c.slip-slip.result c.is_first-first.result c.died_by-cause.result c.note_fall-fell.new.history
+    let after = after_death c.self.inside c.args.k c.args.grip c.slip-slip.result c.is_first-first.result c.died_by-cause.result c.note_fall-fell.new.history
     c.note_fall-fell.new.order.table (grip_back c.self.inside c.args.self.now
-    (ForCommand c.args.k) _ c.args.grip c.self.view_is c.requires.kept c.requires.purpose c.come_home-came.ensures.called) c.slip-slip.ensures c.requires.died
+    (Commands c.args.k) c.args.grip c.self.view_is c.requires.kept c.requires.purpose c.come_home-came.ensures.called) c.slip-slip.ensures c.requires.died
     c.is_first-first.ensures c.died_by-cause.ensures c.note_fall-fell.ensures.history c.note_fall-fell.ensures.order.counted c.self.invariant in
     let last = just_answered c.note_fall-fell.new.history c.push.new.self c.slip-slip.result.maker c.slip-slip.result.maker c.args.k c.slip-slip.result.device.0 Down after.run after.next after.there after.on refl c.push.ensures in
     record {
@@ -63,25 +63,25 @@ note_answer-requires g c =
 pub doom_for-doomed-requires-clause-follows : goal.doom_for-doomed-requires-clause-follows
 doom_for-doomed-requires-clause-follows g c =
     doom_follows c.note_fall-fell.new.history c.push.new.self c.slip-slip.result.maker c.args.k Down c.died_by-cause.result c.push.ensures
-    (after_death c.self.inside c.args.k _ c.args.grip c.slip-slip.result c.is_first-first.result c.died_by-cause.result c.note_fall-fell.new.history
+    (after_death c.self.inside c.args.k c.args.grip c.slip-slip.result c.is_first-first.result c.died_by-cause.result c.note_fall-fell.new.history
     c.note_fall-fell.new.order.table (grip_back c.self.inside c.args.self.now
-    (ForCommand c.args.k) _ c.args.grip c.self.view_is c.requires.kept c.requires.purpose c.come_home-came.ensures.called) c.slip-slip.ensures c.requires.died
+    (Commands c.args.k) c.args.grip c.self.view_is c.requires.kept c.requires.purpose c.come_home-came.ensures.called) c.slip-slip.ensures c.requires.died
     c.is_first-first.ensures c.died_by-cause.ensures c.note_fall-fell.ensures.history c.note_fall-fell.ensures.order.counted c.self.invariant).takes
 
 pub doom_for-doomed-requires-clause-room : goal.doom_for-doomed-requires-clause-room
 doom_for-doomed-requires-clause-room g c = λ some.
-    let more : 1 < c.note_fall-fell.new.history.spare = (after_death c.self.inside c.args.k _ c.args.grip c.slip-slip.result c.is_first-first.result
+    let more : 1 < c.note_fall-fell.new.history.spare = (after_death c.self.inside c.args.k c.args.grip c.slip-slip.result c.is_first-first.result
     c.died_by-cause.result c.note_fall-fell.new.history c.note_fall-fell.new.order.table (grip_back c.self.inside c.args.self.now
-    (ForCommand c.args.k) _ c.args.grip c.self.view_is c.requires.kept c.requires.purpose c.come_home-came.ensures.called) c.slip-slip.ensures c.requires.died
+    (Commands c.args.k) c.args.grip c.self.view_is c.requires.kept c.requires.purpose c.come_home-came.ensures.called) c.slip-slip.ensures c.requires.died
     c.is_first-first.ensures c.died_by-cause.ensures c.note_fall-fell.ensures.history c.note_fall-fell.ensures.order.counted c.self.invariant).doom_room some in
     let left = ap (λ (x : HistoryState). x.spare) c.push.ensures in
     omega (arith, more, left)
 
 pub invariant_of-self : goal.invariant_of-self
 invariant_of-self g c =
-    died_whole c.self.inside _ c.args.k _ c.args.grip c.slip-slip.result c.come_home-came.result.events c.is_first-first.result c.first_death.result
+    died_whole c.self.inside _ c.args.k c.args.grip c.slip-slip.result c.come_home-came.result.events c.is_first-first.result c.then_some.result
     c.died_by-cause.result c.note_fall-fell.new.history c.push.new.self _ _ _ c.note_fall-fell.new.order c.note_answer.new.order (grip_back c.self.inside
-    c.args.self.now (ForCommand c.args.k) _ c.args.grip c.self.view_is c.requires.kept c.requires.purpose c.come_home-came.ensures.called)
+    c.args.self.now (Commands c.args.k) c.args.grip c.self.view_is c.requires.kept c.requires.purpose c.come_home-came.ensures.called)
     (record { later = omega (arith, c.max-self-inside.ensures); home = c.come_home-came.ensures.home; new = refl })
     (record {
       falls = record { same = c.slip-slip.ensures; up = refl; died = c.requires.died; events_are = c.come_home-came.ensures.events };
@@ -91,7 +91,7 @@ invariant_of-self g c =
       answered = c.push.ensures;
       doomed = c.doom_for-doomed.ensures.history;
     }) (record {
-      died_is = c.first_death.ensures;
+      died_is = c.then_some.ensures ∙ found_first c.is_first-first.result _;
       fell = c.note_fall-fell.ensures.order;
       view_is = refl;
       wrote_is = refl;
@@ -107,10 +107,10 @@ invariant_of-self g c =
 pub returns : goal.returns
 returns g c =
     let t : Inside g.row.D.Denot = record c.self.inside { history = c.doom_for-doomed.new.history; moment = c.max-self-inside.result; away = c.come_home-came.new.self; order = c.doom_for-doomed.new.order } in
-    let back : CameHome g.D.Device.stands g.D.Device.turns g.D.Device.probes g.D.Device.faults c.self.inside t (ForCommand c.args.k) _ c.args.grip (death_entries c.slip-slip.result c.args.k c.died_by-cause.result) =
-    died_back c.self.inside t c.args.k _ c.args.grip c.slip-slip.result c.come_home-came.result.events c.is_first-first.result c.died_by-cause.result
+    let back : CameHome g.D.Device.shows c.self.inside t (Commands c.args.k) c.args.grip (death_entries c.slip-slip.result c.args.k c.died_by-cause.result) =
+    died_back c.self.inside t c.args.k c.args.grip c.slip-slip.result c.come_home-came.result.events c.is_first-first.result c.died_by-cause.result
     c.note_fall-fell.new.history c.push.new.self (grip_back c.self.inside c.args.self.now
-    (ForCommand c.args.k) _ c.args.grip c.self.view_is c.requires.kept c.requires.purpose c.come_home-came.ensures.called)
+    (Commands c.args.k) c.args.grip c.self.view_is c.requires.kept c.requires.purpose c.come_home-came.ensures.called)
     (record { later = omega (arith, c.max-self-inside.ensures); home = c.come_home-came.ensures.home; new = refl })
     (record {
       falls = record { same = c.slip-slip.ensures; up = refl; died = c.requires.died; events_are = c.come_home-came.ensures.events };
@@ -120,7 +120,7 @@ returns g c =
       answered = c.push.ensures;
       doomed = c.doom_for-doomed.ensures.history;
     }) c.self.invariant in
-    let made = back_given c.self.inside t c.args.self.now c.args.moment (ForCommand c.args.k) _ c.args.grip _
+    let made = back_given c.self.inside t c.args.self.now c.args.moment (Commands c.args.k) c.args.grip _
     (record { a = Some c.note_fall-fell.result.entry; b = Some (Did (run_no c.slip-slip.result.maker) c.args.k Down); c = c.doom_for-doomed.result })
     c.self.view_is c.requires.maker c.max-self-inside.ensures back
     (death_made c.slip-slip.result c.args.k c.died_by-cause.result _ _ _ c.note_fall-fell.ensures.entry refl c.doom_for-doomed.ensures.entry)

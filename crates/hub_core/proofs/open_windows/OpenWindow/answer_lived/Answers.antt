@@ -14,7 +14,7 @@ use Rattle.hub_core.proofs.open_windows.OpenWindow.answer_lived.Goals as goal
 use Rattle.hub_core.proofs.steps.Gives.{told_access}
 use Rattle.hub_core.proofs.steps.LastAnswers.{just_answered}
 use Rattle.hub_core.specs.declared.open_windows.OpenWindow.TheInside.{Inside}
-use Rattle.window_order.specs.declared.purposes.Purpose.TheVariants.{Command as ForCommand}
+use Rattle.lock_leasing.specs.declared.purposes.Purpose.TheVariants.{Commands}
 use Rattle.std.proofs.Common.{ap, arith, refl, sym, ◌∙◌}
 use Rattle.std.specs.Prelude.{None, Some}
 
@@ -25,13 +25,13 @@ pub refuted-cause-requires : goal.refuted-cause-requires
 refuted-cause-requires g c = let command = command_back c.self.inside c.args.self.now c.args.grip.slip c.args.grip.task c.args.k c.self.view_is c.requires.kept c.requires.purpose c.self.invariant in record { run = rw c.slip-slip.ensures command.run; there = rw c.slip-slip.ensures command.within }
 
 pub push-requires-clause-room : goal.push-requires-clause-room
-push-requires-clause-room g c = answer_place c.self.inside c.args.k _ c.args.grip (grip_back c.self.inside c.args.self.now (ForCommand c.args.k) _ c.args.grip c.self.view_is c.requires.kept c.requires.purpose c.come_home-came.ensures.called) c.requires.lives c.self.invariant
+push-requires-clause-room g c = answer_place c.self.inside c.args.k c.args.grip (grip_back c.self.inside c.args.self.now (Commands c.args.k) c.args.grip c.self.view_is c.requires.kept c.requires.purpose c.come_home-came.ensures.called) c.requires.lives c.self.invariant
 
 pub push-requires-clause-follows : goal.push-requires-clause-follows
 push-requires-clause-follows g c =
     takes_first c.self.inside.history c.slip-slip.result.maker _ _
-    (takes_answer c.self.inside c.args.k _ c.args.grip c.slip-slip.result c.answer-answer.result c.refuted-cause.result _ _ (grip_back c.self.inside
-    c.args.self.now (ForCommand c.args.k) _ c.args.grip c.self.view_is c.requires.kept c.requires.purpose c.come_home-came.ensures.called)
+    (takes_answer c.self.inside c.args.k c.args.grip c.slip-slip.result c.answer-answer.result c.refuted-cause.result _ _ (grip_back c.self.inside
+    c.args.self.now (Commands c.args.k) c.args.grip c.self.view_is c.requires.kept c.requires.purpose c.come_home-came.ensures.called)
     (record {
       same = c.slip-slip.ensures;
       lives = c.requires.lives;
@@ -47,7 +47,7 @@ note_answer-requires g c =
     let last = just_answered c.self.inside.history c.push.new.self c.args.grip.slip.maker c.slip-slip.result.maker c.args.k c.slip-slip.result.device.0
     c.answer-answer.result command.run command.next command.within (command.on ∙ ap (λ s. s.device.0) (sym c.slip-slip.ensures))
     (ap (λ s. s.maker) c.slip-slip.ensures) c.push.ensures in
-    let tells = may_tell c.self.inside c.args.k _ c.args.grip c.slip-slip.result (grip_back c.self.inside c.args.self.now (ForCommand c.args.k) _ c.args.grip c.self.view_is c.requires.kept c.requires.purpose c.come_home-came.ensures.called) c.slip-slip.ensures c.self.invariant in
+    let tells = may_tell c.self.inside c.args.k c.args.grip c.slip-slip.result (grip_back c.self.inside c.args.self.now (Commands c.args.k) c.args.grip c.self.view_is c.requires.kept c.requires.purpose c.come_home-came.ensures.called) c.slip-slip.ensures c.self.invariant in
     record {
       access = ap is_access c.answer-answer.ensures ∙ told_access c.come_home-came.result.told;
       told = λ strong. record {
@@ -63,8 +63,8 @@ note_answer-requires g c =
 pub doom_for-doomed-requires-clause-follows : goal.doom_for-doomed-requires-clause-follows
 doom_for-doomed-requires-clause-follows g c =
     doom_follows c.self.inside.history c.push.new.self c.slip-slip.result.maker c.args.k c.answer-answer.result c.refuted-cause.result c.push.ensures
-    (takes_answer c.self.inside c.args.k _ c.args.grip c.slip-slip.result c.answer-answer.result c.refuted-cause.result c.push.new.self _ (grip_back
-    c.self.inside c.args.self.now (ForCommand c.args.k) _ c.args.grip c.self.view_is c.requires.kept c.requires.purpose c.come_home-came.ensures.called)
+    (takes_answer c.self.inside c.args.k c.args.grip c.slip-slip.result c.answer-answer.result c.refuted-cause.result c.push.new.self _ (grip_back
+    c.self.inside c.args.self.now (Commands c.args.k) c.args.grip c.self.view_is c.requires.kept c.requires.purpose c.come_home-came.ensures.called)
     (record {
       same = c.slip-slip.ensures;
       lives = c.requires.lives;
@@ -76,9 +76,9 @@ doom_for-doomed-requires-clause-follows g c =
 
 pub doom_for-doomed-requires-clause-room : goal.doom_for-doomed-requires-clause-room
 doom_for-doomed-requires-clause-room g c = λ some.
-    doom_place c.self.inside c.args.k _ c.args.grip c.slip-slip.result c.answer-answer.result c.refuted-cause.result c.push.new.self
+    doom_place c.self.inside c.args.k c.args.grip c.slip-slip.result c.answer-answer.result c.refuted-cause.result c.push.new.self
     (with_doom c.push.new.self c.slip-slip.result.maker c.refuted-cause.result) (grip_back c.self.inside c.args.self.now
-    (ForCommand c.args.k) _ c.args.grip c.self.view_is c.requires.kept c.requires.purpose c.come_home-came.ensures.called)
+    (Commands c.args.k) c.args.grip c.self.view_is c.requires.kept c.requires.purpose c.come_home-came.ensures.called)
     (record {
       same = c.slip-slip.ensures;
       lives = c.requires.lives;
@@ -90,9 +90,9 @@ doom_for-doomed-requires-clause-room g c = λ some.
 
 pub invariant_of-self : goal.invariant_of-self
 invariant_of-self g c =
-    answered_whole c.self.inside _ c.come_home-came.result.held c.args.k _ c.args.grip c.slip-slip.result c.answer-answer.result c.refuted-cause.result
+    answered_whole c.self.inside _ c.come_home-came.result.held c.args.k c.args.grip c.slip-slip.result c.answer-answer.result c.refuted-cause.result
     c.push.new.self _ _ _ c.note_answer.new.order (grip_back c.self.inside c.args.self.now
-    (ForCommand c.args.k) _ c.args.grip c.self.view_is c.requires.kept c.requires.purpose c.come_home-came.ensures.called)
+    (Commands c.args.k) c.args.grip c.self.view_is c.requires.kept c.requires.purpose c.come_home-came.ensures.called)
     (record { later = omega (arith, c.max-self-inside.ensures); home = c.come_home-came.ensures.home; new = refl })
     (record {
       same = c.slip-slip.ensures;
@@ -117,8 +117,8 @@ invariant_of-self g c =
 pub returns : goal.returns
 returns g c =
     let t : Inside g.row.D.Denot = record c.self.inside { history = c.doom_for-doomed.new.history; moment = c.max-self-inside.result; away = c.come_home-came.new.self; order = c.doom_for-doomed.new.order } in
-    let back : CameHome g.D.Device.stands g.D.Device.turns g.D.Device.probes g.D.Device.faults c.self.inside t (ForCommand c.args.k) _ c.args.grip (answer_entries c.slip-slip.result.maker c.args.k c.answer-answer.result c.refuted-cause.result) =
-    answered_back c.self.inside t c.args.k _ c.args.grip c.slip-slip.result c.answer-answer.result c.refuted-cause.result c.push.new.self (grip_back c.self.inside c.args.self.now (ForCommand c.args.k) _ c.args.grip c.self.view_is c.requires.kept c.requires.purpose c.come_home-came.ensures.called)
+    let back : CameHome g.D.Device.shows c.self.inside t (Commands c.args.k) c.args.grip (answer_entries c.slip-slip.result.maker c.args.k c.answer-answer.result c.refuted-cause.result) =
+    answered_back c.self.inside t c.args.k c.args.grip c.slip-slip.result c.answer-answer.result c.refuted-cause.result c.push.new.self (grip_back c.self.inside c.args.self.now (Commands c.args.k) c.args.grip c.self.view_is c.requires.kept c.requires.purpose c.come_home-came.ensures.called)
     (record { later = omega (arith, c.max-self-inside.ensures); home = c.come_home-came.ensures.home; new = refl })
     (record {
       same = c.slip-slip.ensures;
@@ -128,7 +128,7 @@ returns g c =
       answered = c.push.ensures;
       doomed = c.doom_for-doomed.ensures.history;
     }) in
-    let made = back_given c.self.inside t c.args.self.now c.args.moment (ForCommand c.args.k) _ c.args.grip _
+    let made = back_given c.self.inside t c.args.self.now c.args.moment (Commands c.args.k) c.args.grip _
     (record { a = Some (Did (run_no c.slip-slip.result.maker) c.args.k c.answer-answer.result); b = c.doom_for-doomed.result; c = None }) c.self.view_is
     c.requires.maker c.max-self-inside.ensures back
     (answer_made c.slip-slip.result c.args.k c.answer-answer.result c.refuted-cause.result _ _ refl c.doom_for-doomed.ensures.entry)

@@ -12,23 +12,23 @@ use Rattle.std.proofs.Common.{None, arith, subst, sym, ◌+◌, ◌∙◌, ◌�
 pub close-devices-requires : goal.close-devices-requires
 close-devices-requires g c =
     let quiet = subst (λ (t : OpenHub g.row.D.Denot). not_quiet (configuration_of t) ≡ None) (sym c.self.view_is) c.requires.quiet in
-    record { home = all_are_home g.D.Device.stands g.D.Device.turns g.D.Device.probes g.D.Device.faults _ c.self.invariant.shown quiet }
+    record { home = all_are_home g.D.Device.shows _ c.self.invariant.shown quiet }
 
 pub rises_in-turns-requires-clause-turns_fell : goal.rises_in-turns-requires-clause-turns_fell
 rises_in-turns-requires-clause-turns_fell g c =
     let quiet = subst (λ (t : OpenHub g.row.D.Denot). not_quiet (configuration_of t) ≡ None) (sym c.self.view_is) c.requires.quiet in
-    let closes : Closes g.D.Device.tag g.D.Device.stands g.D.Device.turns g.D.Device.probes g.D.Device.faults
+    let closes : Closes g.D.Device.shows
     (open_of c.self.inside) c.close-devices.result.items =
     record { kept = c.self.invariant.shown; quiet = quiet; places = c.close-devices.ensures.devices; numbered = c.close-devices.ensures.numbers } in
-    turns_fell _ _ _ _ _ _ _ closes
+    turns_fell _ _ _ closes
 
 pub rises_in-turns-requires-clause-faults_fell : goal.rises_in-turns-requires-clause-faults_fell
 rises_in-turns-requires-clause-faults_fell g c =
     let quiet = subst (λ (t : OpenHub g.row.D.Denot). not_quiet (configuration_of t) ≡ None) (sym c.self.view_is) c.requires.quiet in
-    let closes : Closes g.D.Device.tag g.D.Device.stands g.D.Device.turns g.D.Device.probes g.D.Device.faults
+    let closes : Closes g.D.Device.shows
     (open_of c.self.inside) c.close-devices.result.items =
     record { kept = c.self.invariant.shown; quiet = quiet; places = c.close-devices.ensures.devices; numbered = c.close-devices.ensures.numbers } in
-    faults_fell _ _ _ _ _ _ _ closes
+    faults_fell _ _ _ closes
 
 -- the record has room for the line
 pub order_of-requires : goal.order_of-requires
@@ -46,10 +46,10 @@ copied-world-requires g c =
 pub invariant_of-home : goal.invariant_of-home
 invariant_of-home g c =
     let quiet = subst (λ (t : OpenHub g.row.D.Denot). not_quiet (configuration_of t) ≡ None) (sym c.self.view_is) c.requires.quiet in
-    let closes : Closes g.D.Device.tag g.D.Device.stands g.D.Device.turns g.D.Device.probes g.D.Device.faults
+    let closes : Closes g.D.Device.shows
     (open_of c.self.inside) c.close-devices.result.items =
     record { kept = c.self.invariant.shown; quiet = quiet; places = c.close-devices.ensures.devices; numbered = c.close-devices.ensures.numbers } in
-    home_left _ _ _ _ _ _ _ c.into_parts-kinds.result.1.items c.copied-world.result.items closes c.into_parts-kinds.ensures.kinds
+    home_left _ _ _ c.into_parts-kinds.result.1.items c.copied-world.result.items closes c.into_parts-kinds.ensures.kinds
     (subst (IsLastState (configuration_of (open_of c.self.inside))) (sym c.copied-world.ensures)
     (hub_leaves c.self.inside c.stands_left-last.result.items c.self.invariant quiet (λ e. c.stands_left-last.ensures.ordered (c.is_weak-weak.ensures ∙ e))
     (λ e. c.stands_left-last.ensures.weakly (c.is_weak-weak.ensures ∙ e))))
@@ -58,7 +58,7 @@ invariant_of-home g c =
 pub returns : goal.returns
 returns g c =
     let quiet = subst (λ (t : OpenHub g.row.D.Denot). not_quiet (configuration_of t) ≡ None) (sym c.self.view_is) c.requires.quiet in
-    let closes : Closes g.D.Device.tag g.D.Device.stands g.D.Device.turns g.D.Device.probes g.D.Device.faults
+    let closes : Closes g.D.Device.shows
     (open_of c.self.inside) c.close-devices.result.items =
     record { kept = c.self.invariant.shown; quiet = quiet; places = c.close-devices.ensures.devices; numbered = c.close-devices.ensures.numbers } in
     let closed : WindowRecord = record {
@@ -70,7 +70,7 @@ returns g c =
       turns = c.rises_in-turns.result.turns;
       faults = c.rises_in-turns.result.faults;
     } in
-    let tells : Tells g.D.Device.turns g.D.Device.faults (open_of c.self.inside) c.close-devices.result.items closed = record {
+    let tells : Tells g.D.Device.shows (open_of c.self.inside) c.close-devices.result.items closed = record {
       mode = c.into_parts-kinds.ensures.mode;
       first = c.into_parts-kinds.ensures.first;
       history = c.into_parts-kinds.ensures.history;
@@ -80,10 +80,10 @@ returns g c =
       turns_rose = c.rises_in-turns.ensures.turns;
       faults_rose = c.rises_in-turns.ensures.faults;
     } in
-    subst (λ (t : OpenHub g.row.D.Denot). WindowIsClosed g.D.Device.turns g.D.Device.probes g.D.Device.faults t (record {
+    subst (λ (t : OpenHub g.row.D.Denot). WindowIsClosed g.D.Device.shows t (record {
       kinds = c.into_parts-kinds.result.1.items;
       world = c.copied-world.result.items;
       devices = c.close-devices.result.items;
       opened = c.self.inside.opened + 1;
     }) closed) c.self.view_is
-    (window_closed _ _ _ _ _ _ _ c.into_parts-kinds.result.1.items c.copied-world.result.items closed closes tells c.into_parts-kinds.ensures.kinds c.copied-world.ensures)
+    (window_closed _ _ _ c.into_parts-kinds.result.1.items c.copied-world.result.items closed closes tells c.into_parts-kinds.ensures.kinds c.copied-world.ensures)

@@ -1,6 +1,6 @@
 use Rattle.command_rules.specs.Rosters.{is_run}
 use Rattle.std.specs.Prelude.{false, is_some, max, ◌≡◌}
-use Rattle.lock_leasing.specs.Configurations.{read_of}
+use Rattle.lock_leasing.specs.Configurations.{point_of, read_of}
 use Rattle.hub_core.specs.Decisions.{strong_command, told_choice}
 use Rattle.history_book.specs.Progress.{progress_of}
 use Rattle.hub_core.specs.OpenHubs.{OpenHub, configuration_of}
@@ -37,7 +37,7 @@ returns-in-None-clause-choice g c =
 
 pub decide_command-requires : goal.decide_command-requires
 decide_command-requires g c =
-    let at = hub_at_command g.D.Device.stands g.D.Device.turns g.D.Device.probes g.D.Device.faults _ _ c.args.r.0 c.next-k.result c.register.result
+    let at = hub_at_command g.D.Device.shows _ _ c.args.r.0 c.next-k.result c.register.result
     c.progress-progress.result c.in-Some-next_command.command c.self.view_is c.self.invariant.shown c.progress-progress.ensures c.in_default.is
     c.if-is_none.ensures c.in_default-doomed.is c.in-Some-next_command.ensures c.next-k.ensures c.register.ensures (sym c.if-holds.ensures) in
     record { strong = (strong_seen c.self.inside c.args.self.now false c.self.view_is (sym c.if-is_weak.ensures)); turn = at.0; command = at.1 }
@@ -56,7 +56,7 @@ returns-then-holds-clause-choice g c =
     (sym c.if-is_weak.ensures) c.if-not-has_run.ensures c.progress-progress.ensures c.in_default.is c.in_default-grip_of.ensures
     (ap is_some c.in-Some-arrived.is) c.if-is_none.ensures c.in_default-doomed.is c.in-Some-next_command.ensures c.next-k.ensures c.register.ensures
     (sym c.if-holds.ensures)
-    (subst (λ m. told_choice c.args.r.0 m c.decide_command.result ≡ strong_command c.args.self.now.setting (read_of (configuration_of c.args.self.now)) (configuration_of c.args.self.now).grips c.args.r.0 m c.next-k.result c.in-Some-next_command.command)
+    (subst (λ m. told_choice c.args.r.0 m c.decide_command.result ≡ strong_command (point_of (configuration_of c.args.self.now)) c.args.r.0 m c.next-k.result c.in-Some-next_command.command)
     (c.max-moment.ensures ∙ ap (λ (t : OpenHub g.row.D.Denot). max t.moment c.args.moment) c.self.view_is) c.decide_command.ensures)
 
 pub returns-else-holds-clause-choice : goal.returns-else-holds-clause-choice

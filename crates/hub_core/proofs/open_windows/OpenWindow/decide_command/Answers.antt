@@ -4,7 +4,7 @@ use Rattle.hub_core.proofs.calls.HubChoices.{command_revokes, command_stays}
 use Rattle.hub_core.proofs.open_windows.OpenWindow.decide_command.Goals as goal
 use Rattle.hub_core.specs.OpenHubs.{OpenHub, configuration_of}
 use Rattle.lock_leasing.proofs.Meetings.{asks_at}
-use Rattle.lock_leasing.specs.Configurations.{read_of}
+use Rattle.lock_leasing.specs.Configurations.{point_of}
 use Rattle.lock_leasing.specs.Standings.{IsAsking, IsAtCommand}
 use Rattle.std.proofs.Common.{subst}
 use Rattle.std.specs.Prelude.{ℕ, ◌≡◌}
@@ -17,7 +17,7 @@ pub overdue_lease-requires : goal.overdue_lease-requires
 overdue_lease-requires g c = record { strong = c.requires.strong; turn = asks c.args.self.now c.args.r.0 c.args.k c.args.command c.requires.turn c.requires.command }
 
 pub returns-in-Some : goal.returns-in-Some
-returns-in-Some g c = command_revokes c.args.self.now.setting (read_of (configuration_of c.args.self.now)) (configuration_of c.args.self.now).grips c.args.r.0 c.args.moment c.args.k c.args.command c.in-Some.borrower c.in-Some.deadline c.in-Some.ensures
+returns-in-Some g c = command_revokes (point_of (configuration_of c.args.self.now)) c.args.r.0 c.args.moment c.args.k c.args.command c.in-Some.borrower c.in-Some.deadline c.in-Some.ensures
 
 pub returns-in-None : goal.returns-in-None
-returns-in-None g c = command_stays c.args.self.now.setting (read_of (configuration_of c.args.self.now)) (configuration_of c.args.self.now).grips c.args.r.0 c.args.moment c.args.k c.args.command _ c.in-None.ensures (c.decide_current.ensures c.args.moment)
+returns-in-None g c = command_stays (point_of (configuration_of c.args.self.now)) c.args.r.0 c.args.moment c.args.k c.args.command _ c.in-None.ensures (c.decide_current.ensures c.args.moment)

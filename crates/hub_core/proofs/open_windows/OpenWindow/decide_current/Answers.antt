@@ -1,7 +1,7 @@
 use Rattle.hub_core.proofs.calls.HubChoices.{command_behind, command_dirty, command_strict, command_unbarred, strict_said, touch_said}
 use Rattle.hub_core.proofs.open_windows.OpenWindow.decide_current.Goals as goal
 use Rattle.hub_core.specs.OpenHubs.{configuration_of}
-use Rattle.lock_leasing.specs.Configurations.{read_of}
+use Rattle.lock_leasing.specs.Configurations.{point_of}
 use Rattle.lock_leasing.specs.Standings.{Touching}
 use Rattle.std.proofs.Common.{ap, ◌∙◌}
 use Rattle.visibility_models.specs.Models.{InOrder}
@@ -11,14 +11,12 @@ test_touch-requires g c = Touching (configuration_of c.args.self.now) c.standing
 
 pub returns-in-Behind : goal.returns-in-Behind
 returns-in-Behind g c =
-    λ m. command_behind c.args.self.now.setting (read_of (configuration_of c.args.self.now))
-    (configuration_of c.args.self.now).grips c.args.r.0 c.args.k c.args.command c.in-Behind.d c.in-Behind.x (touch_said (configuration_of c.args.self.now) _ _ _
+    λ m. command_behind (point_of (configuration_of c.args.self.now)) c.args.r.0 c.args.k c.args.command c.in-Behind.d c.in-Behind.x (touch_said (configuration_of c.args.self.now) _ _ _
     _ c.args.r.0 c.args.k c.args.command _ c.standing-standing.ensures c.requires.turn c.requires.command c.in-Behind.ensures)
 
 pub returns-in-Dirty : goal.returns-in-Dirty
 returns-in-Dirty g c =
-    λ m. command_dirty c.args.self.now.setting (read_of (configuration_of c.args.self.now))
-    (configuration_of c.args.self.now).grips c.args.r.0 c.args.k c.args.command c.in-Dirty.d c.in-Dirty.x (touch_said (configuration_of c.args.self.now) _ _ _ _
+    λ m. command_dirty (point_of (configuration_of c.args.self.now)) c.args.r.0 c.args.k c.args.command c.in-Dirty.d c.in-Dirty.x (touch_said (configuration_of c.args.self.now) _ _ _ _
     c.args.r.0 c.args.k c.args.command _ c.standing-standing.ensures c.requires.turn c.requires.command c.in-Dirty.ensures)
 
 pub may_go-requires : goal.may_go-requires
@@ -26,14 +24,12 @@ may_go-requires g c = InOrder (configuration_of c.args.self.now) c.standing-stan
 
 pub returns-in-Some : goal.returns-in-Some
 returns-in-Some g c =
-    λ m. command_strict c.args.self.now.setting (read_of (configuration_of c.args.self.now))
-    (configuration_of c.args.self.now).grips c.args.r.0 c.args.k c.args.command c.in-Some.x (touch_said (configuration_of c.args.self.now) _ _ _ _ c.args.r.0
+    λ m. command_strict (point_of (configuration_of c.args.self.now)) c.args.r.0 c.args.k c.args.command c.in-Some.x (touch_said (configuration_of c.args.self.now) _ _ _ _ c.args.r.0
     c.args.k c.args.command _ c.standing-standing.ensures c.requires.turn c.requires.command c.in-Free.ensures)
     (strict_said (configuration_of c.args.self.now) _ _ _ _ c.args.r.0 _ _ c.standing-standing.ensures (c.model.ensures ∙ ap (λ s. s.setting.mode.model) c.self.view_is) c.in-Some.ensures.wait)
 
 pub returns : goal.returns
 returns g c =
-    λ m. command_unbarred c.args.self.now.setting (read_of (configuration_of c.args.self.now))
-    (configuration_of c.args.self.now).grips c.args.r.0 c.args.k c.args.command _ (touch_said (configuration_of c.args.self.now) _ _ _ _ c.args.r.0 c.args.k
+    λ m. command_unbarred (point_of (configuration_of c.args.self.now)) c.args.r.0 c.args.k c.args.command _ (touch_said (configuration_of c.args.self.now) _ _ _ _ c.args.r.0 c.args.k
     c.args.command _ c.standing-standing.ensures c.requires.turn c.requires.command c.in-Free.ensures)
     (strict_said (configuration_of c.args.self.now) _ _ _ _ c.args.r.0 _ _ c.standing-standing.ensures (c.model.ensures ∙ ap (λ s. s.setting.mode.model) c.self.view_is) c.in_default.ensures.wait) (c.decide_unbarred.ensures m)

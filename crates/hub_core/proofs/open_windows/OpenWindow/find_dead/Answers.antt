@@ -12,18 +12,18 @@ come_home-came-requires g c = record { may = may_come c.self.inside c.args.self.
 pub note_fall-fell-requires : goal.note_fall-fell-requires
 note_fall-fell-requires g c = record {
   may =
-      dead_may c.self.inside c.args.self.now _ c.args.grip c.slip.result c.come_home-came.result.events
+      dead_may c.self.inside c.args.self.now c.args.grip c.slip.result c.come_home-came.result.events
       (record { seen = c.self.view_is; there = c.requires.kept; maker = c.requires.maker; called = c.come_home-came.ensures.called; same = c.slip.ensures })
       (record { up = c.requires.up; died = c.requires.died; events_are = c.come_home-came.ensures.events }) c.self.invariant;
   follows =
-      dead_follows c.self.inside c.args.self.now _ c.args.grip c.slip.result c.come_home-came.result.events
+      dead_follows c.self.inside c.args.self.now c.args.grip c.slip.result c.come_home-came.result.events
       (record { seen = c.self.view_is; there = c.requires.kept; maker = c.requires.maker; called = c.come_home-came.ensures.called; same = c.slip.ensures })
       (record { up = c.requires.up; died = c.requires.died; events_are = c.come_home-came.ensures.events }) c.self.invariant;
 }
 
 pub doom_lost-doomed-requires-clause-run : goal.doom_lost-doomed-requires-clause-run
 doom_lost-doomed-requires-clause-run g c =
-    (lost_fits c.self.inside c.come_home-came.new.self c.args.self.now _ c.args.grip c.slip.result c.come_home-came.result.events c.note_fall-fell.result.lost
+    (lost_fits c.self.inside c.come_home-came.new.self c.args.self.now c.args.grip c.slip.result c.come_home-came.result.events c.note_fall-fell.result.lost
     c.note_fall-fell.new.history
     (record { seen = c.self.view_is; there = c.requires.kept; maker = c.requires.maker; called = c.come_home-came.ensures.called; same = c.slip.ensures })
     (record { up = c.requires.up; died = c.requires.died; events_are = c.come_home-came.ensures.events }) c.note_fall-fell.ensures.lost
@@ -31,7 +31,7 @@ doom_lost-doomed-requires-clause-run g c =
 
 pub doom_lost-doomed-requires-clause-room : goal.doom_lost-doomed-requires-clause-room
 doom_lost-doomed-requires-clause-room g c =
-    (lost_fits c.self.inside c.come_home-came.new.self c.args.self.now _ c.args.grip c.slip.result c.come_home-came.result.events c.note_fall-fell.result.lost
+    (lost_fits c.self.inside c.come_home-came.new.self c.args.self.now c.args.grip c.slip.result c.come_home-came.result.events c.note_fall-fell.result.lost
     c.note_fall-fell.new.history
     (record { seen = c.self.view_is; there = c.requires.kept; maker = c.requires.maker; called = c.come_home-came.ensures.called; same = c.slip.ensures })
     (record { up = c.requires.up; died = c.requires.died; events_are = c.come_home-came.ensures.events }) c.note_fall-fell.ensures.lost
@@ -39,7 +39,7 @@ doom_lost-doomed-requires-clause-room g c =
 
 pub doom_lost-doomed-requires-clause-follows : goal.doom_lost-doomed-requires-clause-follows
 doom_lost-doomed-requires-clause-follows g c =
-    (lost_fits c.self.inside c.come_home-came.new.self c.args.self.now _ c.args.grip c.slip.result c.come_home-came.result.events c.note_fall-fell.result.lost
+    (lost_fits c.self.inside c.come_home-came.new.self c.args.self.now c.args.grip c.slip.result c.come_home-came.result.events c.note_fall-fell.result.lost
     c.note_fall-fell.new.history
     (record { seen = c.self.view_is; there = c.requires.kept; maker = c.requires.maker; called = c.come_home-came.ensures.called; same = c.slip.ensures })
     (record { up = c.requires.up; died = c.requires.died; events_are = c.come_home-came.ensures.events }) c.note_fall-fell.ensures.lost
@@ -47,7 +47,7 @@ doom_lost-doomed-requires-clause-follows g c =
 
 pub invariant_of-self : goal.invariant_of-self
 invariant_of-self g c =
-    fallen_whole c.self.inside _ c.args.self.now _ c.args.grip c.slip.result c.come_home-came.result.events c.note_fall-fell.result.lost
+    fallen_whole c.self.inside _ c.args.self.now c.args.grip c.slip.result c.come_home-came.result.events c.note_fall-fell.result.lost
     c.note_fall-fell.new.history c.note_fall-fell.new.order
     (record { seen = c.self.view_is; there = c.requires.kept; maker = c.requires.maker; called = c.come_home-came.ensures.called; same = c.slip.ensures })
     (record { up = c.requires.up; died = c.requires.died; events_are = c.come_home-came.ensures.events })
@@ -63,7 +63,7 @@ invariant_of-self g c =
 pub returns : goal.returns
 returns g c =
     let t : Inside g.row.D.Denot = record c.self.inside { history = c.doom_lost-doomed.new.history; away = c.come_home-came.new.self; order = c.doom_lost-doomed.new.order } in
-    let made = fallen_given c.self.inside t c.args.self.now _ c.args.grip c.slip.result c.come_home-came.result.events c.note_fall-fell.result.lost
+    let made = fallen_given c.self.inside t c.args.self.now c.args.grip c.slip.result c.come_home-came.result.events c.note_fall-fell.result.lost
     c.note_fall-fell.new.history c.note_fall-fell.new.order (record { a = Some c.note_fall-fell.result.entry; b = c.doom_lost-doomed.result; c = None })
     (record { seen = c.self.view_is; there = c.requires.kept; maker = c.requires.maker; called = c.come_home-came.ensures.called; same = c.slip.ensures })
     (record { up = c.requires.up; died = c.requires.died; events_are = c.come_home-came.ensures.events })

@@ -4,13 +4,12 @@ use Rattle.hub_core.proofs.calls.HubOuts.{IsHanded, command_given, may_send, wen
 use Rattle.hub_core.proofs.open_windows.OpenWindow.hand_out.Goals as goal
 use Rattle.hub_core.specs.HubSteps.{task_of}
 use Rattle.hub_core.specs.OpenHubs.{configuration_of}
-use Rattle.window_order.specs.KeptOrders.{purpose_of}
 use Rattle.hub_core.specs.declared.decisions.Chosen.TheVariants.{HandsOut}
 use Rattle.hub_core.specs.declared.open_windows.OpenWindow.TheInside.{Inside}
 use Rattle.std.proofs.Common.{ap, refl, sym, ◌∙◌}
 
 pub task-task-requires : goal.task-task-requires
-task-task-requires g c = record { command = λ k for. command_given _ _ _ _ _ c.args.self.now c.args.r.0 c.args.moment c.args.d.0 k (purpose_of c.args.purpose) c.self.invariant.shown c.self.view_is c.requires for }
+task-task-requires g c = record { command = λ k for. command_given _ _ c.args.self.now c.args.r.0 c.args.moment c.args.d.0 k c.args.purpose c.self.invariant.shown c.self.view_is c.requires for }
 
 pub touch-requires : goal.touch-requires
 touch-requires g c =
@@ -30,9 +29,9 @@ send-requires g c = record {
 pub invariant_of-self : goal.invariant_of-self
 invariant_of-self g c =
     let t : Inside g.row.D.Denot = record c.self.inside { moment = c.max-self-inside.result; away = c.send.new.self; order = c.touch.new.self } in
-    let handed : IsHanded g.D.Device.turns g.D.Device.probes g.D.Device.faults c.self.inside t c.args.r.0 c.args.moment c.args.d.0 c.args.purpose c.known-known.result c.task-task.result c.send.result = record {
+    let handed : IsHanded g.D.Device.shows c.self.inside t c.args.r.0 c.args.moment c.args.d.0 c.args.purpose c.known-known.result c.task-task.result c.send.result = record {
       chosen = chosen_here c.self.inside c.args.self.now c.args.r.0 c.args.moment (HandsOut c.args.d c.args.purpose) c.self.view_is c.requires;
-      does = c.task-task.ensures ∙ ap (λ s. task_of (configuration_of s) c.args.r.0 (purpose_of c.args.purpose)) (sym c.self.view_is);
+      does = c.task-task.ensures ∙ ap (λ s. task_of (configuration_of s) c.args.r.0 c.args.purpose) (sym c.self.view_is);
       known_is = c.known-known.ensures;
       sent = c.send.ensures.sent;
       moment_is = c.max-self-inside.ensures;
@@ -43,9 +42,9 @@ invariant_of-self g c =
 pub returns : goal.returns
 returns g c =
     let t : Inside g.row.D.Denot = record c.self.inside { moment = c.max-self-inside.result; away = c.send.new.self; order = c.touch.new.self } in
-    let handed : IsHanded g.D.Device.turns g.D.Device.probes g.D.Device.faults c.self.inside t c.args.r.0 c.args.moment c.args.d.0 c.args.purpose c.known-known.result c.task-task.result c.send.result = record {
+    let handed : IsHanded g.D.Device.shows c.self.inside t c.args.r.0 c.args.moment c.args.d.0 c.args.purpose c.known-known.result c.task-task.result c.send.result = record {
       chosen = chosen_here c.self.inside c.args.self.now c.args.r.0 c.args.moment (HandsOut c.args.d c.args.purpose) c.self.view_is c.requires;
-      does = c.task-task.ensures ∙ ap (λ s. task_of (configuration_of s) c.args.r.0 (purpose_of c.args.purpose)) (sym c.self.view_is);
+      does = c.task-task.ensures ∙ ap (λ s. task_of (configuration_of s) c.args.r.0 c.args.purpose) (sym c.self.view_is);
       known_is = c.known-known.ensures;
       sent = c.send.ensures.sent;
       moment_is = c.max-self-inside.ensures;

@@ -2,7 +2,7 @@ use Rattle.history_book.specs.Settings.{is_weak}
 use Rattle.hub_core.proofs.open_windows.OpenWindow.overdue_lease.Goals as goal
 use Rattle.hub_core.proofs.waiting.Lending.{served_leases}
 use Rattle.hub_core.specs.OpenHubs.{OpenHub, configuration_of}
-use Rattle.lock_leasing.specs.Configurations.{read_of}
+use Rattle.lock_leasing.specs.Configurations.{point_of}
 use Rattle.lock_leasing.specs.Leases.{overdue_lease}
 use Rattle.lock_leasing.specs.Standings.{Asking, IsAsking}
 use Rattle.std.proofs.Common.{subst, sym, ◌∙◌}
@@ -12,7 +12,7 @@ pub overdue-requires : goal.overdue-requires
 overdue-requires g c = Asking (configuration_of c.args.self.now) c.standing.ensures c.requires.turn
 
 pub returns-in-Fcfs : goal.returns-in-Fcfs
-returns-in-Fcfs g c = subst (λ (s : OpenHub g.row.D.Denot). is_weak s.setting.mode ≡ false → IsAsking (configuration_of s) c.args.r.0 c.args.d.0 → None ≡ overdue_lease s.setting (read_of (configuration_of s)) (configuration_of s).grips c.args.r.0 c.args.d.0 c.args.moment) c.self.view_is
+returns-in-Fcfs g c = subst (λ (s : OpenHub g.row.D.Denot). is_weak s.setting.mode ≡ false → IsAsking (configuration_of s) c.args.r.0 c.args.d.0 → None ≡ overdue_lease (point_of (configuration_of s)) c.args.r.0 c.args.d.0 c.args.moment) c.self.view_is
     (served_leases _ c.self.inside.rounds c.self.inside.opened _ c.args.r.0 c.args.d.0 c.args.moment c.self.invariant.shown.configuration (sym c.scheduler.ensures ∙ c.in-Fcfs.is)) c.requires.strong c.requires.turn
 
 pub returns-in-JustInTime : goal.returns-in-JustInTime

@@ -1,9 +1,8 @@
 use Rattle.hub_core.proofs.open_windows.OpenWindow.task.Goals as goal
-use Rattle.window_order.specs.KeptOrders.{purpose_of}
 use Rattle.std.proofs.Common.{ap}
 
 pub command_task-requires-clause-run : goal.command_task-requires-clause-run
-command_task-requires-clause-run g c = (c.requires.command c.in-Command.k (ap purpose_of c.in-Command.is)).0
+command_task-requires-clause-run g c = (c.requires.command c.in-Commands.k c.in-Commands.is).0
 
 pub command_task-requires-clause-command : goal.command_task-requires-clause-command
-command_task-requires-clause-command g c = (c.requires.command c.in-Command.k (ap purpose_of c.in-Command.is)).1
+command_task-requires-clause-command g c = (c.requires.command c.in-Commands.k c.in-Commands.is).1

@@ -1,6 +1,9 @@
+use Rattle.history_book.specs.Sealed.{StaysSealed}
 use Rattle.hub_core.specs.HubCalls.{IsProbed}
+use Rattle.hub_core.specs.OpenHubs.{configuration_of}
 use Rattle.hub_table.proofs.Holding.{probe_free, probe_keeps}
 use Rattle.hub_table.proofs.tables.Table.probe.Goals as goal
+use Rattle.lock_leasing.specs.Configurations.{read_of}
 use Rattle.std.proofs.Common.{subst}
 use Rattle.std.specs.Prelude.{Some}
 
@@ -16,3 +19,7 @@ returns-in-Some-clause-probed g c = (
   subst (λ s. IsProbed s c.args.d.0 (Some c.in-Some.grip) c.take_probe.new.self) c.self.view_is c.in-Some.ensures.probed,
   λ i. Some (c.slip-slip.ensures i, c.task-task.ensures i),
 )
+
+pub returns-in-Some-clause-sealed : goal.returns-in-Some-clause-sealed
+returns-in-Some-clause-sealed g c =
+    subst (λ s. StaysSealed (read_of (configuration_of s)) (read_of (configuration_of c.take_probe.new.self))) c.self.view_is c.in-Some.ensures.sealed

@@ -12,7 +12,7 @@ unreachable-requires g c =
 
 pub invariant_of-self : goal.invariant_of-self
 invariant_of-self g c =
-    probe_given_held g.D.Device.plan g.N.Name.window g.N.Name.desk c.self.inside.hub c.give_probe.new.self c.args.grip c.in-Ok.found _ _ _ _ c.self.inside.desk
+    probe_given_held g.D.Device.shows g.N.Name.window g.N.Name.desk c.self.inside.hub c.give_probe.new.self c.args.grip c.in-Ok.found _ _ _ _ c.self.inside.desk
     c.come_home.new.self c.self.invariant c.in-Ok.ensures.given c.in-Ok.ensures.window c.requires.plan
     (c.add.ensures.total ∙ ap (λ n. c.self.inside.book.total + n) c.count.ensures) c.call.ensures.blocked
     c.come_home.ensures.name (cleared g.N.Name.desk (carried_by c.args.grip) c.args.pass c.self.inside.desk.out c.come_home.new.self.out c.requires.pass.0 c.come_home.ensures.out)

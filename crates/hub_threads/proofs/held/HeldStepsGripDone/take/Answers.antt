@@ -17,12 +17,12 @@ pub invariant_of-self : goal.invariant_of-self
 invariant_of-self g c =
     let more : c.add.new.self.total ≡ c.self.inside.book.total + turn_entries c.take-turn.result = c.add.ensures.total ∙ ap (λ n. c.self.inside.book.total + n) (c.count.ensures ∙ ap length c.made_by-told.ensures) in
     elim c.if-not-is_idle.branch [
-      | then-not-is_idle w ↦ rw w.self-inside-is (turn_held g.D.Device.plan g.N.Name.window g.N.Name.desk c.self.inside.hub c.take-turn.new.self c.args.r.0
+      | then-not-is_idle w ↦ rw w.self-inside-is (turn_held g.D.Device.shows g.N.Name.window g.N.Name.desk c.self.inside.hub c.take-turn.new.self c.args.r.0
           c.args.moment c.take-turn.result _ _ _ _ c.self.inside.desk c.pass_for-pass.new.desk c.self.invariant c.take-turn.ensures.turn
           c.take-turn.ensures.window c.requires.moment more w.call.ensures.blocked c.pass_for-pass.ensures.name c.pass_for-pass.ensures.out)
       | else-not-is_idle w ↦ (
           let idle : is_idle c.take-turn.result ≡ true = search rules in
-          rw w.self-inside-is (turn_held g.D.Device.plan g.N.Name.window g.N.Name.desk c.self.inside.hub c.take-turn.new.self c.args.r.0 c.args.moment
+          rw w.self-inside-is (turn_held g.D.Device.shows g.N.Name.window g.N.Name.desk c.self.inside.hub c.take-turn.new.self c.args.r.0 c.args.moment
           c.take-turn.result _ _ _ _ c.self.inside.desk c.pass_for-pass.new.desk c.self.invariant c.take-turn.ensures.turn c.take-turn.ensures.window
           c.requires.moment more (idle_sleepers c.self.inside.hub c.take-turn.new.self c.args.r.0 c.args.moment c.take-turn.result
           c.self.inside.sleepers.blocked c.take-turn.ensures.turn idle c.self.invariant.sleepers) c.pass_for-pass.ensures.name c.pass_for-pass.ensures.out))

@@ -6,7 +6,7 @@ use Rattle.std.specs.Prelude.{Some}
 
 pub invariant_of-self-2 : goal.invariant_of-self-2
 invariant_of-self-2 g c =
-    probed_held g.D.Device.plan g.N.Name.window g.N.Name.desk c.self.inside.hub c.take_probe.new.self c.args.d.0 c.in_ok-grip.grip _ _ _ c.self.inside.desk
+    probed_held g.D.Device.shows g.N.Name.window g.N.Name.desk c.self.inside.hub c.take_probe.new.self c.args.d.0 c.in_ok-grip.grip _ _ _ c.self.inside.desk
     c.lend-pass.new.desk c.self.invariant c.in_ok-grip.ensures.probed c.in_ok-grip.ensures.window c.call.ensures.blocked c.lend-pass.ensures.name
     c.lend-pass.ensures.out
 

@@ -1,5 +1,6 @@
 use Rattle.run_replay.proofs.Acting.{full_now, hand_never}
-use Rattle.run_replay.proofs.Probing.{back_fewer_now, back_keeps, back_others, back_stepped_now, back_plans_now, holds, probe_not_refused}
+use Rattle.run_replay.proofs.PlayerSteps.{steps_now}
+use Rattle.run_replay.proofs.Probing.{back_keeps, back_steps, holds, probe_not_refused}
 use Rattle.run_replay.proofs.hands.Hands.detector_acts.Goals as goal
 use Rattle.std.proofs.Common.{ap, refl, sym, ◌∙◌}
 use Rattle.std.specs.Prelude.{slice_set}
@@ -42,9 +43,9 @@ invariant_of-self g c =
       moves = refl;
     })
 
-pub returns-clause-stepped : goal.returns-clause-stepped
-returns-clause-stepped g c =
-    back_stepped_now _ _ _ c.in-Some.grip c.act.result _ c.self.view_is (record {
+pub returns : goal.returns
+returns g c =
+    steps_now _ _ _ _ 0 _ c.self.view_is (back_steps g.D.Device.shows _ _ c.in-Some.grip c.act.result c.in-Ok.made (record {
       held =
           holds _ _ c.index_mut.result.now c.in-Some.grip c.self.view_is c.self.invariant c.kept.ensures.size c.requires.going c.requires.holds
           c.index_mut.ensures.value (sym c.replace.ensures.value ∙ c.in-Some.is);
@@ -56,52 +57,4 @@ returns-clause-stepped g c =
       rounds = refl;
       place = refl;
       moves = refl;
-    })
-
-pub returns-clause-plans : goal.returns-clause-plans
-returns-clause-plans g c =
-    back_plans_now g.D.Device.plan _ _ _ c.in-Some.grip c.act.result _ c.self.view_is (record {
-      held =
-          holds _ _ c.index_mut.result.now c.in-Some.grip c.self.view_is c.self.invariant c.kept.ensures.size c.requires.going c.requires.holds
-          c.index_mut.ensures.value (sym c.replace.ensures.value ∙ c.in-Some.is);
-      slip = c.act.ensures.slip;
-      step = c.in-Ok.ensures.given.0;
-      places = c.in-Ok.ensures.given.1;
-      window = c.in-Ok.ensures.window;
-      grips = ap (λ x. slice_set c.self.inside.grips.items 0 x) c.replace.ensures.after;
-      rounds = refl;
-      place = refl;
-      moves = refl;
-    }) c.act.ensures.plan
-
-pub returns-clause-fewer : goal.returns-clause-fewer
-returns-clause-fewer g c =
-    back_fewer_now _ _ _ c.in-Some.grip c.act.result _ c.self.view_is (record {
-      held =
-          holds _ _ c.index_mut.result.now c.in-Some.grip c.self.view_is c.self.invariant c.kept.ensures.size c.requires.going c.requires.holds
-          c.index_mut.ensures.value (sym c.replace.ensures.value ∙ c.in-Some.is);
-      slip = c.act.ensures.slip;
-      step = c.in-Ok.ensures.given.0;
-      places = c.in-Ok.ensures.given.1;
-      window = c.in-Ok.ensures.window;
-      grips = ap (λ x. slice_set c.self.inside.grips.items 0 x) c.replace.ensures.after;
-      rounds = refl;
-      place = refl;
-      moves = refl;
-    })
-
-pub returns-clause-others : goal.returns-clause-others
-returns-clause-others g c =
-    back_others _ _ _ c.in-Some.grip c.act.result _ c.self.view_is (record {
-      held =
-          holds _ _ c.index_mut.result.now c.in-Some.grip c.self.view_is c.self.invariant c.kept.ensures.size c.requires.going c.requires.holds
-          c.index_mut.ensures.value (sym c.replace.ensures.value ∙ c.in-Some.is);
-      slip = c.act.ensures.slip;
-      step = c.in-Ok.ensures.given.0;
-      places = c.in-Ok.ensures.given.1;
-      window = c.in-Ok.ensures.window;
-      grips = ap (λ x. slice_set c.self.inside.grips.items 0 x) c.replace.ensures.after;
-      rounds = refl;
-      place = refl;
-      moves = refl;
-    })
+    }) c.act.ensures.plan c.in-Ok.ensures.given.3)

@@ -1,5 +1,5 @@
 use Rattle.run_replay.proofs.Numbers.{begins, few_actors, first_low, low_at, moves_fewer, never_through, number_moves, number_waits, numbers_passed, those, turns}
-use Rattle.run_replay.proofs.Trying.{same_window, window_stays}
+use Rattle.run_replay.proofs.PlayerSteps.{stays_here, stays_on}
 use Rattle.run_replay.proofs.players.Player.pick_from.Goals as goal
 use Rattle.run_replay.specs.Players.{are_live}
 use Rattle.run_replay.specs.Replays.{from_place}
@@ -15,8 +15,7 @@ ahead-init g c = (
       (length c.args.self.now.grips) c.live_at-first.result c.next_free-at.result c.next_free-at.ensures.ahead
       (begins c.args.self.now c.args.place c.live_at-first.result c.kept.ensures.player c.live_at-first.ensures) c.next_free-at.ensures.passed,
   c.next_free-at.ensures.live,
-  window_stays c.args.self.now.hub,
-  λ plans have. have,
+  stays_here g.D.Device.shows c.args.self.now,
 )
 
 pub returns-then-not-waits_at-clause-picked : goal.returns-then-not-waits_at-clause-picked
@@ -26,8 +25,9 @@ returns-then-not-waits_at-clause-picked g c =
     (low_at c.args.self.now c.ahead.self c.ahead.at _ _ c.kept.ensures.player c.ahead.invariant.0 (c.ahead.invariant.1 (omega (arith, c.ahead-test.true))))
     (c.ahead.invariant.1 (omega (arith, c.ahead-test.true))) c.waits_at.ensures.picked.picks (c.waits_at.ensures.picked.waits_so ∙ c.if-not-waits_at.true)
 
-pub returns-then-not-waits_at-clause-plans : goal.returns-then-not-waits_at-clause-plans
-returns-then-not-waits_at-clause-plans g c plans have = c.waits_at.ensures.plans plans (c.ahead.invariant.3 plans have)
+pub returns-then-not-waits_at-clause-stays : goal.returns-then-not-waits_at-clause-stays
+returns-then-not-waits_at-clause-stays g c =
+    stays_on g.D.Device.shows c.args.self.now c.ahead.self c.waits_at.new.self c.ahead.invariant.2 c.waits_at.ensures.stays
 
 pub returns-then-not-waits_at-clause-fewer : goal.returns-then-not-waits_at-clause-fewer
 returns-then-not-waits_at-clause-fewer g c =
@@ -41,12 +41,11 @@ ahead-preserved g c = (
       (number_waits c.args.self.now c.ahead.self (from_place c.args.place (are_live c.args.self.now)) (those c.args.self.now 0 c.live_at-first.result)
       (length c.args.self.now.grips) c.waits_at.new.self c.ahead.at c.waits_at.ensures.picked.picked c.ahead.invariant.0
       (low_at c.args.self.now c.ahead.self c.ahead.at _ _ c.kept.ensures.player c.ahead.invariant.0 (c.ahead.invariant.1 (omega (arith, c.ahead-test.true))))
-      (c.ahead.invariant.1 (omega (arith, c.ahead-test.true))) c.kept-in-ahead.ensures.player c.waits_at.ensures.rounds c.waits_at.ensures.window.rounds
+      (c.ahead.invariant.1 (omega (arith, c.ahead-test.true))) c.kept-in-ahead.ensures.player c.waits_at.ensures.stays.rounds c.waits_at.ensures.stays.window.rounds
       c.waits_at.ensures.picked.picks (c.waits_at.ensures.picked.waits_so ∙ c.if-not-waits_at.false))
       c.next_free-at-in-ahead.ensures.passed,
   c.next_free-at-in-ahead.ensures.live,
-  same_window c.args.self.now.hub c.ahead.self.hub c.waits_at.new.self.hub c.ahead.invariant.2 c.waits_at.ensures.window,
-  λ plans have. c.waits_at.ensures.plans plans (c.ahead.invariant.3 plans have),
+  stays_on g.D.Device.shows c.args.self.now c.ahead.self c.waits_at.new.self c.ahead.invariant.2 c.waits_at.ensures.stays,
 )
 
 pub behind-init : goal.behind-init
@@ -56,7 +55,6 @@ behind-init g c =
           (turns c.args.self.now c.ahead.self (from_place c.args.place (are_live c.args.self.now)) c.ahead.at c.live_at-first.result (omega (arith, few, c.ahead-test.false)) c.ahead.invariant.0) c.next_free-at-2.ensures.passed,
       c.next_free-at-2.ensures.live,
       c.ahead.invariant.2,
-      c.ahead.invariant.3,
     )
 
 pub returns-then-not-waits_at-2-clause-picked : goal.returns-then-not-waits_at-2-clause-picked
@@ -66,8 +64,9 @@ returns-then-not-waits_at-2-clause-picked g c =
     (c.behind.invariant.1 (let few = first_low c.args.self.now c.args.place c.live_at-first.result c.kept.ensures.player c.live_at-first.ensures in
     omega (arith, few, c.behind-test.true))) c.waits_at-in-behind.ensures.picked.picks (c.waits_at-in-behind.ensures.picked.waits_so ∙ c.if-not-waits_at-2.true)
 
-pub returns-then-not-waits_at-2-clause-plans : goal.returns-then-not-waits_at-2-clause-plans
-returns-then-not-waits_at-2-clause-plans g c plans have = c.waits_at-in-behind.ensures.plans plans (c.behind.invariant.3 plans have)
+pub returns-then-not-waits_at-2-clause-stays : goal.returns-then-not-waits_at-2-clause-stays
+returns-then-not-waits_at-2-clause-stays g c =
+    stays_on g.D.Device.shows c.args.self.now c.behind.self c.waits_at-in-behind.new.self c.behind.invariant.2 c.waits_at-in-behind.ensures.stays
 
 pub returns-then-not-waits_at-2-clause-fewer : goal.returns-then-not-waits_at-2-clause-fewer
 returns-then-not-waits_at-2-clause-fewer g c =
@@ -84,12 +83,11 @@ behind-preserved g c = (
       (number_waits c.args.self.now c.behind.self (from_place c.args.place (are_live c.args.self.now)) [] c.live_at-first.result c.waits_at-in-behind.new.self
       c.behind.at c.waits_at-in-behind.ensures.picked.picked c.behind.invariant.0 (omega (arith, c.behind-test.true))
       (c.behind.invariant.1 (let few = first_low c.args.self.now c.args.place c.live_at-first.result c.kept.ensures.player c.live_at-first.ensures in
-      omega (arith, few, c.behind-test.true))) c.kept-in-behind.ensures.player c.waits_at-in-behind.ensures.rounds c.waits_at-in-behind.ensures.window.rounds
+      omega (arith, few, c.behind-test.true))) c.kept-in-behind.ensures.player c.waits_at-in-behind.ensures.stays.rounds c.waits_at-in-behind.ensures.stays.window.rounds
       c.waits_at-in-behind.ensures.picked.picks (c.waits_at-in-behind.ensures.picked.waits_so ∙ c.if-not-waits_at-2.false))
       c.next_free-at-in-behind.ensures.passed,
   c.next_free-at-in-behind.ensures.live,
-  same_window c.args.self.now.hub c.behind.self.hub c.waits_at-in-behind.new.self.hub c.behind.invariant.2 c.waits_at-in-behind.ensures.window,
-  λ plans have. c.waits_at-in-behind.ensures.plans plans (c.behind.invariant.3 plans have),
+  stays_on g.D.Device.shows c.args.self.now c.behind.self c.waits_at-in-behind.new.self c.behind.invariant.2 c.waits_at-in-behind.ensures.stays,
 )
 
 pub unreachable-requires : goal.unreachable-requires

@@ -1,9 +1,9 @@
-use Rattle.hub_core.specs.HubCalls.{SameWindow}
 use Rattle.run_replay.proofs.Numbers.{HaveTried, those}
 use Rattle.run_replay.proofs.players.Player.pick_from.Given as goal
-use Rattle.run_replay.specs.Players.{HavePlans, are_live, is_ended}
+use Rattle.run_replay.specs.PlayerSteps.{PlayerStays}
+use Rattle.run_replay.specs.Players.{are_live, is_ended}
 use Rattle.run_replay.specs.Replays.{from_place}
-use Rattle.std.specs.Prelude.{[], false, length, ℕ, ◌++◌, ◌-◌, ◌<◌, ◌≡◌}
+use Rattle.std.specs.Prelude.{[], false, length, ◌++◌, ◌-◌, ◌<◌, ◌≡◌}
 
 abbrev pub decreases-ahead : goal.decreases-ahead
 decreases-ahead g l = 65 - l.at
@@ -13,8 +13,7 @@ abbrev pub invariant-ahead : goal.invariant-ahead
 invariant-ahead g l =
     HaveTried l.initial.self l.self (from_place l.place (are_live l.initial.self)) (those l.initial.self l.at (length l.initial.self.grips) ++ those l.initial.self 0 l.first)
     × (l.at < 65 → is_ended l.self l.at ≡ false)
-    × SameWindow l.initial.self.hub l.self.hub
-    × ((plans : ℕ → _) → HavePlans g.D.Device.plan plans l.initial.self → HavePlans g.D.Device.plan plans l.self)
+    × PlayerStays g.D.Device.shows l.initial.self l.self
 
 abbrev pub decreases-behind : goal.decreases-behind
 decreases-behind g l = l.first - l.at
@@ -24,5 +23,4 @@ abbrev pub invariant-behind : goal.invariant-behind
 invariant-behind g l =
     HaveTried l.fn.self l.self (from_place l.place (are_live l.fn.self)) (those l.fn.self l.at l.first ++ [])
     × (l.at < 65 → is_ended l.self l.at ≡ false)
-    × SameWindow l.fn.self.hub l.self.hub
-    × ((plans : ℕ → _) → HavePlans g.D.Device.plan plans l.fn.self → HavePlans g.D.Device.plan plans l.self)
+    × PlayerStays g.D.Device.shows l.fn.self l.self

@@ -1,0 +1,2 @@
+pub mod RunBits
+pub mod Marking

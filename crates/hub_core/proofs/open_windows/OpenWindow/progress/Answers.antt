@@ -1,5 +1,0 @@
-use Rattle.hub_core.proofs.calls.HubLaws.{kept_at, moves_hub}
-use Rattle.hub_core.proofs.open_windows.OpenWindow.progress.Goals as goal
-
-pub returns : goal.returns
-returns g c = moves_hub g.D.Device.stands g.D.Device.turns g.D.Device.probes g.D.Device.faults _ (kept_at g.D.Device.stands g.D.Device.turns g.D.Device.probes g.D.Device.faults _ _ c.self.view_is c.self.invariant.shown)
