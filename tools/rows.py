@@ -48,7 +48,7 @@ def main():
     proved = [f"\n{name} : {says}\nunfolding {' '.join(UNFOLDED)}\n{name} = refl\n" for name, says in lemmas(text)]
     try:
         added.write_text(HEAD.format(window=window, unfolded=", ".join(UNFOLDED)) + "".join(proved))
-        modules.write_text(kept + f"pub mod {added.stem}\n")
+        modules.write_text(kept + f"mod {added.stem}\n")
         told = subprocess.run(["rt", "check"], cwd=CRATE, capture_output=True, text=True)
     finally:
         modules.write_text(kept)

@@ -1,2 +1,2 @@
-pub mod NextUndos
-pub mod WorkedUndos
+mod NextUndos
+mod WorkedUndos

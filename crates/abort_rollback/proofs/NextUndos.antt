@@ -3,7 +3,7 @@ use Rattle.abort_rollback.specs.Undos.{first_effective, has_effective_write, nex
 use Rattle.abort_rollback.specs.declared.undos.Undo.TheVariants.{Drive, Drop, Finished}
 use Rattle.command_rules.specs.Rosters.{device_no}
 use Rattle.home_types.specs.declared.numbers.RunNo.{RunNo}
-use Rattle.lineage_table.proofs.Sweeps.{writes_nothing}
+use Rattle.lineage_table.proofs.Cited.{writes_nothing}
 use Rattle.lineage_table.specs.Accesses.{IsDisciplined, effective_writer, has_access}
 use Rattle.lineage_table.specs.Lineages.{LineageState, accesses_at, lineage_at}
 use Rattle.std.proofs.Common.{Bool, List, None, Option, Some, ap, arith, cond, false, length, refl, subst, suc, sym, true, zero, ℕ, ◌+◌, ◌<◌, ◌∙◌, ◌≡◌, ◌≤◌}

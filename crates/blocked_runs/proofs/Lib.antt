@@ -1,2 +1,3 @@
-pub mod RunBits
-pub mod Marking
+mod RunBits
+mod Marking
+pub mod Cited

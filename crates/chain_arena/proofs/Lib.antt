@@ -1,10 +1,11 @@
-pub mod Chains
-pub mod Cuts
-pub mod Drops
-pub mod Grows
-pub mod Joins
-pub mod Nexts
-pub mod Opened
-pub mod Places
-pub mod Values
-pub mod Words
+mod Chains
+mod Cuts
+mod Drops
+mod Grows
+mod Joins
+mod Nexts
+mod Opened
+mod Places
+mod Values
+mod Words
+pub mod Cited

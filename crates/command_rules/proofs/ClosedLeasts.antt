@@ -1,3 +1,5 @@
+-- The closure is the least closed set that holds the seeds, and the set that grows is the least one
+-- that fits.
 use Rattle.command_rules.proofs.ClosedParts.{closure_closed}
 use Rattle.command_rules.specs.ClosedSets.{BarsRise, IsClosed, IsFitting, IsLeast, IsPart, chosen, closure, either_of, grown, others, rearranged, widened, wider}
 use Rattle.std.proofs.Common.{ap, arith, cond, inl, inr, refl, subst, sym, ◌∙◌}

@@ -1,3 +1,5 @@
+-- The closure is closed; and a line that is parted at a closed set keeps each part whose items meet
+-- pairwise.
 use Rattle.command_rules.specs.ClosedSets.{IsClosed, Meets, chosen, closure, others}
 use Rattle.std.proofs.Common.{ap, arith, cond, refl, sym, ◌∙◌}
 use Rattle.std.proofs.lemmas.Grind.{common_steps}

@@ -2,7 +2,7 @@
 use Rattle.command_rules.proofs.FirstReads.{unread}
 use Rattle.command_rules.specs.Footprints.{alone}
 use Rattle.command_rules.specs.Rosters.{Run, commands_of, reads_first, touches, writes_on}
-use Rattle.home_types.proofs.DeviceBits.{contains_insert, contains_remove}
+use Rattle.home_types.proofs.Cited.{contains_insert, contains_remove}
 use Rattle.home_types.specs.Commands.{is_always, reads, writes}
 use Rattle.home_types.specs.DeviceSets.{Devices}
 use Rattle.home_types.specs.declared.commands.Command.{Command}

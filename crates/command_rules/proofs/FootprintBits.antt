@@ -3,8 +3,7 @@ use Rattle.command_rules.proofs.FirstUses.{CoversUses}
 use Rattle.command_rules.specs.Footprints.{AreFootprints, IsFootprint, ends_use}
 use Rattle.command_rules.specs.Rosters.{Run, commands_of, is_on, no_command}
 use Rattle.command_rules.specs.declared.indexed_rosters.Footprint.{Footprint}
-use Rattle.home_types.proofs.DeviceBits.{contains_insert, or_bit}
-use Rattle.home_types.proofs.Snocs.{snoc_get}
+use Rattle.home_types.proofs.Cited.{contains_insert, or_bit, snoc_get}
 use Rattle.home_types.specs.DeviceSets.{Devices}
 use Rattle.home_types.specs.declared.commands.Command.{Command}
 use Rattle.std.proofs.Common.{ap, arith, inl, inr, refl, subst, sym, ◌∙◌, ◌⊎◌}

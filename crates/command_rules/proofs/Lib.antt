@@ -1,14 +1,15 @@
-pub mod RosterReads
-pub mod LastPlaces
-pub mod LastSums
-pub mod FirstReads
-pub mod FirstUses
-pub mod FootprintBits
-pub mod Sharing
-pub mod Indexes
-pub mod ClosedParts
-pub mod ClosedSwaps
-pub mod ClosedLeasts
-pub mod Meeting
-pub mod ClosedBrought
-pub mod ClosedMoved
+mod RosterReads
+mod LastPlaces
+mod LastSums
+mod FirstReads
+mod FirstUses
+mod FootprintBits
+mod Sharing
+mod Indexes
+mod ClosedParts
+mod ClosedSwaps
+mod ClosedLeasts
+mod Meeting
+mod ClosedBrought
+mod ClosedMoved
+pub mod Cited

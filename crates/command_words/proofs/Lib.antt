@@ -1,11 +1,12 @@
-pub mod CommandLineLemmas
-pub mod DueValues
-pub mod GrammarLemmas
-pub mod OptionLaw
-pub mod OptionLemmas
-pub mod OptionRows
-pub mod OptionSteps
-pub mod PairedModes
-pub mod TrialLemmas
-pub mod WalkedOptions
-pub mod WordShapes
+mod CommandLineLemmas
+mod DueValues
+mod GrammarLemmas
+mod OptionLaw
+mod OptionLemmas
+mod OptionRows
+mod OptionSteps
+mod PairedModes
+mod TrialLemmas
+mod WalkedOptions
+mod WordShapes
+pub mod Cited

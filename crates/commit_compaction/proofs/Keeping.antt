@@ -1,7 +1,7 @@
 -- Why the value that stands on a device is kept where a run commits.
 use Rattle.home_types.specs.declared.numbers.RunNo.{RunNo}
 use Rattle.lineage_table.specs.Lineages.{LineageState, committed_lineage, stand_of_lineage, without_access}
-use Rattle.lineage_table.proofs.Standing.{effective_stands, not_writer, settled_stands, without_stands}
+use Rattle.lineage_table.proofs.Cited.{effective_stands, not_writer, settled_stands, without_stands}
 use Rattle.lineage_table.specs.Accesses.{IsDisciplined, access_of, accesses_without, effective_writer, value_standing, written_by}
 use Rattle.lineage_table.specs.declared.accesses.Access.{Access}
 use Rattle.std.proofs.Common.{IsSome, List, None, Option, Some, ap, arith, refl, subst, sym, ℕ, ◌≡◌}

@@ -1,2 +1,2 @@
-pub mod Keeping
-pub mod WorkedCommits
+mod Keeping
+mod WorkedCommits

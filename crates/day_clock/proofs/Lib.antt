@@ -1,2 +1,2 @@
-pub mod InMemory
-pub mod Pieces
+mod InMemory
+mod Pieces

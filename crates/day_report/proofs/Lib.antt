@@ -1,5 +1,6 @@
-pub mod Counts
-pub mod Growing
-pub mod Homes
-pub mod RunParts
-pub mod WorkedDays
+mod Counts
+mod Growing
+mod Homes
+mod RunParts
+mod WorkedDays
+pub mod Cited

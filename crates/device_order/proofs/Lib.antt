@@ -1,31 +1,32 @@
-pub mod Lists
-pub mod Quiet
-pub mod Suffix
-pub mod Below
-pub mod Effects
-pub mod Parts
-pub mod Monotone
-pub mod Commands
-pub mod Answers
-pub mod Downs
-pub mod Placings
-pub mod Aborts
-pub mod Undos
-pub mod Probes
-pub mod Changes
-pub mod Claims
-pub mod Losses
-pub mod Standing
-pub mod Runs
-pub mod Swaps
-pub mod Paired
-pub mod LineEntries
-pub mod SerialLines
-pub mod LineWords
-pub mod NewAnswers
-pub mod InPlace
-pub mod WindowAnswers
-pub mod WindowGrips
-pub mod WindowRuns
-pub mod WindowClaims
-pub mod EventCuts
+mod Lists
+mod Quiet
+mod Suffix
+mod Below
+mod Effects
+mod Parts
+mod Monotone
+mod Commands
+mod Answers
+mod Downs
+mod Placings
+mod Aborts
+mod Undos
+mod Probes
+mod Changes
+mod Claims
+mod Losses
+mod Standing
+mod Runs
+mod Swaps
+mod Paired
+mod LineEntries
+mod SerialLines
+mod LineWords
+mod NewAnswers
+mod InPlace
+mod WindowAnswers
+mod WindowGrips
+mod WindowRuns
+mod WindowClaims
+mod EventCuts
+pub mod Cited

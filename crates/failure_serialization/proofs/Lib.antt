@@ -1,5 +1,6 @@
-pub mod FirstAccesses
-pub mod ToldByTable
-pub mod WorkedEvents
-pub mod RuledEvents
-pub mod Unsealed
+mod FirstAccesses
+mod ToldByTable
+mod WorkedEvents
+mod RuledEvents
+mod Unsealed
+pub mod Cited

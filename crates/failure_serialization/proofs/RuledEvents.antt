@@ -3,7 +3,7 @@ use Rattle.command_rules.specs.Items.{of_run}
 use Rattle.command_rules.specs.Rosters.{device_no, touches}
 use Rattle.failure_serialization.specs.Events.{event_place, is_lost, is_sound, is_up_view, lost_run, place_or_end, waits}
 use Rattle.failure_serialization.specs.Ruled.{HasNoAnswer, IsEventOf, IsLossOf}
-use Rattle.history_book.proofs.Told.{doom_is}
+use Rattle.history_book.proofs.Cited.{doom_is}
 use Rattle.history_book.specs.Books.{doom_of}
 use Rattle.history_book.specs.Histories.{with_event}
 use Rattle.history_book.specs.Readings.{Reading, did, is_doomed, is_live, is_open, pends, sees_up, view_of}
@@ -17,16 +17,14 @@ use Rattle.lineage_table.specs.Accesses.{is_acquired, is_scheduled}
 use Rattle.lineage_table.specs.Lineages.{LineageState, accesses_at, lineage_at}
 use Rattle.lineage_table.specs.declared.accesses.Access.{Access}
 use Rattle.lineage_table.specs.declared.accesses.Status.TheVariants.{Acquired, Released, Scheduled}
-use Rattle.lock_leasing.proofs.EventRuns.{before_first, before_none, first_open, found_there, put_at, run_place}
-use Rattle.lock_leasing.proofs.Facts.{Facts, command_pends, facts_of}
-use Rattle.lock_leasing.proofs.Holding.{TellsTest}
+use Rattle.lock_leasing.proofs.Cited.{Facts, TellsTest, before_first, before_none, command_pends, facts_of, first_open, found_there, put_at, run_place}
 use Rattle.lock_leasing.specs.Configurations.{Configuration, Grips, grips_command, point, point_of, read_of}
 use Rattle.lock_leasing.specs.Places.{up_to_first}
 use Rattle.lock_leasing.specs.Standings.{IsStandingOf}
 use Rattle.lock_leasing.specs.Tables.{EachTellsOfRun, IsLineageOf, is_at_work, runs_with_access, status_by_answers, uses, view_when}
 use Rattle.lock_leasing.specs.Waits.{lost_by}
 use Rattle.lock_leasing.specs.Words.{live_runs}
-use Rattle.serial_line.proofs.Ties.{items_inserted}
+use Rattle.serial_line.proofs.Cited.{items_inserted}
 use Rattle.serial_line.specs.Marks.{Mark, items_of, with_item}
 use Rattle.std.proofs.Common.{ap, arith, refl, subst, sym, ◌∙◌}
 use Rattle.std.proofs.lemmas.Grind.{common_steps}

@@ -4,8 +4,7 @@ use Rattle.history_book.specs.declared.entries.Kept.{Kept}
 use Rattle.home_types.specs.declared.items.Item.TheVariants.{Ran}
 use Rattle.home_types.specs.declared.numbers.RunNo.{RunNo}
 use Rattle.lineage_table.specs.declared.accesses.Access.{Access}
-use Rattle.serial_line.proofs.Once.{place_told}
-use Rattle.serial_line.proofs.Sealed.{unsealed_place}
+use Rattle.serial_line.proofs.Cited.{place_told, unsealed_place}
 use Rattle.serial_line.specs.Labels.{is_sealed}
 use Rattle.serial_line.specs.Marks.{Mark, Marked, place_of, untouched}
 use Rattle.std.proofs.Common.{ap, arith, cond, refl, sym, ◌∙◌}

@@ -1,2 +1,2 @@
-pub mod Places
-pub mod Moves
+mod Places
+mod Moves

@@ -1,5 +1,5 @@
 -- A run stays behind the one that it follows, where the line is rearranged.
-use Rattle.command_rules.proofs.ClosedLeasts.{rearranged_any}
+use Rattle.command_rules.proofs.Cited.{rearranged_any}
 use Rattle.command_rules.specs.Apart.{meet}
 use Rattle.command_rules.specs.ClosedSets.{IsClosed, chosen, others, rearranged}
 use Rattle.command_rules.specs.Items.{is_ran}

@@ -1,5 +1,5 @@
 -- The final items of the line stand first, in their order, among the items of the set of the timeline.
-use Rattle.command_rules.proofs.ClosedLeasts.{grown_holds}
+use Rattle.command_rules.proofs.Cited.{grown_holds}
 use Rattle.command_rules.specs.Apart.{meet}
 use Rattle.command_rules.specs.ClosedSets.{IsPart, chosen, others, rearranged}
 use Rattle.command_rules.specs.Items.{of_run}

@@ -1,21 +1,23 @@
-pub mod Snoc
-pub mod Lines
-pub mod Frames
-pub mod Plain
-pub mod Splits
-pub mod Standing
-pub mod Shapes
-pub mod Counts
-pub mod Once
-pub mod OwnItems
-pub mod Searches
-pub mod Searching
-pub mod Logs
-pub mod FirstTold
-pub mod KnownRuns
-pub mod Told
-pub mod HistoryReads
-pub mod Followers
-pub mod GapFronts
-pub mod Sealed
-pub mod Asking
+mod Snoc
+mod Lines
+mod Frames
+mod Plain
+mod Splits
+mod Standing
+mod Shapes
+mod Counts
+mod Once
+mod OwnItems
+mod Searches
+mod Searching
+mod Logs
+mod FirstTold
+mod KnownRuns
+mod Told
+mod HistoryReads
+mod Followers
+mod GapFronts
+mod Sealed
+mod Asking
+mod CommandFronts
+pub mod Cited

@@ -1,8 +1,6 @@
 -- All that is known of where a run is placed: each test and count of the line, and each device's own part of it, stay.
 -- Nothing else of `split_of` is used in proofs.
-use Rattle.command_rules.proofs.ClosedParts.{part_kept}
-use Rattle.command_rules.proofs.ClosedLeasts.{grown_closed, grown_holds, rearranged_any, rearranged_count}
-use Rattle.command_rules.proofs.Meeting.{of_one_device}
+use Rattle.command_rules.proofs.Cited.{grown_closed, grown_holds, of_one_device, part_kept, rearranged_any, rearranged_count}
 use Rattle.command_rules.specs.Apart.{meet}
 use Rattle.command_rules.specs.ClosedSets.{IsClosed, IsPart, chosen, grown, others, rearranged}
 use Rattle.command_rules.specs.Items.{of_run}

@@ -199,15 +199,15 @@ answers_from w n (k ∷ h) r =
     omega (arith, rest, more, all)
 
 -- .. and the number of its next command
-pub answers_are : (w : Setting) (h : List Kept) (r : ℕ) → answer_count h r ≡ next_of (reading w (entries_of h)) r
-answers_are w h r = let counted = answers_from w (nothing_read w) h r in omega (arith, counted)
+pub answer_count_is : (w : Setting) (h : List Kept) (r : ℕ) → answer_count h r ≡ next_of (reading w (entries_of h)) r
+answer_count_is w h r = let counted = answers_from w (nothing_read w) h r in omega (arith, counted)
 
 -- .. so what its entries say of a run is what it says
 pub progress_is : (w : Setting) (h : List Kept) (r : ℕ) → IsWellFormed w (entries_of h) → progress_in h r ≡ progress_of ((reading w (entries_of h)).run r)
 progress_is w h r ok = λ i. record {
   arrived = sym (arrival_from w (nothing_read w) h r ok) i;
   placed = placing_is w h r ok i;
-  answered = answers_are w h r i;
+  answered = answer_count_is w h r i;
   doomed = doom_is w h r ok i;
   ended = end_is w h r ok i;
 }

@@ -2,32 +2,31 @@
 use Rattle.command_rules.specs.Items.{of_run}
 use Rattle.command_rules.specs.Rosters.{command_at, touches_from}
 use Rattle.command_rules.specs.Serial.{SerialRun, Served, serial_execution}
-use Rattle.history_book.specs.Lines.{Split, put_before, with_run_in, without}
 use Rattle.history_book.specs.Gaps.{front_for, split_of}
+use Rattle.history_book.specs.Lines.{Split, put_before, with_run_in, without}
 use Rattle.history_book.specs.Plans.{planned_times}
 use Rattle.history_book.specs.Readings.{Event, First, Last, OfRun, OnDevice, Planned, Reading, did, is_access, is_fine, is_open, nothing_read, put, view_by}
 use Rattle.history_book.specs.Settings.{Setting, is_weak}
-use Rattle.history_book.specs.declared.entries.Cause.{Cause}
 use Rattle.history_book.specs.declared.entries.Cause.TheVariants.{DownAtEnd, Lost, MustDown, Refuted, Revoked}
-use Rattle.history_book.specs.declared.entries.End.{End}
+use Rattle.history_book.specs.declared.entries.Cause.{Cause}
 use Rattle.history_book.specs.declared.entries.End.TheVariants.{Aborted, Committed}
-use Rattle.history_book.specs.declared.entries.Entry.{Entry}
+use Rattle.history_book.specs.declared.entries.End.{End}
 use Rattle.history_book.specs.declared.entries.Entry.TheVariants.{Arrived, Did, Doomed, Ended, Fell, Placed, Rose, Undid}
+use Rattle.history_book.specs.declared.entries.Entry.{Entry}
 use Rattle.history_book.specs.declared.entries.Kept.{Kept}
-use Rattle.history_book.specs.declared.entries.Made.{Made}
 use Rattle.home_types.specs.Commands.{driven, register_after}
 use Rattle.home_types.specs.Kinds.{kind_at}
 use Rattle.home_types.specs.Numbers.{ActorId, CommandIndex, DeviceId, LinePlace, Moment, RunId}
-use Rattle.home_types.specs.declared.commands.Answer.{Answer}
 use Rattle.home_types.specs.declared.commands.Answer.TheVariants.{Down, Fine, Found, Skipped}
+use Rattle.home_types.specs.declared.commands.Answer.{Answer}
 use Rattle.home_types.specs.declared.commands.Command.{Command}
-use Rattle.home_types.specs.declared.items.Item.{Item}
 use Rattle.home_types.specs.declared.items.Item.TheVariants.{Back, Failed, Ran}
+use Rattle.home_types.specs.declared.items.Item.{Item}
 use Rattle.home_types.specs.declared.kinds.Kind.{Kind}
 use Rattle.home_types.specs.declared.numbers.DeviceNo.{DeviceNo}
 use Rattle.home_types.specs.declared.numbers.RunNo.{RunNo}
 use Rattle.std.specs.Option.{option_or}
-use Rattle.std.specs.Prelude.{Bool, List, None, Option, Some, [], false, filter_map, fold, if◌then◌else◌, is_none, is_some, map, max, not, option_to_list, true, ℕ, ◌&&◌, ◌++◌, ◌+◌, ◌==◌, ◌||◌, ◌∷◌}
+use Rattle.std.specs.Prelude.{Bool, List, None, Option, Some, [], false, filter_map, fold, if◌then◌else◌, is_none, is_some, map, max, not, true, ℕ, ◌&&◌, ◌++◌, ◌+◌, ◌==◌, ◌||◌, ◌∷◌}
 
 -- the device's next event stands before the first open run that has no access there, under the weak
 -- model at the end
@@ -168,10 +167,6 @@ entries_of history = map (λ k. k.entry) history
 
 abbrev pub kept_by : ActorId → List Entry → List Kept
 kept_by maker entries = map (λ e. record { maker = maker; entry = e }) entries
-
--- the entries of a step, in order
-abbrev pub entries_made : Made → List Entry
-entries_made made = option_to_list made.a ++ option_to_list made.b ++ option_to_list made.c
 
 abbrev pub is_fall_of : DeviceId → Entry → Bool
 is_fall_of d (Fell e) = e.0 == d

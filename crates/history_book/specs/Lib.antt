@@ -4,9 +4,11 @@ pub mod Readings
 pub mod Plans
 pub mod Gaps
 pub mod Histories
+pub mod Packed
 pub mod WellFormed
 pub mod Books
 pub mod Progress
 pub mod BookParts
 pub mod ReadHistories
 pub mod Sealed
+pub mod Causes

@@ -1,5 +1,5 @@
 //! The history of a window, a list that only grows, with what it says of each run found at once.
-ghost use Rattle.std.specs.Prelude.{◌≡◌, ◌+◌, ◌<◌, ◌≤◌, [], ◌∷◌, ◌++◌, IfSome, IsSome, is_some, length, max, OnOk, OnErr, slice_get};
+ghost use Rattle.std.specs.Prelude.{◌≡◌, ◌+◌, ◌<◌, ◌≤◌, [], ◌∷◌, ◌++◌, IfOk, IfSome, IsSome, is_some, length, max, OnOk, OnErr, slice_get};
 ghost use Rattle.std.specs.Option.{option_copied};
 ghost use Rattle.history_book.specs.Books.{answer_count, doom_of, end_of, placing_of};
 ghost use Rattle.history_book.specs.Progress.{progress_in};
@@ -49,6 +49,16 @@ impl Book {
             kept: List::new(alloc),
             progress: Vec::new(alloc),
         }
+    }
+
+    /// Makes an empty book with room for `n` entries and no more, or answers `NoMemory`.
+    pub fn with_room(alloc: Global, n: u64) -> Result<Book, NoMemory>
+        ensures empty { IfOk result (λ book. book.items ≡ []) }
+        ensures room { IfOk result (λ book. book.spare ≡ n) }
+    {
+        let mut book = Book::new(alloc);
+        book.reserve(n)?;
+        Ok(book)
     }
 
     /// Makes room for `n` more entries and for no more than these, or answers `NoMemory`. The

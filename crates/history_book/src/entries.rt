@@ -1,8 +1,9 @@
 //! The entries of a history, with the causes and ends that they tell, and those of one step.
-ghost use Rattle.std.specs.Prelude.{◌≡◌};
+ghost use Rattle.std.specs.Prelude.{[], ◌∷◌, ◌≡◌};
 ghost use Rattle.history_book.specs.Progress.{run_in};
 
 use home_types::{Answer, DeviceNo, RunNo, Value};
+use std::marker::Model;
 
 /// Why a run is aborted. Commands count from 0.
 #[derive(Clone, Copy, Debug, PartialEq, Eq)]
@@ -79,10 +80,44 @@ pub struct Kept {
     pub entry: Entry,
 }
 
-/// The entries of one step, in this order.
+/// The entries of one step, in this order. A contract sees them as a list.
 #[derive(Clone, Copy, Debug, PartialEq, Eq)]
 pub struct Made {
     pub a: Option<Entry>,
     pub b: Option<Entry>,
     pub c: Option<Entry>,
+}
+
+impl Model for Made {
+    ghost use Rattle.std.specs.Prelude.{List};
+    ghost use Rattle.history_book.specs.Packed.{IsPacked, entries_made, first_three, three_again};
+    ghost use Rattle.history_book.specs.declared.entries.Entry.{Entry};
+
+    ghost Value = { List Entry };
+
+    ghost view = { entries_made };
+
+    ghost invariant = { IsPacked };
+
+    ghost inverse = { first_three };
+
+    ghost inverse_ok = { three_again };
+}
+
+/// No entries.
+pub const NONE_MADE: Made = Made {
+    a: None,
+    b: None,
+    c: None,
+};
+
+/// One entry.
+pub fn one_made(entry: Entry) -> Made
+    ensures { result ≡ entry ∷ [] }
+{
+    Made {
+        a: Some(entry),
+        b: None,
+        c: None,
+    }
 }

@@ -1,10 +1,11 @@
-pub mod Images
-pub mod Moments
-pub mod OpenSlots
-pub mod StateBytes
-pub mod Scanning
-pub mod Shutting
-pub mod Keeping
-pub mod Firsts
-pub mod KeptKinds
-pub mod WrittenSlots
+mod Images
+mod Moments
+mod OpenSlots
+mod StateBytes
+mod Scanning
+mod Shutting
+mod Keeping
+mod Firsts
+mod KeptKinds
+mod WrittenSlots
+pub mod Cited

@@ -1,3 +1,4 @@
-pub mod Drafting
-pub mod Living
-pub mod Windows
+mod Answered
+mod Drafting
+mod Living
+mod Windows

@@ -3,7 +3,7 @@ use Rattle.command_rules.specs.Rosters.{runs_of}
 use Rattle.command_rules.specs.declared.rosters.Roster.{Roster}
 use Rattle.device_states.specs.Devices.{Shown}
 use Rattle.home_types.specs.declared.modes.Mode.{Mode}
-use Rattle.hub_core.proofs.SoundWindows.{may_open}
+use Rattle.hub_core.proofs.Cited.{may_open}
 use Rattle.hub_core.specs.Homes.{HomeIsKept, HomeState, setting_for}
 use Rattle.hub_core.specs.Openings.{MayOpen, is_mode}
 use Rattle.routine_reader.specs.Rosters.{kinds_of, script_runs}

@@ -5,7 +5,7 @@ use Rattle.device_gate.specs.declared.grips.Ready.{Ready}
 use Rattle.device_gate.specs.declared.slips.Told.{Told}
 use Rattle.handed_devices.specs.declared.devices.HandedDevice.{HandedDevice}
 use Rattle.history_book.specs.Sealed.{StaysSealed}
-use Rattle.history_book.specs.declared.entries.Made.{Made}
+use Rattle.history_book.specs.declared.entries.Entry.{Entry}
 use Rattle.home_states.specs.LiveHomes.{LiveState}
 use Rattle.home_states.specs.declared.homes.Phase.TheVariants.{Between, InWindow, Moving}
 use Rattle.home_states.specs.declared.homes.Phase.{Phase}
@@ -21,7 +21,7 @@ use Rattle.hub_table.specs.Answers.{HasComeBack, refusal}
 use Rattle.hub_table.specs.Tables.{SlipAndTask, lent_by, taken_of}
 use Rattle.hub_table.specs.declared.told.Taken.{Taken}
 use Rattle.lock_leasing.specs.Configurations.{read_of}
-use Rattle.std.specs.Prelude.{Option, Some, option_map, slice_get, ℕ, ◌≡◌}
+use Rattle.std.specs.Prelude.{List, Option, Some, option_map, slice_get, ℕ, ◌≡◌}
 
 -- the window in which the live home was goes on as this hub, and nothing else is changed
 pub record WindowGoesOn (s : LiveState) (hub : OpenHub HandedDevice) (next : OpenHub HandedDevice)
@@ -43,7 +43,7 @@ pub record HasTaken (s : LiveState) (r m : ℕ) (taken : Taken) (t : LiveState) 
   pub told : taken ≡ taken_of turn
 
 -- the device was out with this ticket, told this, and is back
-pub record HasAnswered (s : LiveState) (d ticket : ℕ) (told : Told) (m : ℕ) (made : Made)
+pub record HasAnswered (s : LiveState) (d ticket : ℕ) (told : Told) (m : ℕ) (made : List Entry)
     (t : LiveState) : Type 0 where
   pub hub : OpenHub HandedDevice
   pub next : OpenHub HandedDevice

@@ -1,3 +1,4 @@
-pub mod DeviceBits
-pub mod DeviceWords
-pub mod Snocs
+mod DeviceBits
+mod DeviceWords
+mod Snocs
+pub mod Cited

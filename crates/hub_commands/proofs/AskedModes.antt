@@ -1,5 +1,5 @@
 -- The mode of a command line: every model but the eventual one goes first come first served.
-use Rattle.command_words.proofs.PairedModes.{line_is_paired}
+use Rattle.command_words.proofs.Cited.{line_is_paired}
 use Rattle.command_words.specs.CommandLines.{command_line_of}
 use Rattle.command_words.specs.OptionWords.{goes_with}
 use Rattle.command_words.specs.declared.command_lines.CommandLine.TheVariants.{Check, Keep, Replay, Run, Trial, Watch}

@@ -1,5 +1,5 @@
 -- The mode that the words of rooms ask for: every model but the eventual one goes first come first served, and none is weak.
-use Rattle.command_words.proofs.PairedModes.{line_is_paired}
+use Rattle.command_words.proofs.Cited.{line_is_paired}
 use Rattle.command_words.specs.OptionGrammar.{options_by_words}
 use Rattle.command_words.specs.OptionWords.{goes_with}
 use Rattle.command_words.specs.RoomWords.{mode_for_rooms, room_mode_of, serial_mode}

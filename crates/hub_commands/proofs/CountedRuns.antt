@@ -16,12 +16,12 @@ use Rattle.hub_commands.specs.Days.{WindowsArePlayed, new_course}
 use Rattle.hub_commands.specs.Going.{IsNextToTell, NextIs}
 use Rattle.hub_commands.specs.Ways.{WindowWay}
 use Rattle.hub_commands.specs.declared.plays.DayUnderWay.{DayUnderWay}
-use Rattle.legal_days.proofs.Lists.{at_place}
+use Rattle.legal_days.proofs.Cited.{at_place}
 use Rattle.legal_days.specs.LegalDays.{setting_of}
 use Rattle.legal_days.specs.LegalWindows.{IsLegalWindow, all_ended, history_of}
-use Rattle.order_checker.proofs.SoundRuns.{window_sound}
-use Rattle.printed_records.proofs.EndCounts.{all-ended}
-use Rattle.routine_reader.proofs.RosterLemmas.{runs-there}
+use Rattle.order_checker.proofs.Cited.{window_sound}
+use Rattle.printed_records.proofs.Cited.{all-ended}
+use Rattle.routine_reader.proofs.Cited.{runs-there}
 use Rattle.routine_reader.specs.Rosters.{run_of_text, script_runs}
 use Rattle.routine_reader.specs.Scripts.{plain_script, plain_window}
 use Rattle.routine_reader.specs.Sound.{IsSound}

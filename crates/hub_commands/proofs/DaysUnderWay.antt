@@ -2,11 +2,11 @@
 use Rattle.device_states.specs.Devices.{Shown}
 use Rattle.history_book.specs.Settings.{Setting}
 use Rattle.history_book.specs.declared.records.WindowRecord.{WindowRecord}
-use Rattle.home_types.proofs.Snocs.{snoc_get}
+use Rattle.home_types.proofs.Cited.{snoc_get}
 use Rattle.home_types.specs.HomeStates.{stand_at}
 use Rattle.home_types.specs.declared.modes.Mode.{Mode}
 use Rattle.hub_core.specs.Homes.{AreNew, HomeIsKept, HomeState}
-use Rattle.legal_days.proofs.Lists.{at_place}
+use Rattle.legal_days.proofs.Cited.{at_place}
 use Rattle.legal_days.specs.LegalDays.{AreLeftFrom, IsLegalCutDayFrom, IsLegalDayFrom, new_day, one_more_where, setting_from, state_from, total}
 use Rattle.legal_days.specs.LegalWindows.{IsLegalWindow}
 use Rattle.hub_commands.proofs.PlayedWindows.{IsPlayed, device_played, setting_played, size_played}
@@ -14,7 +14,7 @@ use Rattle.hub_commands.proofs.Snocs.{length_more, sum_more}
 use Rattle.hub_commands.specs.Days.{DayCourse, HaveCommitted, IsUnderWayOn, NoneHasFailedOn, WindowsArePlayedOn, new_course, script_of}
 use Rattle.hub_commands.specs.Played.{HasGoneOn, setting_on}
 use Rattle.hub_commands.specs.Ways.{WindowWay}
-use Rattle.hub_core.proofs.calls.HubOpens.{get_front, get_last}
+use Rattle.hub_core.proofs.Cited.{get_front, get_last}
 use Rattle.routine_reader.specs.Rosters.{kinds_of, script_runs, start_home, start_stand}
 use Rattle.routine_reader.specs.declared.scripts.DeviceText.{DeviceText}
 use Rattle.routine_reader.specs.declared.scripts.Script.{Script}

@@ -2,7 +2,7 @@
 use Rattle.command_words.specs.declared.command_lines.Options.{Options}
 use Rattle.device_states.specs.Devices.{Shown}
 use Rattle.history_book.specs.declared.records.WindowRecord.{WindowRecord}
-use Rattle.home_journal.proofs.Moments.{then_on, weaker}
+use Rattle.home_journal.proofs.Cited.{then_on, weaker}
 use Rattle.home_journal.specs.Disks.{LeavesThis}
 use Rattle.home_journal.specs.Journals.{IsDamage, JournalState, KeepsFirst, LeavesOldOrSame}
 use Rattle.home_journal.specs.KeptStates.{kept_states}

@@ -2,7 +2,7 @@
 use Rattle.command_words.specs.declared.command_lines.Options.{Options}
 use Rattle.device_states.specs.Devices.{Shown}
 use Rattle.history_book.specs.declared.records.WindowRecord.{WindowRecord}
-use Rattle.home_journal.proofs.Moments.{then_on, weaker}
+use Rattle.home_journal.proofs.Cited.{then_on, weaker}
 use Rattle.home_journal.specs.Disks.{LeavesOnly, LeavesThis}
 use Rattle.home_journal.specs.Journals.{AddsStates, JournalState, KeepsFirst, LeavesFirst, states_kept}
 use Rattle.home_journal.specs.KeptStates.{kept_states}

@@ -16,20 +16,20 @@ mod PublishedDays
 mod CountedRuns
 mod WatchedDays
 mod KeptWindows
-pub mod MergedLists
-pub mod OwnItems
-pub mod RoomOrders
-pub mod RoomsUnderWay
-pub mod RoomTexts
-pub mod RoomSteps
-pub mod RoomDaysLeft
-pub mod RoomedDevices
-pub mod RoomDaysGoing
-pub mod RoomRanks
+mod MergedLists
+mod OwnItems
+mod RoomOrders
+mod RoomsUnderWay
+mod RoomTexts
+mod RoomSteps
+mod RoomDaysLeft
+mod RoomedDevices
+mod RoomDaysGoing
+mod RoomRanks
 mod KeptStates
 mod BegunBehind
 mod KeptDays
 mod KeptCalls
-pub mod AskedRooms
-pub mod NewRooms
-pub mod ToldLines
+mod AskedRooms
+mod NewRooms
+mod ToldLines

@@ -7,7 +7,7 @@ use Rattle.home_types.specs.Listed.{Listed}
 use Rattle.home_types.specs.declared.items.Item.TheVariants.{Back, Failed, Ran}
 use Rattle.home_types.specs.declared.items.Item.{Item}
 use Rattle.hub_commands.specs.RoomDays.{Windows, records_of}
-use Rattle.legal_days.proofs.Lists.{at_place}
+use Rattle.legal_days.proofs.Cited.{at_place}
 use Rattle.room_hubs.specs.Merges.{Merge, answers_of, home_order, own_order}
 use Rattle.room_hubs.specs.Numbers.{Room, home_item}
 use Rattle.room_hubs.specs.declared.rosters.RoomWindow.{RoomWindow}

@@ -1,10 +1,10 @@
 -- The home of a room, built from the room's devices alone.
 use Rattle.device_states.specs.Devices.{Shown}
-use Rattle.home_types.proofs.Snocs.{snoc_get}
+use Rattle.home_types.proofs.Cited.{snoc_get}
 use Rattle.home_types.specs.declared.memory.NoMemory.{NoMemory}
 use Rattle.hub_commands.specs.RoomGoing.{IsNewHome}
 use Rattle.hub_core.specs.Homes.{AreNew, HomeState, IsNew}
-use Rattle.legal_days.proofs.Lists.{at_place}
+use Rattle.legal_days.proofs.Cited.{at_place}
 use Rattle.room_hubs.specs.RoomScripts.{plain_devices, room_devices}
 use Rattle.routine_reader.specs.Rosters.{start_stand}
 use Rattle.routine_reader.specs.Scripts.{PlainDevice, plain_device}

@@ -17,7 +17,7 @@ use Rattle.hub_core.specs.Steps.{opened}
 use Rattle.routine_reader.specs.Rosters.{run_of_text, script_runs}
 use Rattle.routine_reader.specs.declared.scripts.Script.{Script}
 use Rattle.routine_reader.specs.declared.scripts.WindowText.{WindowText}
-use Rattle.run_replay.proofs.Opening.{fresh_where}
+use Rattle.run_replay.proofs.Cited.{fresh_where}
 use Rattle.std.proofs.Common.{ap, arith, refl, subst, sym, ◌∙◌}
 use Rattle.std.specs.Prelude.{Err, IfErr, IfOk, List, Ok, Result, Some, [], drop, length, map, option_map, slice_get, suc, unwrap_or, zero, ℕ, ◌+◌, ◌++◌, ◌∷◌, ◌≡◌}
 

@@ -1,8 +1,7 @@
 -- The items of a window's order are runs and events of its own.
 use Rattle.command_rules.specs.Rosters.{is_run}
 use Rattle.command_rules.specs.Items.{is_ran}
-use Rattle.history_book.proofs.Lines.{any_insert, any_put_before}
-use Rattle.history_book.proofs.Splits.{split_any}
+use Rattle.history_book.proofs.Cited.{any_insert, any_put_before, split_any}
 use Rattle.history_book.specs.Histories.{entry, reading}
 use Rattle.history_book.specs.Lines.{without}
 use Rattle.history_book.specs.Gaps.{split_of}

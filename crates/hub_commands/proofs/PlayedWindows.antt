@@ -1,5 +1,5 @@
 -- A window of the script that was opened on a home and worked: what it leaves.
-use Rattle.device_gate.proofs.Places.{home_at}
+use Rattle.device_gate.proofs.Cited.{home_at}
 use Rattle.device_gate.specs.declared.gates.Place.TheVariants.{Home}
 use Rattle.device_states.specs.Devices.{Shown}
 use Rattle.history_book.specs.declared.records.WindowRecord.{WindowRecord}

@@ -7,7 +7,7 @@ use Rattle.hub_commands.specs.Finishes.{DayEnds, DayIsWhole, IsRead, Reads, Writ
 use Rattle.hub_commands.specs.Ways.{IsRunWithin}
 use Rattle.hub_commands.specs.declared.faults.Fault.{Fault}
 use Rattle.hub_commands.specs.declared.finishes.Day.{Day}
-use Rattle.legal_days.proofs.Lists.{at_place}
+use Rattle.legal_days.proofs.Cited.{at_place}
 use Rattle.routine_reader.specs.declared.scripts.Script.{Script}
 use Rattle.routine_reader.specs.declared.scripts.WindowText.{WindowText}
 use Rattle.std.proofs.Common.{ap, arith, refl, ◌∙◌}

@@ -6,7 +6,7 @@ use Rattle.hub_commands.specs.Boards.{IsToldOf, as_over, board_line, board_text,
 use Rattle.hub_commands.specs.Going.{HandsBack, IsToldOfDay}
 use Rattle.hub_commands.specs.Watched.{IsPublished}
 use Rattle.hub_commands.specs.declared.finishes.Day.{Day}
-use Rattle.status_board.proofs.Publishings.{only_over}
+use Rattle.status_board.proofs.Cited.{only_over}
 use Rattle.status_board.specs.Publishings.{StartsWith, last_from, last_of, nothing}
 use Rattle.status_board.specs.declared.day_counts.Counts.{Counts}
 use Rattle.std.proofs.Common.{ap, ap₂, append-nil, append_assoc, arith, false, get_or, refl, subst, sym, true, ◌∙◌}

@@ -24,8 +24,8 @@ use Rattle.hub_commands.specs.declared.pieces.PieceFault.{PieceFault}
 use Rattle.hub_commands.specs.declared.room_days.RoomDay.{RoomDay}
 use Rattle.hub_commands.specs.declared.room_finishes.RoomFinish.{RoomFinish}
 use Rattle.hub_core.specs.Homes.{HomeState}
-use Rattle.legal_days.proofs.Lists.{at_place}
-use Rattle.room_hubs.proofs.SoundRuns.{rooms_size}
+use Rattle.legal_days.proofs.Cited.{at_place}
+use Rattle.room_hubs.proofs.Cited.{rooms_size}
 use Rattle.room_hubs.specs.Merges.{HasOwnOrder, room_order}
 use Rattle.room_hubs.specs.Rooms.{plain_rooms, rooms_of}
 use Rattle.room_hubs.specs.declared.rosters.Rooms.{Rooms}

@@ -11,9 +11,9 @@ use Rattle.hub_commands.specs.RoomDevices.{AreAllPlaced, HasDevicesOf}
 use Rattle.hub_commands.specs.RoomGoing.{AreNewHomes}
 use Rattle.hub_commands.specs.Ways.{IsRunWithin}
 use Rattle.hub_core.specs.Homes.{HomeState}
-use Rattle.legal_days.proofs.Lists.{at_place}
+use Rattle.legal_days.proofs.Cited.{at_place}
 use Rattle.legal_days.specs.LegalDays.{RecordsAreLegal}
-use Rattle.room_hubs.proofs.SoundRuns.{rooms_size}
+use Rattle.room_hubs.proofs.Cited.{rooms_size}
 use Rattle.room_hubs.specs.Merges.{HasOwnOrder, room_order}
 use Rattle.room_hubs.specs.RoomScripts.{own_script}
 use Rattle.room_hubs.specs.Rooms.{rooms_of}

@@ -15,15 +15,10 @@ use Rattle.home_types.specs.declared.worlds.Stand.{Stand}
 use Rattle.hub_commands.proofs.MergedLists.{HaveRoom, answered, each_item, record_at, same_order}
 use Rattle.hub_commands.proofs.OwnItems.{is_stray, none_strays}
 use Rattle.hub_commands.specs.RoomDays.{AgreesWithRooms, AreSplit, EachOrderAgrees, Windows, home_executed, records_of, room_count, rooms_home_before}
-use Rattle.legal_days.proofs.Lists.{at_place}
+use Rattle.legal_days.proofs.Cited.{at_place}
 use Rattle.legal_days.specs.LegalDays.{RecordsAreLegal, setting_of, state_after}
 use Rattle.legal_days.specs.LegalWindows.{IsLegalWindow, IsSeriallyLegal, IsWeaklyLegal, history_of}
-use Rattle.room_hubs.proofs.JoinedHomes.{home_of_rooms}
-use Rattle.room_hubs.proofs.JoinedOrders.{joined_is, own_is}
-use Rattle.room_hubs.proofs.Merges.{whole}
-use Rattle.room_hubs.proofs.Parts.{none_passes, parts}
-use Rattle.room_hubs.proofs.RoomScripts.{own_kinds_are, own_runs_are, own_start_is}
-use Rattle.room_hubs.proofs.SoundRuns.{rooms_size, split_is, split_parts}
+use Rattle.room_hubs.proofs.Cited.{home_of_rooms, joined_is, none_passes, own_is, own_kinds_are, own_runs_are, own_start_is, parts, rooms_size, split_is, split_parts, whole}
 use Rattle.room_hubs.specs.Merges.{HasOwnOrder, InStep, IsMerge, Merge, PartHome, RoomOrders, answers_of, home_order, joined_merge, no_room, order_of_room, own_order, room_in, room_order}
 use Rattle.room_hubs.specs.Numbers.{IsOwnDevice, IsOwnItem, IsOwnRun, Room, home_device, home_run, plain_room, room_home, room_kinds}
 use Rattle.room_hubs.specs.RoomScripts.{own_script}

@@ -3,9 +3,8 @@ use Rattle.home_types.specs.Listed.{Listed}
 use Rattle.hub_commands.proofs.Snocs.{snoc_front}
 use Rattle.hub_commands.specs.RoomDevices.{AreAllPlaced, HasDevicesOf, IsRoomed}
 use Rattle.hub_core.specs.Homes.{HomeState}
-use Rattle.legal_days.proofs.Lists.{at_place}
-use Rattle.room_hubs.proofs.Loops.{all_numbers, next_number}
-use Rattle.room_hubs.proofs.Parts.{filtered}
+use Rattle.legal_days.proofs.Cited.{at_place}
+use Rattle.room_hubs.proofs.Cited.{all_numbers, filtered, next_number}
 use Rattle.room_hubs.specs.Splits.{device_room, devices_in}
 use Rattle.std.proofs.Common.{Bool, List, Some, [], ap, append_assoc, arith, false, filter, get_or, inl, inr, length, map, option_map, refl, reverse, suc, sym, take, take-append-drop, true, zero, ℕ, ◌+◌, ◌++◌, ◌<◌, ◌∙◌, ◌≡◌, ◌≢◌, ◌≤◌, ◌∷◌, ◌⊎◌}
 use Rattle.std.proofs.lemmas.Bool.{cases_eq}

@@ -1,8 +1,8 @@
 -- The rooms of the devices of a script: each has one of the names.
-use Rattle.home_types.proofs.Snocs.{snoc_get}
+use Rattle.home_types.proofs.Cited.{snoc_get}
 use Rattle.hub_commands.specs.RoomDays.{room_count}
 use Rattle.hub_commands.specs.RoomDevices.{IsRoomed}
-use Rattle.room_hubs.proofs.Loops.{any_is}
+use Rattle.room_hubs.proofs.Cited.{any_is}
 use Rattle.room_hubs.specs.Rooms.{PlainRooms, no_rooms, room_name, rooms_of, with_device, with_room}
 use Rattle.room_hubs.specs.Splits.{device_room}
 use Rattle.routine_reader.specs.Names.{is_among}

@@ -1,7 +1,7 @@
 -- The rooms of a day under way: their next window may be opened, and the day goes on by it.
 use Rattle.device_gate.specs.Places.{AreNumbered}
 use Rattle.device_states.specs.Devices.{Shown}
-use Rattle.home_types.proofs.Snocs.{snoc_get}
+use Rattle.home_types.proofs.Cited.{snoc_get}
 use Rattle.home_types.specs.Kinds.{kind_at}
 use Rattle.home_types.specs.Listed.{Listed}
 use Rattle.home_types.specs.declared.commands.Job.TheVariants.{Check, Load, Set, Store}
@@ -22,11 +22,8 @@ use Rattle.hub_core.specs.Openings.{MayOpen, is_mode, names_values_of}
 use Rattle.hub_threads.specs.WorkedRooms.{AreRoomsWorked, IsReady}
 use Rattle.hub_threads.specs.declared.rooms.RoomDone.{RoomDone}
 use Rattle.hub_threads.specs.declared.rooms.RoomHub.{RoomHub}
-use Rattle.legal_days.proofs.Lists.{at_place}
-use Rattle.room_hubs.proofs.OwnRuns.{OwnRunsAreSound, own_runs_sound}
-use Rattle.room_hubs.proofs.Parts.{filtered}
-use Rattle.room_hubs.proofs.RoomScripts.{own_kinds_are, own_runs_are}
-use Rattle.room_hubs.proofs.SoundRuns.{rooms_size, split_is, split_parts}
+use Rattle.legal_days.proofs.Cited.{at_place}
+use Rattle.room_hubs.proofs.Cited.{OwnRunsAreSound, filtered, own_kinds_are, own_runs_are, own_runs_sound, rooms_size, split_is, split_parts}
 use Rattle.room_hubs.specs.Numbers.{Room, plain_room, room_kinds}
 use Rattle.room_hubs.specs.RoomScripts.{own_script, own_window}
 use Rattle.room_hubs.specs.Rooms.{rooms_of}
@@ -38,7 +35,7 @@ use Rattle.routine_reader.specs.Scripts.{plain_device, plain_routine, plain_scri
 use Rattle.routine_reader.specs.Sound.{IsSound, IsSoundWindow, suits_device}
 use Rattle.routine_reader.specs.declared.scripts.Script.{Script}
 use Rattle.routine_reader.specs.declared.scripts.WindowText.{WindowText}
-use Rattle.run_replay.proofs.Opening.{fresh_where}
+use Rattle.run_replay.proofs.Cited.{fresh_where}
 use Rattle.std.proofs.Common.{All, List, Ok, Option, Some, [], ap, arith, get_or, inl, inr, length, map, option_map, refl, subst, suc, sym, true, ℕ, ◌+◌, ◌++◌, ◌<◌, ◌∙◌, ◌≡◌, ◌≤◌, ◌∷◌}
 use Rattle.std.proofs.lemmas.Bool.{and_from, lt-ltb}
 use Rattle.std.proofs.lemmas.List.Elements.{All-get_or, filter_map-append}

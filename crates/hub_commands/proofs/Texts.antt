@@ -1,6 +1,6 @@
 -- The text of a day, piece after piece, and what the sink got of it.
 use Rattle.day_clock.specs.Sinks.{AppendsPart}
-use Rattle.day_report.proofs.Growing.{enumerate_from-append}
+use Rattle.day_report.proofs.Cited.{enumerate_from-append}
 use Rattle.day_report.specs.Days.{day_text_from, head_text, total_text, window_text, window_texts_from}
 use Rattle.history_book.specs.declared.records.WindowRecord.{WindowRecord}
 use Rattle.home_types.specs.declared.modes.Mode.{Mode}

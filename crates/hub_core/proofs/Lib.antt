@@ -1,8 +1,9 @@
-pub mod steps
-pub mod windows
-pub mod kept
-pub mod waiting
-pub mod calls
-pub mod weak
-pub mod FoundDevices
-pub mod SoundWindows
+mod steps
+mod windows
+mod kept
+mod waiting
+mod calls
+mod weak
+mod FoundDevices
+mod SoundWindows
+pub mod Cited

@@ -11,7 +11,7 @@ use Rattle.home_types.specs.declared.modes.Mode.{Mode}
 use Rattle.home_types.specs.declared.numbers.RunNo.{RunNo}
 use Rattle.hub_core.specs.Homes.{HomeIsKept, HomeState, setting_for}
 use Rattle.hub_core.specs.Openings.{MayOpen, is_mode, names_values_of}
-use Rattle.routine_reader.proofs.RosterLemmas.{runs-there}
+use Rattle.routine_reader.proofs.Cited.{runs-there}
 use Rattle.routine_reader.specs.Rosters.{kinds_of, routine_commands, run_of_text, script_runs}
 use Rattle.routine_reader.specs.Scripts.{plain_device, plain_routine, plain_script, plain_window}
 use Rattle.routine_reader.specs.Sound.{IsSound, IsSoundCommand, IsSoundRoutine, IsSoundRun, IsSoundWindow, device_kinds, suits_device}

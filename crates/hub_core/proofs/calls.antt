@@ -9,7 +9,6 @@ pub mod EndedRuns
 pub mod HubCloses
 pub mod HubLaws
 pub mod HubChanges
-pub mod PackedEntries
 pub mod Departures
 pub mod HubOuts
 pub mod OutFor
@@ -17,8 +16,6 @@ pub mod Homecomings
 pub mod Turning
 pub mod HubReturns
 pub mod HubRefusals
-pub mod PlannedInTurn
-pub mod PlannedUses
 pub mod Scheduling
 pub mod HubOrders
 pub mod SkippedCalls

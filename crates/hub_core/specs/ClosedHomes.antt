@@ -3,13 +3,8 @@ use Rattle.home_types.specs.Numbers.{DeviceId}
 use Rattle.home_types.specs.declared.worlds.Stand.{Stand}
 use Rattle.hub_core.specs.OpenHubs.{progress_at}
 use Rattle.hub_core.specs.declared.known.DeviceProgress.{DeviceProgress}
-use Rattle.lineage_table.specs.Accesses.{value_standing}
 use Rattle.lineage_table.specs.Lineages.{LineageState, lineage_at}
 use Rattle.std.specs.Prelude.{List, Some, [], length, slice_get, slice_index_or, suc, zero, ℕ, ◌++◌, ◌+◌, ◌<◌, ◌∷◌, ◌≡◌, ◌≤◌}
-
--- how the lineage of a device leaves it: at the value that stands, up or down as it is counted
-abbrev pub stand_left : LineageState → Stand
-stand_left s = record { value = value_standing s.committed s.accesses; up = s.up }
 
 -- how a device is left under the weak model: where it is known to stand, up or down as it is
 -- counted

@@ -1,22 +1,18 @@
 -- What the code chooses, as the choice of a step.
-use Rattle.command_rules.specs.Rosters.{command_at, run_no}
-use Rattle.history_book.specs.Readings.{Reading, is_doomed}
-use Rattle.history_book.specs.Settings.{Setting}
-use Rattle.history_book.specs.declared.entries.Cause.TheVariants.{DownAtEnd, Lost, MustDown, Refuted, Revoked}
+use Rattle.command_rules.specs.Rosters.{run_no}
+use Rattle.history_book.specs.declared.entries.Cause.TheVariants.{DownAtEnd, MustDown, Revoked}
 use Rattle.history_book.specs.declared.entries.Cause.{Cause}
 use Rattle.history_book.specs.declared.entries.End.TheVariants.{Aborted, Committed}
 use Rattle.history_book.specs.declared.entries.Entry.TheVariants.{Arrived, Did, Doomed, Ended, Placed, Undid}
-use Rattle.home_types.specs.Commands.{fails}
 use Rattle.home_types.specs.Numbers.{CommandIndex, Moment, RunId}
-use Rattle.home_types.specs.declared.commands.Answer.TheVariants.{Down, Fine, Found, Skipped}
-use Rattle.home_types.specs.declared.commands.Answer.{Answer}
+use Rattle.home_types.specs.declared.commands.Answer.TheVariants.{Down}
 use Rattle.home_types.specs.declared.commands.Command.{Command}
-use Rattle.lock_leasing.specs.declared.purposes.Purpose.TheVariants.{Commands}
 use Rattle.hub_core.specs.Steps.{Absent as IsAbsent, Choice, HandsOut as IsHandedOut, Moves, Over as IsOver, Waits as IsWaiting, aborts, behind_case, busy_case, dirty_case, down_case, first_case, overdue_case, skip_entries, strict_case, undo_cases}
 use Rattle.hub_core.specs.declared.decisions.Chosen.TheVariants.{Aborts, Absent, AnswersDown, Arrives, Commits, Drops, FailsAtEnd, HandsOut, Joins, Over, Revokes, Skips, Waits}
 use Rattle.hub_core.specs.declared.decisions.Chosen.{Chosen}
 use Rattle.lock_leasing.specs.Configurations.{Point}
-use Rattle.std.specs.Prelude.{Bool, None, Option, Some, [], false, if◌then◌else◌, not, ◌&&◌, ◌∷◌}
+use Rattle.lock_leasing.specs.declared.purposes.Purpose.TheVariants.{Commands}
+use Rattle.std.specs.Prelude.{[], false, if◌then◌else◌, not, ◌∷◌}
 
 -- .. of the run at this moment
 abbrev pub told_choice : RunId → Moment → Chosen → Choice
@@ -34,25 +30,6 @@ told_choice r m (Skips k) = Moves (skip_entries r k)
 told_choice r m (FailsAtEnd d) = Moves (Doomed (run_no r) (DownAtEnd d) ∷ [])
 told_choice r m (Waits why) = IsWaiting why
 told_choice r m (HandsOut d purpose) = IsHandedOut d.0 purpose
-
--- for what the run is doomed with this answer to its command k: a must check that found another
--- value, where the run is not doomed yet
-abbrev pub refuted_by : Setting → Reading → RunId → CommandIndex → Answer → Option Cause
-refuted_by w n r k Fine = None
-refuted_by w n r k (Found x) =
-    if fails (command_at w.runs r k) (Found x) && not (is_doomed n r) then Some (Refuted k x)
-    else None
-refuted_by w n r k Down = None
-refuted_by w n r k Skipped = None
-
--- for what the run is doomed whose command k died, the first one on its device or a later one: a
--- first one fails only where it must not, a later access is lost; a run that is doomed already is
--- not doomed again
-abbrev pub died_by : Setting → Reading → RunId → CommandIndex → Bool → Option Cause
-died_by w n r k first =
-    if is_doomed n r then None
-    else (if first then (if (command_at w.runs r k).must then Some (MustDown k) else None)
-    else Some (Lost (command_at w.runs r k).device))
 
 -- what a doomed run does in a model with an order: the next device on which it is undone is out,
 -- goes out to stand where it would if the run had not written, or is down and the write is dropped;

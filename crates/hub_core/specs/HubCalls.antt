@@ -1,4 +1,5 @@
 -- What the calls of a hub answer, and what it shows after them.
+use Rattle.command_rules.specs.Rosters.{command_at, is_run, run_no}
 use Rattle.device_gate.specs.Grips.{Gripped}
 use Rattle.device_gate.specs.Places.{all_home}
 use Rattle.device_gate.specs.declared.gates.Place.TheVariants.{Home, Out}
@@ -8,37 +9,36 @@ use Rattle.device_gate.specs.declared.slips.Slip.{Slip}
 use Rattle.device_gate.specs.declared.strangers.Stranger.{Stranger}
 use Rattle.device_states.specs.Devices.{Shown}
 use Rattle.history_book.specs.Gaps.{gap_set}
-use Rattle.history_book.specs.Histories.{entries_made, entries_of, reading}
+use Rattle.history_book.specs.Histories.{entries_of, reading}
 use Rattle.history_book.specs.Settings.{Setting, is_weak, scheduler_of}
 use Rattle.history_book.specs.WellFormed.{IsWellFormed, each_entry}
 use Rattle.history_book.specs.declared.entries.End.TheVariants.{Committed}
 use Rattle.history_book.specs.declared.entries.Entry.TheVariants.{Placed}
-use Rattle.history_book.specs.declared.entries.Made.{Made}
 use Rattle.history_book.specs.declared.records.WindowRecord.{WindowRecord}
 use Rattle.home_types.specs.HomeStates.{stand_at}
 use Rattle.home_types.specs.Limits.{most_devices, most_runs}
 use Rattle.home_types.specs.Numbers.{DeviceId, LinePlace, Moment, RunId}
 use Rattle.home_types.specs.declared.modes.Scheduler.TheVariants.{Fcfs, Timeline}
-use Rattle.legal_days.specs.AccountedCalls.{told_calls, told_falls}
-use Rattle.legal_days.specs.CleanReads.{ReadsAreClean}
 use Rattle.hub_core.specs.Homes.{HomeState}
 use Rattle.hub_core.specs.HubSteps.{Carried, Chose, Gave, Give, GiveProbe, HubStep, Probed, Refused, Returned, Take, TakeProbe, task_of}
-use Rattle.legal_days.specs.JustifiedAborts.{IsJustified}
-use Rattle.legal_days.specs.LegalWindows.{IsLegalWindow, history_of, weakly_allowed}
 use Rattle.hub_core.specs.MustChecks.{has_must_check}
 use Rattle.hub_core.specs.OpenHubs.{OpenHub, configuration_of, hub_state_of, progress_at}
 use Rattle.hub_core.specs.Steps.{Absent as IsAbsent, Choice, HandsOut, Moves, Over as IsOver, Waits, choice_of, opened}
 use Rattle.hub_core.specs.declared.turns.Turn.TheVariants.{Absent, Go, Moved, Over, Wait}
 use Rattle.hub_core.specs.declared.turns.Turn.{Turn}
 use Rattle.hub_core.specs.declared.waits.Why.{Why}
+use Rattle.legal_days.specs.AccountedCalls.{told_calls, told_falls}
+use Rattle.legal_days.specs.CleanReads.{ReadsAreClean}
+use Rattle.legal_days.specs.JustifiedAborts.{IsJustified}
+use Rattle.legal_days.specs.LegalWindows.{IsLegalWindow, history_of, weakly_allowed}
 use Rattle.lock_leasing.specs.Configurations.{Configuration, Grip, point_of, read_of}
 use Rattle.lock_leasing.specs.Order.{OrderStands}
 use Rattle.lock_leasing.specs.Places.{GripsFit, IsEarliestSet, IsFittingSet, PlacesAreScheduled}
 use Rattle.lock_leasing.specs.Words.{standing_value}
-use Rattle.command_rules.specs.Rosters.{command_at, is_run, run_no}
-use Rattle.std.specs.Prelude.{Bool, Err, IsTrue, List, None, Ok, Option, Result, Some, [], false, is_some, length, max, not, slice_get, slice_index_or, slice_set, true, ℕ, ⊤, ◌+◌, ◌-◌, ◌<◌, ◌||◌, ◌∷◌, ◌≡◌, ◌≢◌, ◌≤◌}
 use Rattle.lock_leasing.specs.declared.purposes.Purpose.TheVariants.{Commands, Probes, Undoes}
 use Rattle.lock_leasing.specs.declared.purposes.Purpose.{Purpose}
+use Rattle.std.specs.Prelude.{Bool, Err, IsTrue, List, None, Ok, Option, Result, Some, [], false, is_some, length, max, not, slice_get, slice_index_or, slice_set, true, ℕ, ⊤, ◌+◌, ◌-◌, ◌<◌, ◌||◌, ◌∷◌, ◌≡◌, ◌≢◌, ◌≤◌}
+use Rattle.history_book.specs.declared.entries.Entry.{Entry}
 
 -- the hub is in the same window, with the same counts of its devices at the opening
 pub record SameWindow {D : Type 0} (s t : OpenHub D) : Type 0 where
@@ -47,12 +47,6 @@ pub record SameWindow {D : Type 0} (s t : OpenHub D) : Type 0 where
   pub opened : t.opened ≡ s.opened
   pub at_opening : (d : DeviceId) → (progress_at t.devices d).at_opening
       ≡ (progress_at s.devices d).at_opening
-
--- the entries stand in the first places: one in the second only behind one in the first, and one in
--- the third only behind one in the second
-pub record IsPacked (made : Made) : Type 0 where
-  pub second : made.a ≡ None → made.b ≡ None
-  pub third : made.b ≡ None → made.c ≡ None
 
 -- the step of the run answers so and hands no device out
 pub record Answers {D : Type 0} (s : OpenHub D) (r : RunId) (m : Moment) (choice : Choice)
@@ -85,9 +79,9 @@ pub record DeviceGoesOut {D : Type 0} (s : OpenHub D) (r : RunId) (m : Moment)
 -- window, its last moment alone may be another
 abbrev pub IsTurn : {D : Type 0} → OpenHub D → RunId → Moment → Turn D → OpenHub D → Type 0
 IsTurn s r m (Go grip) t = DeviceGoesOut s r m grip t
-IsTurn s r m (Moved made) t = Answers s r m (Moves (entries_made made)) t × IsPacked made
+IsTurn s r m (Moved made) t = Answers s r m (Moves made) t
 IsTurn s r m (Wait why) t = Answers s r m (Waits why) t × (t ≡ record s { moment = max s.moment m })
-IsTurn s r m (Over end made) t = Answers s r m (IsOver end (entries_made made)) t × IsPacked made
+IsTurn s r m (Over end made) t = Answers s r m (IsOver end made) t
 IsTurn s r m Absent t = Answers s r m IsAbsent t × (t ≡ record s { moment = max s.moment m })
 
 -- where the step places the run by the timeline, the set taken is closed, holds the base and fits,
@@ -96,7 +90,7 @@ abbrev pub PlansEarliest : {D : Type 0} → Configuration → RunId → Turn D �
 PlansEarliest s r (Go grip) = ⊤
 PlansEarliest s r (Moved made) =
     scheduler_of s.setting.mode ≡ Timeline
-    → (at : LinePlace) (m : Moment) → entries_made made ≡ Placed (run_no r) at m ∷ []
+    → (at : LinePlace) (m : Moment) → made ≡ Placed (run_no r) at m ∷ []
     → IsFittingSet s.setting (read_of s) r m (gap_set s.setting (read_of s) r m)
     × IsEarliestSet s.setting (read_of s) r m (gap_set s.setting (read_of s) r m)
 PlansEarliest s r (Wait why) = ⊤
@@ -110,12 +104,12 @@ carried_by grip = record { slip = grip.slip; task = grip.task }
 -- a grip that comes back is taken in: the step back, and the device is home again; or it is refused
 -- and nothing changes
 abbrev pub IsGiven : {D : Type 0} → OpenHub D → Gripped D Done → Moment
-    → Result Made (Gripped D Done × Stranger) → OpenHub D → Type 0
+    → Result (List Entry) (Gripped D Done × Stranger) → OpenHub D → Type 0
 IsGiven s grip m (Ok made) t =
     HubStep (hub_state_of s) (Give (carried_by grip) grip.stage.told m)
-    (Returned (Gave (entries_made made))) (hub_state_of t)
+    (Returned (Gave made)) (hub_state_of t)
     × (t.places ≡ slice_set s.places grip.slip.device.0 (Home grip.device))
-    × (t.tickets ≡ s.tickets) × IsPacked made
+    × (t.tickets ≡ s.tickets)
 IsGiven s grip m (Err refused) t =
     HubStep (hub_state_of s) (Give (carried_by grip) grip.stage.told m)
     (Returned (Refused refused.1)) (hub_state_of t)
@@ -135,12 +129,12 @@ IsProbed s d None t =
 
 -- the same for the detector's grip
 abbrev pub IsProbeGiven : {D : Type 0} → OpenHub D → Gripped D Done
-    → Result Made (Gripped D Done × Stranger) → OpenHub D → Type 0
+    → Result (List Entry) (Gripped D Done × Stranger) → OpenHub D → Type 0
 IsProbeGiven s grip (Ok made) t =
     HubStep (hub_state_of s) (GiveProbe (carried_by grip) grip.stage.told)
-    (Returned (Gave (entries_made made))) (hub_state_of t)
+    (Returned (Gave made)) (hub_state_of t)
     × (t.places ≡ slice_set s.places grip.slip.device.0 (Home grip.device))
-    × (t.tickets ≡ s.tickets) × IsPacked made
+    × (t.tickets ≡ s.tickets)
 IsProbeGiven s grip (Err refused) t =
     HubStep (hub_state_of s) (GiveProbe (carried_by grip) grip.stage.told)
     (Returned (Refused refused.1)) (hub_state_of t)

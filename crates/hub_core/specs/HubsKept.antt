@@ -1,30 +1,30 @@
 -- What the type of a hub keeps.
+use Rattle.device_gate.specs.Calls.{is_counted_up, probed}
 use Rattle.device_gate.specs.declared.gates.Place.TheVariants.{Home, Out}
 use Rattle.device_gate.specs.declared.gates.Place.{Place}
-use Rattle.device_gate.specs.Calls.{is_counted_up, probed}
 use Rattle.device_gate.specs.declared.slips.Slip.{Slip}
 use Rattle.device_gate.specs.declared.slips.Task.{Task}
 use Rattle.device_states.specs.Devices.{Shown}
 use Rattle.history_book.specs.Histories.{entries_of}
+use Rattle.history_book.specs.ReadHistories.{HistoryState}
 use Rattle.history_book.specs.Settings.{Setting}
 use Rattle.home_types.specs.Kinds.{has_value, kind_at}
-use Rattle.home_types.specs.Listed.{Listed}
 use Rattle.home_types.specs.Numbers.{DeviceId}
 use Rattle.home_types.specs.declared.numbers.DeviceNo.{DeviceNo}
-use Rattle.legal_days.specs.AccountedCalls.{told_calls}
-use Rattle.hub_core.specs.Homes.{CountsAreLow}
 use Rattle.hub_core.specs.Bounds.{most_entries, most_items}
+use Rattle.hub_core.specs.Homes.{CountsAreLow}
 use Rattle.hub_core.specs.HubCalls.{faults_told, probes_taken}
 use Rattle.hub_core.specs.HubSteps.{task_of}
-use Rattle.hub_core.specs.OpenHubs.{OpenHub, configuration_of, events_in, held_in, progress_at}
 use Rattle.hub_core.specs.KeptByModel.{IsKeptByModel}
 use Rattle.hub_core.specs.KeptOrders.{OrderIsBeside}
-use Rattle.history_book.specs.ReadHistories.{HistoryState}
+use Rattle.hub_core.specs.OpenHubs.{OpenHub, configuration_of, events_in, held_in, progress_at}
 use Rattle.hub_core.specs.declared.open_windows.ClosingLists.{ClosingLists}
 use Rattle.hub_core.specs.declared.open_windows.OpenWindow.TheInside.{Inside}
+use Rattle.legal_days.specs.AccountedCalls.{told_calls}
 use Rattle.lock_leasing.specs.Configurations.{Configuration, Grips, read_of}
 use Rattle.lock_leasing.specs.Waits.{grip_wait}
-use Rattle.std.specs.Prelude.{Bool, IsTrue, List, Option, Some, [], count_by, false, length, nat_lt, option_map, slice_get, suc, sum_by, true, ℕ, ◌+◌, ◌-◌, ◌<◌, ◌≡◌, ◌≤◌}
+use Rattle.std.specs.Prelude.{Bool, IsTrue, List, Option, Some, count_by, false, length, nat_lt, option_map, slice_get, suc, sum_by, true, ℕ, ◌+◌, ◌-◌, ◌<◌, ◌≡◌, ◌≤◌}
+use Rattle.window_order.specs.Leavings.{IsEmptyFor}
 
 -- how often the device was called up to now: its counts at the opening, and what the window made of
 -- them
@@ -88,10 +88,6 @@ pub record HubIsKeptBy (Kept : Configuration → ℕ → ℕ → (DeviceId → �
 -- .. in each model
 abbrev pub HubIsKept : {D : Type 0} → (D → Shown) → OpenHub D → Type 0
 HubIsKept shows s = HubIsKeptBy IsKeptByModel shows s
-
--- an empty list with so much room
-abbrev pub IsEmptyFor : {T : Type 0} → Listed T → ℕ → Type 0
-IsEmptyFor list n = (list.items ≡ []) × (n ≤ list.spare)
 
 -- a window has room for every entry of its history, and for every item and every device in the
 -- lists that its closing fills

@@ -17,7 +17,6 @@ pub mod OpenHubs
 pub mod OpeningRooms
 pub mod Openings
 pub mod PlannedPlaces
-pub mod PlansInTurn
 pub mod Restandings
 pub mod Steps
 pub mod WeakKept

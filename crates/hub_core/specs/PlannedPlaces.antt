@@ -1,25 +1,17 @@
 -- What a placing leaves in the scratch of a hub, and what the hub keeps of it.
-use Rattle.command_rules.specs.Rosters.{is_on}
+use Rattle.blocked_runs.specs.Marks.{BlockedState}
 use Rattle.history_book.specs.Gaps.{front_for, gap_set}
 use Rattle.history_book.specs.Plans.{planned_times}
-use Rattle.history_book.specs.Readings.{Planned}
 use Rattle.history_book.specs.Settings.{Setting, scheduler_of}
-use Rattle.home_types.specs.Limits.{most_devices}
-use Rattle.home_types.specs.Numbers.{DeviceId, LinePlace, Moment, RunId}
+use Rattle.home_types.specs.Numbers.{LinePlace, Moment, RunId}
 use Rattle.home_types.specs.declared.modes.Scheduler.TheVariants.{Timeline}
-use Rattle.home_types.specs.declared.commands.Command.{Command}
 use Rattle.hub_core.specs.BlockedMarks.{AreBlocked}
-use Rattle.blocked_runs.specs.Marks.{BlockedState}
 use Rattle.hub_core.specs.Bounds.{most_items}
-use Rattle.hub_core.specs.PlansInTurn.{planned_use}
 use Rattle.hub_core.specs.declared.decisions.Chosen.TheVariants.{Aborts, Absent, AnswersDown, Arrives, Commits, Drops, FailsAtEnd, HandsOut, Joins, Over, Revokes, Skips, Waits}
 use Rattle.hub_core.specs.declared.decisions.Chosen.{Chosen}
-use Rattle.window_order.specs.declared.planned_uses.PlannedUse.{PlannedUse}
 use Rattle.lock_leasing.specs.Configurations.{Configuration, read_of}
-use Rattle.std.specs.List.{list_any}
-use Rattle.std.specs.Prelude.{List, None, Option, Some, if◌then◌else◌, length, option_map, slice_get, ℕ, ⊤, ◌<◌, ◌≡◌, ◌≤◌}
-use Rattle.timeline_scheduler.specs.Scratches.{HoldsTimes, ScratchRoom, planned_in}
-use Rattle.timeline_scheduler.specs.declared.slots.Slot.{Slot}
+use Rattle.std.specs.Prelude.{None, length, ℕ, ⊤, ◌≡◌, ◌≤◌}
+use Rattle.timeline_scheduler.specs.Scratches.{HoldsTimes, ScratchRoom}
 
 -- the scratch is one for the devices of the home, and for the items that the line of a window with
 -- so many rounds of probes may have
@@ -62,20 +54,6 @@ HoldsChosen room s r m chosen = ((read_of s).run r).placed ≡ None → by_chose
     by_chosen (FailsAtEnd d) = ⊤
     by_chosen (Waits why) = ⊤
     by_chosen (HandsOut d purpose) = ⊤
-
--- these are the uses of each device in a run's plan
-abbrev pub AreUsesOf : List (Option PlannedUse) → List Planned → Type 0
-AreUsesOf uses planned =
-    (d : DeviceId) → d < most_devices → slice_get uses d ≡ Some (planned_use planned d)
-
--- the use of a device that is planned from and to these times
-abbrev pub use_between : Moment × Moment → PlannedUse
-use_between (from, to) = record { from = from; to = to }
-
--- the use of the device that the scratch holds for a run with these commands
-abbrev pub held_use : List Slot → List Command → DeviceId → Option PlannedUse
-held_use slots commands d =
-    if list_any (is_on d) commands then option_map use_between (planned_in slots d) else None
 
 -- what is kept of a hub besides its window, with so many rounds of probes: each run that is marked
 -- is blocked, and the scratch is for the home and the line

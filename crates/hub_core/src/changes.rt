@@ -2,13 +2,12 @@
 ghost use Rattle.std.specs.Prelude.{IfSome, IsSome, IsTrue, None, Some, [], false, if◌then◌else◌, max, not, option_map, true, ◌<◌, ◌||◌, ◌∷◌, ◌≡◌};
 ghost use Rattle.lock_leasing.specs.Configurations.{read_of};
 ghost use Rattle.hub_core.specs.Decisions.{told_choice};
-ghost use Rattle.hub_core.specs.HubCalls.{Answers, DeviceGoesOut, IsPacked, SameWindow};
+ghost use Rattle.hub_core.specs.HubCalls.{Answers, DeviceGoesOut, SameWindow};
 ghost use Rattle.hub_core.specs.OpenHubs.{configuration_of};
 ghost use Rattle.window_order.specs.KeptOrders.{is_first, left_by, noted_first};
 ghost use Rattle.hub_core.specs.KeptOrders.{MayLeave, MayNoteAnswer};
 ghost use Rattle.hub_core.specs.PlannedPlaces.{HoldsPlan};
 ghost use Rattle.hub_core.specs.Steps.{Absent, HandsOut, Moves, Over, Waits, choice_of};
-ghost use Rattle.history_book.specs.Histories.{entries_made};
 ghost use Rattle.history_book.specs.ReadHistories.{read_in, with_doom};
 ghost use Rattle.history_book.specs.Readings.{is_access, is_doomed, is_fine, is_told, pends};
 ghost use Rattle.history_book.specs.Settings.{is_weak};
@@ -18,37 +17,16 @@ ghost use Rattle.lock_leasing.specs.Tables.{view_when};
 ghost use Rattle.history_book.specs.declared.entries.End.TheVariants.{Aborted, Committed};
 ghost use Rattle.window_order.specs.TableChanges.{ChangesEach, doomed_lineage};
 
-use crate::causes::must_down;
 use crate::decisions::Chosen;
 use crate::known::DeviceProgress;
 use crate::open_windows::OpenWindow;
-use crate::plans::planned_uses;
 use device_gate::{Grip, Ready};
 use device_states::Device;
-use history_book::{Cause, End, Entry, Made, ReadHistory};
+use history_book::{Cause, End, Entry, Made, ReadHistory, must_down, one_made};
 use home_types::{Answer, DeviceNo, RunNo, Value};
 use lock_leasing::Purpose;
-use timeline_scheduler::Scratch;
+use timeline_scheduler::{Scratch, planned_uses};
 use window_order::{KeptOrder, note_of};
-
-/// No entries.
-pub(crate) const NONE_MADE: Made = Made {
-    a: None,
-    b: None,
-    c: None,
-};
-
-/// One entry.
-pub(crate) fn one_made(entry: Entry) -> Made
-    ensures entries { entries_made result ≡ entry ∷ [] }
-    ensures packed { IsPacked result }
-{
-    Made {
-        a: Some(entry),
-        b: None,
-        c: None,
-    }
-}
 
 impl<D: Device> OpenWindow<D> {
     /// The last moment is this one, or the one before where that is later.
@@ -62,8 +40,7 @@ impl<D: Device> OpenWindow<D> {
     pub(crate) fn arrive(&mut self, r: RunNo, moment: u64) -> Made
         requires { choice_of (configuration_of self.old) r.0 moment
             ≡ told_choice r.0 (max self.old.moment moment) Chosen.Arrives }
-        ensures answer { Answers self.old r.0 moment (Moves (entries_made result)) self.new }
-        ensures packed { IsPacked result }
+        ensures answer { Answers self.old r.0 moment (Moves result) self.new }
         ensures window { SameWindow self.old self.new }
     {
         self.moment = self.moment.max(moment);
@@ -79,8 +56,7 @@ impl<D: Device> OpenWindow<D> {
             ≡ told_choice r.0 (max self.old.moment moment) (Chosen.Joins at) }
         requires planned { HoldsPlan scratch.now (configuration_of self.old) r.0
             (max self.old.moment moment) at }
-        ensures answer { Answers self.old r.0 moment (Moves (entries_made result)) self.new }
-        ensures packed { IsPacked result }
+        ensures answer { Answers self.old r.0 moment (Moves result) self.new }
         ensures window { SameWindow self.old self.new }
     {
         if self.history.is_weak() {
@@ -98,8 +74,7 @@ impl<D: Device> OpenWindow<D> {
             ≡ told_choice r.0 (max self.old.moment moment) (Chosen.Joins at) }
         requires planned { HoldsPlan scratch.now (configuration_of self.old) r.0
             (max self.old.moment moment) at }
-        ensures answer { Answers self.old r.0 moment (Moves (entries_made result)) self.new }
-        ensures packed { IsPacked result }
+        ensures answer { Answers self.old r.0 moment (Moves result) self.new }
         ensures window { SameWindow self.old self.new }
     {
         self.moment = self.moment.max(moment);
@@ -116,8 +91,7 @@ impl<D: Device> OpenWindow<D> {
     pub(crate) fn drop_undo(&mut self, r: RunNo, moment: u64, d: DeviceNo) -> Made
         requires { choice_of (configuration_of self.old) r.0 moment
             ≡ told_choice r.0 (max self.old.moment moment) (Chosen.Drops d) }
-        ensures answer { Answers self.old r.0 moment (Moves (entries_made result)) self.new }
-        ensures packed { IsPacked result }
+        ensures answer { Answers self.old r.0 moment (Moves result) self.new }
         ensures window { SameWindow self.old self.new }
     {
         self.moment = self.moment.max(moment);
@@ -132,8 +106,7 @@ impl<D: Device> OpenWindow<D> {
     pub(crate) fn answer_down(&mut self, r: RunNo, moment: u64, k: u32, must: bool) -> Made
         requires { choice_of (configuration_of self.old) r.0 moment
             ≡ told_choice r.0 (max self.old.moment moment) (Chosen.AnswersDown k must) }
-        ensures answer { Answers self.old r.0 moment (Moves (entries_made result)) self.new }
-        ensures packed { IsPacked result }
+        ensures answer { Answers self.old r.0 moment (Moves result) self.new }
         ensures window { SameWindow self.old self.new }
     {
         let d = self.history.command(r, k).device;
@@ -155,8 +128,7 @@ impl<D: Device> OpenWindow<D> {
     pub(crate) fn skip(&mut self, r: RunNo, moment: u64, k: u32) -> Made
         requires { choice_of (configuration_of self.old) r.0 moment
             ≡ told_choice r.0 (max self.old.moment moment) (Chosen.Skips k) }
-        ensures answer { Answers self.old r.0 moment (Moves (entries_made result)) self.new }
-        ensures packed { IsPacked result }
+        ensures answer { Answers self.old r.0 moment (Moves result) self.new }
         ensures window { SameWindow self.old self.new }
     {
         let d = self.history.command(r, k).device;
@@ -172,8 +144,7 @@ impl<D: Device> OpenWindow<D> {
     pub(crate) fn fail_at_end(&mut self, r: RunNo, moment: u64, d: DeviceNo) -> Made
         requires { choice_of (configuration_of self.old) r.0 moment
             ≡ told_choice r.0 (max self.old.moment moment) (Chosen.FailsAtEnd d) }
-        ensures answer { Answers self.old r.0 moment (Moves (entries_made result)) self.new }
-        ensures packed { IsPacked result }
+        ensures answer { Answers self.old r.0 moment (Moves result) self.new }
         ensures window { SameWindow self.old self.new }
     {
         self.moment = self.moment.max(moment);
@@ -196,8 +167,7 @@ impl<D: Device> OpenWindow<D> {
     ) -> Made
         requires { choice_of (configuration_of self.old) r.0 moment
             ≡ told_choice r.0 (max self.old.moment moment) (Chosen.Revokes borrower d deadline) }
-        ensures answer { Answers self.old r.0 moment (Moves (entries_made result)) self.new }
-        ensures packed { IsPacked result }
+        ensures answer { Answers self.old r.0 moment (Moves result) self.new }
         ensures window { SameWindow self.old self.new }
     {
         let out = self.grip_of(borrower);
@@ -218,9 +188,7 @@ impl<D: Device> OpenWindow<D> {
     pub(crate) fn commit(&mut self, r: RunNo, moment: u64) -> Made
         requires { choice_of (configuration_of self.old) r.0 moment
             ≡ told_choice r.0 (max self.old.moment moment) Chosen.Commits }
-        ensures answer { Answers self.old r.0 moment
-            (Over Committed (entries_made result)) self.new }
-        ensures packed { IsPacked result }
+        ensures answer { Answers self.old r.0 moment (Over Committed result) self.new }
         ensures window { SameWindow self.old self.new }
     {
         self.moment = self.moment.max(moment);
@@ -234,9 +202,7 @@ impl<D: Device> OpenWindow<D> {
     pub(crate) fn abort(&mut self, r: RunNo, moment: u64, cause: Cause) -> Made
         requires { choice_of (configuration_of self.old) r.0 moment
             ≡ told_choice r.0 (max self.old.moment moment) (Chosen.Aborts cause) }
-        ensures answer { Answers self.old r.0 moment
-            (Over (Aborted cause) (entries_made result)) self.new }
-        ensures packed { IsPacked result }
+        ensures answer { Answers self.old r.0 moment (Over (Aborted cause) result) self.new }
         ensures window { SameWindow self.old self.new }
     {
         self.order.table.kept();

@@ -1,8 +1,8 @@
 //! Closing a window that is quiet: the home, and the window's record.
-ghost use Rattle.std.specs.Prelude.{◌≡◌, ◌≤◌, ◌+◌, None, [], false, length, map, true, ℕ};
-ghost use Rattle.hub_core.specs.ClosedHomes.{HaveRisen, NoneFell, all_known_left, stand_left};
+ghost use Rattle.std.specs.Prelude.{None, [], false, length, map, true, ℕ, ◌+◌, ◌≡◌, ◌≤◌};
+ghost use Rattle.hub_core.specs.ClosedHomes.{HaveRisen, NoneFell, all_known_left};
+ghost use Rattle.window_order.specs.Leavings.{IsEmptyFor, stand_left};
 ghost use Rattle.hub_core.specs.HubCalls.{WindowIsClosed};
-ghost use Rattle.hub_core.specs.HubsKept.{IsEmptyFor};
 ghost use Rattle.hub_core.specs.OpenHubs.{configuration_of};
 ghost use Rattle.hub_core.specs.Steps.{not_quiet};
 ghost use Rattle.serial_line.specs.Marks.{items_of};
@@ -16,6 +16,7 @@ use history_book::WindowRecord;
 use home_types::{DeviceNo, Item, List, Stand, World};
 use lineage_table::Table;
 use serial_line::Line;
+use window_order::{items_in, stands_in};
 
 /// By how much the counts of each device rose in a window.
 #[derive(Drop)]
@@ -120,36 +121,6 @@ fn stands_known(empty: List<Stand>, table: &Table, known: &List<DeviceProgress>)
         let pushed = stands.push(Stand {
             value: known.get(at as u64).unwrap().held,
             up: table.is_up(DeviceNo(at as u16)),
-        });
-        pushed.unwrap();
-    }
-    stands
-}
-
-/// The items of the line, in a list that has room for them.
-fn items_in(empty: List<Item>, line: &Line) -> List<Item>
-    requires room { IsEmptyFor empty (length line.now.marks) }
-    ensures { result.items ≡ items_of line.now.marks }
-{
-    let mut items = empty;
-    'items: for at in 0..line.len() {
-        let pushed = items.push(line.get(at).unwrap());
-        pushed.unwrap();
-    }
-    items
-}
-
-/// How the lineages leave their devices, in a list that has room for them.
-fn stands_in(empty: List<Stand>, table: &Table) -> List<Stand>
-    requires room { IsEmptyFor empty (length table.now) }
-    ensures { result.items ≡ map stand_left table.now }
-{
-    let mut stands = empty;
-    'devices: for at in 0..table.devices() {
-        let device = DeviceNo(at as u16);
-        let pushed = stands.push(Stand {
-            value: table.stand(device),
-            up: table.is_up(device),
         });
         pushed.unwrap();
     }

@@ -1,7 +1,6 @@
 //! The runs that a step may have freed are blocked no more.
 ghost use Rattle.std.specs.Prelude.{false, not, option_to_list, true, ◌&&◌, ◌≡◌, ◌≢◌, ◌⊎◌};
 ghost use Rattle.command_rules.specs.Rosters.{touches};
-ghost use Rattle.history_book.specs.Histories.{entries_made};
 ghost use Rattle.history_book.specs.Settings.{is_strict};
 ghost use Rattle.hub_core.specs.BlockedMarks.{AreFreedWeakly, MayBeMarked, is_waiting};
 ghost use Rattle.blocked_runs.specs.Marks.{AreLeft};
@@ -75,8 +74,8 @@ pub(crate) fn free_back<D: Device>(
     made: &Made,
 )
     ensures { AreLeft blocked.old blocked.new
-        (λ e. IsAnsweredStill (configuration_of window.now) d.0 (entries_made made.now)
-        ⊎ ((e ≢ d.0) × (list_all (is_quiet window.now.setting e) (entries_made made.now) ≡ true))) }
+        (λ e. IsAnsweredStill (configuration_of window.now) d.0 made.now
+        ⊎ ((e ≢ d.0) × (list_all (is_quiet window.now.setting e) made.now ≡ true))) }
 {
     if window.is_answered_still(d, made) {
         return;
@@ -90,7 +89,7 @@ pub(crate) fn free_back<D: Device>(
 #[inline(always)]
 pub(crate) fn free_made<D: Device>(blocked: &mut BlockedRuns, window: &OpenWindow<D>, made: &Made)
     ensures { AreLeft blocked.old blocked.new (λ d. EndNoWait window.now.setting
-        (read_of (configuration_of window.now)) d (entries_made made.now)) }
+        (read_of (configuration_of window.now)) d made.now) }
 {
     if window.is_placed_last(made) {
         return;
@@ -102,7 +101,7 @@ pub(crate) fn free_made<D: Device>(blocked: &mut BlockedRuns, window: &OpenWindo
 #[inline(always)]
 fn free_each(blocked: &mut BlockedRuns, history: &ReadHistory, made: &Made)
     ensures { AreLeft blocked.old blocked.new
-        (λ d. list_all (is_quiet history.now.setting d) (entries_made made.now) ≡ true) }
+        (λ d. list_all (is_quiet history.now.setting d) made.now ≡ true) }
 {
     free_some(blocked, history, made.a);
     free_some(blocked, history, made.b);

@@ -8,8 +8,8 @@ ghost use Rattle.routine_reader.specs.Scripts.{plain_script};
 ghost use Rattle.routine_reader.specs.Sound.{IsSound};
 
 use device_states::{Bench, Device};
-use home_types::{DeviceNo, Kind, List, NoMemory, Stand, World};
-use routine_reader::Script;
+use home_types::{DeviceNo, Kind, List, NoMemory, World};
+use routine_reader::{Script, script_kinds, start_world};
 use std::alloc::Global;
 use std::marker::Model;
 
@@ -130,33 +130,4 @@ fn build_devices<B: Bench>(
         devices.push(device)?;
     }
     Ok(devices)
-}
-
-/// The state of the home before the first window: every device up at its start.
-fn start_world(alloc: Global, script: &Script) -> Result<World, NoMemory>
-    ensures { IfOk result (λ world. world.devices.items ≡ start_home script.now) }
-{
-    let mut devices = List::new(alloc);
-    'texts: for text in script.devices.as_slice() {
-        devices.push(Stand {
-            value: text.start,
-            up: true,
-        })?;
-    }
-    Ok(World { devices })
-}
-
-/// The kinds of the script's devices, for the journal of a home.
-///
-/// Answers `NoMemory` where there is none to be had.
-pub fn script_kinds(alloc: Global, script: &Script) -> Result<List<Kind>, NoMemory>
-    requires sound { IsSound (plain_script script.now) }
-    ensures kinds { IfOk result (λ kinds. kinds.items ≡ kinds_of script.now) }
-    ensures few { IfOk result (λ kinds. length kinds.items ≤ most_devices) }
-{
-    let mut kinds = List::new(alloc);
-    'texts: for text in script.devices.as_slice() {
-        kinds.push(text.kind)?;
-    }
-    Ok(kinds)
 }

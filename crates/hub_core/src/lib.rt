@@ -3,7 +3,6 @@
 #![tactic(auto)]
 
 mod away;
-mod causes;
 mod changes;
 mod close_calls;
 mod decisions;
@@ -18,7 +17,6 @@ mod lenders;
 mod open_calls;
 mod open_windows;
 mod placings;
-mod plans;
 mod probe_calls;
 pub mod refusals;
 mod restandings;
@@ -31,8 +29,9 @@ pub mod waits;
 mod weak_steps;
 
 pub use device_gate::{Done, Grip, Ready, Slip, Stranger, Task, Told};
-pub use homes::{Home, script_kinds};
+pub use homes::Home;
 pub use hubs::Hub;
 pub use refusals::NotQuiet;
+pub use routine_reader::script_kinds;
 pub use turns::Turn;
 pub use waits::Why;

@@ -235,7 +235,7 @@ impl<D: Device> Home<D> {
             (λ state. state.hands.items ≡ replicate (length roster.now.runs.items) None) }
     {
         let runs = roster.runs.len();
-        let book = book_for(alloc, bounds.entries)?;
+        let book = Book::with_room(alloc, bounds.entries)?;
         let order = match KeptOrder::open(alloc, &self.world, roster, bounds.items) {
             Ok(order) => order,
             Err(NoMemory) => {
@@ -318,15 +318,6 @@ fn bounds_of(runs: u64, devices: u64, rounds: u32) -> Bounds
         entries: ENTRIES_OF_A_RUN * runs + events,
         items: runs + events,
     }
-}
-
-/// Takes the memory of a history of so many entries.
-fn book_for(alloc: Global, entries: u64) -> Result<Book, NoMemory>
-    ensures { IfOk result (λ book. IsRoomFor book entries) }
-{
-    let mut book = Book::new(alloc);
-    book.reserve(entries)?;
-    Ok(book)
 }
 
 /// None of so many runs holds a grip.

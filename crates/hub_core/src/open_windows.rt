@@ -1,7 +1,6 @@
 //! An open window: its parts, and what is asked of them.
 ghost use Rattle.std.specs.Prelude.{IsTrue, None, false, length, option_map, ℕ, ◌-◌, ◌<◌, ◌↔◌, ◌≡◌};
 ghost use Rattle.command_rules.specs.Rosters.{runs_of};
-ghost use Rattle.history_book.specs.Histories.{entries_made};
 ghost use Rattle.history_book.specs.Settings.{is_weak};
 ghost use Rattle.hub_core.specs.BlockedRuns.{IsPlacedLast, next_device};
 ghost use Rattle.hub_core.specs.HubsKept.{HubIsKept};
@@ -92,7 +91,7 @@ impl<D: Device> OpenWindow<D> {
     #[inline(always)]
     pub(crate) fn is_placed_last(&self, made: &Made) -> bool
         ensures { IsTrue result
-            → IsPlacedLast (read_of (configuration_of self.now)) (entries_made made.now) }
+            → IsPlacedLast (read_of (configuration_of self.now)) made.now }
     {
         match *made {
             Made {
@@ -153,7 +152,7 @@ impl<D: Device> OpenWindow<D> {
     #[inline(always)]
     pub(crate) fn is_answered_still(&self, d: DeviceNo, made: &Made) -> bool
         ensures { IsTrue result
-            → IsAnsweredStill (configuration_of self.now) d.0 (entries_made made.now) }
+            → IsAnsweredStill (configuration_of self.now) d.0 made.now }
     {
         let Made {
             a: Some(Entry::Did(r, k, _)),

@@ -8,13 +8,12 @@ ghost use Rattle.hub_core.specs.OpenHubs.{configuration_of};
 ghost use Rattle.hub_core.specs.Steps.{may_probe, restored};
 ghost use Rattle.lock_leasing.specs.Configurations.{read_of};
 
-use crate::changes::{NONE_MADE, one_made};
 use crate::failures::{doom_lost, note_fall, note_rise};
 use crate::known::DeviceProgress;
 use crate::open_windows::OpenWindow;
 use device_gate::{Done, Grip, Ready, Stranger, Task};
 use device_states::Device;
-use history_book::Made;
+use history_book::{Made, NONE_MADE, one_made};
 use home_types::{DeviceNo, Value};
 use lock_leasing::Purpose;
 

@@ -9,10 +9,10 @@ ghost use Rattle.routine_reader.specs.Rosters.{kinds_of};
 ghost use Rattle.routine_reader.specs.Scripts.{plain_script};
 ghost use Rattle.routine_reader.specs.Sound.{IsSound};
 
-use crate::homes::{Home, script_kinds};
+use crate::homes::Home;
 use device_states::{Bench, Device};
 use home_types::{DeviceNo, List, NoMemory, Stand, World};
-use routine_reader::{DeviceText, Script};
+use routine_reader::{DeviceText, Script, script_kinds};
 use std::alloc::Global;
 
 impl<D: Device> Home<D> {

@@ -8,13 +8,12 @@ ghost use Rattle.lock_leasing.specs.Tables.{view_when};
 ghost use Rattle.hub_core.specs.HubCalls.{IsGiven, SameWindow};
 ghost use Rattle.hub_core.specs.OpenHubs.{progress_at};
 
-use crate::causes::{died_by, refuted};
-use crate::changes::{doom_for, note_answer, one_made};
+use crate::changes::{doom_for, note_answer};
 use crate::failures::note_fall;
 use crate::open_windows::OpenWindow;
 use device_gate::{Done, Grip};
 use device_states::Device;
-use history_book::{Entry, Made};
+use history_book::{Entry, Made, died_by, one_made, refuted};
 use home_types::{Answer, RunNo, View};
 use lock_leasing::Purpose;
 

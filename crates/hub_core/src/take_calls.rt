@@ -6,13 +6,12 @@ ghost use Rattle.hub_core.specs.OpenHubs.{configuration_of};
 ghost use Rattle.hub_core.specs.PlannedPlaces.{HasSameRoom, HoldsChosen};
 ghost use Rattle.hub_core.specs.Steps.{choice_of};
 
-use crate::changes::NONE_MADE;
 use crate::decisions::Chosen;
 use crate::open_windows::OpenWindow;
 use crate::turns::Turn;
 use crate::waits::Why;
 use device_states::Device;
-use history_book::{End, Made};
+use history_book::{End, Made, NONE_MADE};
 use home_types::RunNo;
 use timeline_scheduler::Scratch;
 

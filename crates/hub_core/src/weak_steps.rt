@@ -1,22 +1,20 @@
 //! The steps of runs under the weak model, where they are others than in the models with an order.
-ghost use Rattle.std.specs.Prelude.{◌≡◌, false, is_some, max, true, ℕ};
+ghost use Rattle.std.specs.Prelude.{false, is_some, max, true, ℕ, ◌≡◌};
 ghost use Rattle.command_rules.specs.Rosters.{is_run};
-ghost use Rattle.history_book.specs.Histories.{entries_made};
 ghost use Rattle.history_book.specs.Progress.{progress_of};
 ghost use Rattle.history_book.specs.Settings.{is_weak};
 ghost use Rattle.hub_core.specs.Decisions.{told_choice};
-ghost use Rattle.hub_core.specs.HubCalls.{Answers, IsPacked, SameWindow};
+ghost use Rattle.hub_core.specs.HubCalls.{Answers, SameWindow};
 ghost use Rattle.hub_core.specs.OpenHubs.{configuration_of};
 ghost use Rattle.hub_core.specs.Steps.{Moves, choice_of};
 ghost use Rattle.hub_core.specs.WeakSteps.{weak_rest};
 ghost use Rattle.lock_leasing.specs.Configurations.{point_of, read_of};
 
-use crate::changes::one_made;
 use crate::decisions::Chosen;
 use crate::open_windows::OpenWindow;
 use crate::waits::Why;
 use device_states::Device;
-use history_book::{Entry, Made, RunProgress};
+use history_book::{Entry, Made, RunProgress, one_made};
 use home_types::{Item, RunNo};
 use lock_leasing::Purpose;
 
@@ -56,8 +54,7 @@ impl<D: Device> OpenWindow<D> {
         requires weak { is_weak self.old.setting.mode ≡ true }
         requires chosen { choice_of (configuration_of self.old) r.0 moment
             ≡ told_choice r.0 (max self.old.moment moment) (Chosen.Joins at) }
-        ensures answer { Answers self.old r.0 moment (Moves (entries_made result)) self.new }
-        ensures packed { IsPacked result }
+        ensures answer { Answers self.old r.0 moment (Moves result) self.new }
         ensures window { SameWindow self.old self.new }
     {
         self.moment = self.moment.max(moment);

@@ -6,7 +6,7 @@ use Rattle.device_gate.specs.declared.gates.Place.{Place}
 use Rattle.device_gate.specs.declared.grips.Ready.{Ready}
 use Rattle.device_gate.specs.declared.slips.Slip.{Slip}
 use Rattle.device_gate.specs.declared.slips.Task.{Task}
-use Rattle.hub_core.proofs.steps.HubAnswers.{took_probe}
+use Rattle.hub_core.proofs.Cited.{took_probe}
 use Rattle.hub_core.specs.HubCalls.{DeviceGoesOut, IsProbed}
 use Rattle.hub_core.specs.OpenHubs.{OpenHub, hub_state_of}
 use Rattle.hub_table.specs.Tables.{AreInPlace, GripsAreHeld, PlacesAreEmpty, SlipAndTask, lent_by, lent_in_place, what_is_held, what_is_lent}

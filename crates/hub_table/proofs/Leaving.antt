@@ -1,5 +1,5 @@
 -- Grips that leave a table from the last place on, and places that hold nothing.
-use Rattle.device_gate.proofs.Places.{none_out}
+use Rattle.device_gate.proofs.Cited.{none_out}
 use Rattle.device_gate.specs.Grips.{Gripped}
 use Rattle.device_gate.specs.Places.{IsKept, all_home}
 use Rattle.device_gate.specs.declared.gates.Place.TheVariants.{Home}

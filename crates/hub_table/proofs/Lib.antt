@@ -1,3 +1,3 @@
-pub mod Answering
-pub mod Holding
-pub mod Leaving
+mod Answering
+mod Holding
+mod Leaving

@@ -8,12 +8,12 @@ use Rattle.device_gate.specs.declared.slips.Task.TheVariants.{Drive, Probe, Sens
 use Rattle.device_gate.specs.declared.slips.Told.{Told}
 use Rattle.device_gate.specs.declared.slips.Told.TheVariants.{Died, Sensed, Worked}
 use Rattle.handed_devices.specs.declared.devices.HandedDevice.{HandedDevice}
-use Rattle.history_book.specs.declared.entries.Made.{Made}
+use Rattle.history_book.specs.declared.entries.Entry.{Entry}
 use Rattle.hub_core.specs.OpenHubs.{OpenHub}
 use Rattle.hub_table.specs.Tables.{IsBack}
 use Rattle.hub_table.specs.declared.told.NotTaken.{NotTaken}
 use Rattle.hub_table.specs.declared.told.NotTaken.TheVariants.{Differs, NotOut, OtherKind}
-use Rattle.std.specs.Prelude.{None, Option, Some, if◌then◌else◌, ℕ, ◌==◌, ◌≡◌}
+use Rattle.std.specs.Prelude.{List, None, Option, Some, if◌then◌else◌, ℕ, ◌==◌, ◌≡◌}
 
 -- what is wrong with an answer to the task that the device may not tell: a sense has found another
 -- value, all else is of another kind
@@ -33,7 +33,7 @@ refusal (Some out) ticket told =
     else Some NotOut
 
 -- the device d was out with this ticket, told this, and is back
-pub record HasComeBack (s : OpenHub HandedDevice) (d ticket : ℕ) (told : Told) (m : ℕ) (made : Made)
+pub record HasComeBack (s : OpenHub HandedDevice) (d ticket : ℕ) (told : Told) (m : ℕ) (made : List Entry)
     (t : OpenHub HandedDevice) : Type 0 where
   pub done : Gripped HandedDevice Done
   pub device : done.slip.device.0 ≡ d

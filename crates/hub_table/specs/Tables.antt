@@ -6,7 +6,7 @@ use Rattle.device_gate.specs.declared.grips.Done.{Done}
 use Rattle.device_gate.specs.declared.grips.Ready.{Ready}
 use Rattle.device_gate.specs.declared.slips.Slip.{Slip}
 use Rattle.device_gate.specs.declared.slips.Task.{Task}
-use Rattle.history_book.specs.declared.entries.Made.{Made}
+use Rattle.history_book.specs.declared.entries.Entry.{Entry}
 use Rattle.hub_core.specs.HubCalls.{IsGiven, IsProbeGiven}
 use Rattle.hub_core.specs.OpenHubs.{OpenHub}
 use Rattle.hub_core.specs.declared.turns.Turn.TheVariants.{Absent, Go, Moved, Over, Wait}
@@ -50,7 +50,7 @@ pub record GripsAreHeld {D : Type 0} (places : List (Place D))
   pub own : AreInPlace grips
 
 -- the grip came back to the hub: a run's, or the detector's
-abbrev pub IsBack : {D : Type 0} → OpenHub D → Gripped D Done → ℕ → Made → OpenHub D → Type 0
+abbrev pub IsBack : {D : Type 0} → OpenHub D → Gripped D Done → ℕ → List Entry → OpenHub D → Type 0
 IsBack s done m made t = IsGiven s done m (Ok made) t ⊎ IsProbeGiven s done (Ok made) t
 
 -- what is told of a turn: of a device that goes out its slip and its task

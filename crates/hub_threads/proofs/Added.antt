@@ -6,11 +6,10 @@ use Rattle.device_gate.specs.declared.grips.Done.{Done}
 use Rattle.device_gate.specs.declared.grips.Ready.{Ready}
 use Rattle.device_gate.specs.declared.slips.Slip.{Slip}
 use Rattle.device_gate.specs.declared.slips.Told.{Told}
-use Rattle.history_book.specs.Histories.{entries_made, kept_by}
+use Rattle.history_book.specs.Histories.{kept_by}
 use Rattle.history_book.specs.declared.entries.Entry.{Entry}
 use Rattle.history_book.specs.declared.entries.Kept.{Kept}
-use Rattle.history_book.specs.declared.entries.Made.{Made}
-use Rattle.hub_core.proofs.steps.HubAnswers.{gave_back, gave_probe_back, took_after, took_choice, took_probe}
+use Rattle.hub_core.proofs.Cited.{gave_back, gave_probe_back, took_after, took_choice, took_probe}
 use Rattle.hub_core.specs.HubCalls.{IsGiven, IsProbeGiven, IsProbed, IsTurn, carried_by}
 use Rattle.hub_core.specs.HubSteps.{Carried, Chose, Gave, Give, GiveProbe, HubState, HubStep, Returned, Take, give_if, is_kept, same_carried, same_slip, same_task}
 use Rattle.hub_core.specs.OpenHubs.{OpenHub, carried_in, configuration_of, grip_in, hub_state_of, progress_at}
@@ -23,7 +22,7 @@ use Rattle.std.proofs.Common.{ap, arith, refl, subst, sym, ◌∙◌}
 use Rattle.std.proofs.lemmas.Grind.{common_steps}
 use Rattle.std.proofs.lemmas.List.{append-nil, length-append, length-map}
 use Rattle.std.specs.Prelude.{Bool, List, None, Ok, Option, Some, [], false, if◌then◌else◌, length, max, nat_lt, option_map, slice_get, true, unwrap_or, ℕ, ◌&&◌, ◌++◌, ◌+◌, ◌==◌, ◌≡◌, ◌≤◌}
-use Rattle.window_order.proofs.Runs.{both}
+use Rattle.window_order.proofs.Cited.{both}
 
 -- the step has added these entries of this maker, and this is the last moment then
 pub record Adds {D : Type 0} (s : OpenHub D) (maker : ℕ) (entries : List Entry) (moment : ℕ) (t : OpenHub D) : Type 0 where
@@ -78,9 +77,9 @@ some_slip = record { ticket = 0; device = record { 0 = 0 }; maker = 0; stood = 0
 
 pub turn_adds : {D : Type 0} (s t : OpenHub D) (r m : ℕ) (turn : Turn D) → IsTurn s r m turn t → Adds s r (entries_told turn) (max s.moment m) t
 turn_adds s t r m (Go grip) is = took_adds s t r m grip.slip (HandsOut grip.slip.device.0 is.purpose) is.step
-turn_adds s t r m (Moved made) is = took_adds s t r m some_slip (Moves (entries_made made)) (is.0.step some_slip)
+turn_adds s t r m (Moved made) is = took_adds s t r m some_slip (Moves made) (is.step some_slip)
 turn_adds s t r m (Wait why) is = took_adds s t r m some_slip (Waits why) (is.0.step some_slip)
-turn_adds s t r m (Over end made) is = took_adds s t r m some_slip (IsOver end (entries_made made)) (is.0.step some_slip)
+turn_adds s t r m (Over end made) is = took_adds s t r m some_slip (IsOver end made) (is.step some_slip)
 turn_adds s t r m Absent is = took_adds s t r m some_slip IsAbsent (is.0.step some_slip)
 
 -- Grips that come back
@@ -154,24 +153,24 @@ gave_probe_adds s t told result entries step =
     }
 
 -- the entries of a step back are those of some grip that is out
-pub given_entries_are : {D : Type 0} (s t : OpenHub D) (grip : Gripped D Done) (m : ℕ) (made : Made) → IsGiven s grip m (Ok made) t
-    → (out : Grip) × (entries_made made ≡ give_entries s.setting (read_of (configuration_of s)) grip.slip.device.0 out grip.stage.told)
-given_entries_are s t grip m made is = let back = gave_entries s t (carried_by grip) grip.stage.told m (entries_made made) is.0 in (back.0.grip, back.1)
+pub given_entries_are : {D : Type 0} (s t : OpenHub D) (grip : Gripped D Done) (m : ℕ) (made : List Entry) → IsGiven s grip m (Ok made) t
+    → (out : Grip) × (made ≡ give_entries s.setting (read_of (configuration_of s)) grip.slip.device.0 out grip.stage.told)
+given_entries_are s t grip m made is = let back = gave_entries s t (carried_by grip) grip.stage.told m made is.0 in (back.0.grip, back.1)
 
-pub probe_given_entries_are : {D : Type 0} (s t : OpenHub D) (grip : Gripped D Done) (made : Made) → IsProbeGiven s grip (Ok made) t
-    → (out : Grip) × (entries_made made ≡ give_entries s.setting (read_of (configuration_of s)) grip.slip.device.0 out grip.stage.told)
-probe_given_entries_are s t grip made is = let back = gave_probe_entries s t (carried_by grip) grip.stage.told (entries_made made) is.0 in (back.0.grip, back.2)
+pub probe_given_entries_are : {D : Type 0} (s t : OpenHub D) (grip : Gripped D Done) (made : List Entry) → IsProbeGiven s grip (Ok made) t
+    → (out : Grip) × (made ≡ give_entries s.setting (read_of (configuration_of s)) grip.slip.device.0 out grip.stage.told)
+probe_given_entries_are s t grip made is = let back = gave_probe_entries s t (carried_by grip) grip.stage.told made is.0 in (back.0.grip, back.2)
 
 -- what a grip that comes back adds
-pub given_adds : {D : Type 0} (s t : OpenHub D) (grip : Gripped D Done) (m : ℕ) (made : Made) → IsGiven s grip m (Ok made) t → Adds s grip.slip.maker (entries_made made) t.moment t
-given_adds s t grip m made is = record { history = (gave_adds s t (carried_by grip) grip.stage.told m (entries_made made) is.0).history; moment_is = refl }
+pub given_adds : {D : Type 0} (s t : OpenHub D) (grip : Gripped D Done) (m : ℕ) (made : List Entry) → IsGiven s grip m (Ok made) t → Adds s grip.slip.maker made t.moment t
+given_adds s t grip m made is = record { history = (gave_adds s t (carried_by grip) grip.stage.told m made is.0).history; moment_is = refl }
 
-pub probe_given_adds : {D : Type 0} (s t : OpenHub D) (grip : Gripped D Done) (made : Made) → IsProbeGiven s grip (Ok made) t → Adds s 0 (entries_made made) s.moment t
-probe_given_adds s t grip made is = gave_probe_adds s t (carried_by grip) grip.stage.told (entries_made made) is.0
+pub probe_given_adds : {D : Type 0} (s t : OpenHub D) (grip : Gripped D Done) (made : List Entry) → IsProbeGiven s grip (Ok made) t → Adds s 0 made s.moment t
+probe_given_adds s t grip made is = gave_probe_adds s t (carried_by grip) grip.stage.told made is.0
 
 -- the last moment after a grip came back at this one
-pub given_moment : {D : Type 0} (s t : OpenHub D) (grip : Gripped D Done) (m latest : ℕ) (made : Made) → IsGiven s grip m (Ok made) t → s.moment ≤ latest → m ≤ latest → t.moment ≤ latest
-given_moment s t grip m latest made is was now = let at = (gave_adds s t (carried_by grip) grip.stage.told m (entries_made made) is.0).moment_is in subst (λ k. k ≤ latest) (sym at) (omega (arith, was, now))
+pub given_moment : {D : Type 0} (s t : OpenHub D) (grip : Gripped D Done) (m latest : ℕ) (made : List Entry) → IsGiven s grip m (Ok made) t → s.moment ≤ latest → m ≤ latest → t.moment ≤ latest
+given_moment s t grip m latest made is was now = let at = (gave_adds s t (carried_by grip) grip.stage.told m made is.0).moment_is in subst (λ k. k ≤ latest) (sym at) (omega (arith, was, now))
 
 -- Probes that go out
 

@@ -5,8 +5,7 @@ use Rattle.grip_seats.specs.Desks.{DeskName, DeskState}
 use Rattle.device_gate.specs.declared.grips.Done.{Done}
 use Rattle.device_gate.specs.declared.grips.Ready.{Ready}
 use Rattle.history_book.specs.declared.entries.Entry.{Entry}
-use Rattle.history_book.specs.declared.entries.Made.{Made}
-use Rattle.hub_core.proofs.waiting.Sleepers.{sleepers_later}
+use Rattle.hub_core.proofs.Cited.{sleepers_later}
 use Rattle.blocked_runs.specs.RunBits.{has_run}
 use Rattle.hub_core.specs.HubCalls.{IsGiven, IsProbeGiven, IsProbed, IsTurn, SameWindow}
 use Rattle.hub_core.specs.OpenHubs.{OpenHub, configuration_of}
@@ -23,7 +22,6 @@ use Rattle.hub_threads.specs.Passes.{Lent, out_after}
 use Rattle.hub_threads.specs.Sleepers.{SleepersAreBlocked}
 use Rattle.lock_leasing.specs.Configurations.{Configuration}
 use Rattle.std.proofs.Common.{ap, subst, sym, ◌∙◌}
-use Rattle.history_book.specs.Histories.{entries_made}
 use Rattle.std.specs.Prelude.{List, None, Ok, Some, length, slice_set, true, ℕ, ◌+◌, ◌≡◌}
 
 -- told is kept, where what the step told is added
@@ -52,9 +50,9 @@ idle_sleepers s t r m (Over end made) asleep is idle are = absurd (cc)
 idle_sleepers s t r m Absent asleep is idle are = subst (λ (x : Configuration). SleepersAreBlocked x asleep) (sym (took s t r m some_slip IsAbsent (is.0.step some_slip))) (sleepers_later (configuration_of s) m (has_run asleep) are)
 
 -- a grip that comes back
-pub given_held : {D : Type 0} (shows : D → Shown) (window : NamedWindow) (name : DeskName) (s t : OpenHub D) (grip : Gripped D Done) (m : ℕ) (made : Made) (told now asleep left : ℕ) (desk desk_now : DeskState Lent)
+pub given_held : {D : Type 0} (shows : D → Shown) (window : NamedWindow) (name : DeskName) (s t : OpenHub D) (grip : Gripped D Done) (m : ℕ) (made : List Entry) (told now asleep left : ℕ) (desk desk_now : DeskState Lent)
     → IsHeld shows window name s told asleep desk → IsGiven s grip m (Ok made) t → SameWindow s t → HasPlan shows window.plans grip → IsWithin window m
-    → now ≡ told + length (entries_made made) → SleepersAreBlocked (configuration_of t) left → desk_now.name ≡ desk.name
+    → now ≡ told + length made → SleepersAreBlocked (configuration_of t) left → desk_now.name ≡ desk.name
     → desk_now.out ≡ slice_set desk.out grip.slip.device.0 None → IsHeld shows window name t now left desk_now
 given_held shows window name s t grip m made told now asleep left desk desk_now held is same own early more are named comes = record {
   counted = counted_more s t grip.slip.maker _ told now _ held.counted more (given_adds s t grip m made is);
@@ -77,9 +75,9 @@ probed_held shows window name s t d grip told asleep left desk desk_now held is 
 }
 
 -- the detector's grip that comes back
-pub probe_given_held : {D : Type 0} (shows : D → Shown) (window : NamedWindow) (name : DeskName) (s t : OpenHub D) (grip : Gripped D Done) (made : Made) (told now asleep left : ℕ) (desk desk_now : DeskState Lent)
+pub probe_given_held : {D : Type 0} (shows : D → Shown) (window : NamedWindow) (name : DeskName) (s t : OpenHub D) (grip : Gripped D Done) (made : List Entry) (told now asleep left : ℕ) (desk desk_now : DeskState Lent)
     → IsHeld shows window name s told asleep desk → IsProbeGiven s grip (Ok made) t → SameWindow s t → HasPlan shows window.plans grip
-    → now ≡ told + length (entries_made made) → SleepersAreBlocked (configuration_of t) left → desk_now.name ≡ desk.name
+    → now ≡ told + length made → SleepersAreBlocked (configuration_of t) left → desk_now.name ≡ desk.name
     → desk_now.out ≡ slice_set desk.out grip.slip.device.0 None → IsHeld shows window name t now left desk_now
 probe_given_held shows window name s t grip made told now asleep left desk desk_now held is same own more are named comes = record {
   counted = counted_more s t 0 _ told now _ held.counted more (probe_given_adds s t grip made is);

@@ -1,10 +1,10 @@
-pub mod Added
-pub mod Plans
-pub mod Moments
-pub mod Named
-pub mod RunWords
-pub mod Passes
-pub mod Holding
-pub mod KeptWindows
+mod Added
+mod Plans
+mod Moments
+mod Named
+mod RunWords
+mod Passes
+mod Holding
+mod KeptWindows
 mod Worked
-pub mod RoomAnswers
+mod RoomAnswers

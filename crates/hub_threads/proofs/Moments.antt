@@ -5,19 +5,17 @@ use Rattle.device_gate.specs.declared.grips.Done.{Done}
 use Rattle.device_gate.specs.declared.slips.Slip.{Slip}
 use Rattle.device_gate.specs.declared.slips.Told.TheVariants.{Died, Sensed, Worked}
 use Rattle.device_gate.specs.declared.slips.Told.{Told}
-use Rattle.history_book.specs.Histories.{entries_made, kept_by}
+use Rattle.history_book.specs.Histories.{kept_by}
 use Rattle.history_book.specs.Readings.{Reading, did, is_doomed, next_of}
 use Rattle.history_book.specs.Settings.{Setting, is_weak}
 use Rattle.history_book.specs.declared.entries.Cause.TheVariants.{DownAtEnd, Lost, MustDown, Refuted, Revoked}
 use Rattle.history_book.specs.declared.entries.Entry.TheVariants.{Arrived, Did, Doomed, Fell, Placed, Rose, Undid}
 use Rattle.history_book.specs.declared.entries.Entry.{Entry}
-use Rattle.history_book.specs.declared.entries.Made.{Made}
 use Rattle.home_types.specs.Commands.{fails}
 use Rattle.home_types.specs.declared.commands.Answer.TheVariants.{Down, Fine, Found, Skipped}
 use Rattle.home_types.specs.declared.commands.Command.{Command}
 use Rattle.command_rules.specs.Rosters.{command_at}
-use Rattle.hub_core.proofs.steps.Choices.{decide_is}
-use Rattle.hub_core.proofs.steps.HubAnswers.{took_choice}
+use Rattle.hub_core.proofs.Cited.{decide_is, took_choice}
 use Rattle.hub_core.specs.HubCalls.{IsGiven, IsProbeGiven, IsTurn}
 use Rattle.hub_core.specs.HubSteps.{Chose, HubStep, Take}
 use Rattle.hub_core.specs.OpenHubs.{OpenHub, configuration_of, hub_state_of}
@@ -94,9 +92,9 @@ took_within earliest latest s t r m slip choice since until step =
 
 pub turn_within : {D : Type 0} (earliest latest : ℕ) (s t : OpenHub D) (r m : ℕ) (turn : Turn D) → earliest ≤ m → max s.moment m ≤ latest → IsTurn s r m turn t → AreWithin earliest latest (kept_by r (entries_told turn))
 turn_within earliest latest s t r m (Go grip) since until is = none earliest latest r
-turn_within earliest latest s t r m (Moved made) since until is = took_within earliest latest s t r m some_slip (Moves (entries_made made)) since until (is.0.step some_slip)
+turn_within earliest latest s t r m (Moved made) since until is = took_within earliest latest s t r m some_slip (Moves made) since until (is.step some_slip)
 turn_within earliest latest s t r m (Wait why) since until is = none earliest latest r
-turn_within earliest latest s t r m (Over end made) since until is = took_within earliest latest s t r m some_slip (IsOver end (entries_made made)) since until (is.0.step some_slip)
+turn_within earliest latest s t r m (Over end made) since until is = took_within earliest latest s t r m some_slip (IsOver end made) since until (is.step some_slip)
 turn_within earliest latest s t r m Absent since until is = none earliest latest r
 
 -- Steps back tell no moment
@@ -150,12 +148,12 @@ back_within earliest latest maker w n d grip told = by_purpose grip.purpose
     by_purpose (Undoes v) = undo_within earliest latest maker grip.maker d told
     by_purpose (Probes v) = probe_within earliest latest maker w n d told
 
-pub given_within : {D : Type 0} (earliest latest : ℕ) (s t : OpenHub D) (grip : Gripped D Done) (m : ℕ) (made : Made) → IsGiven s grip m (Ok made) t → AreWithin earliest latest (kept_by grip.slip.maker (entries_made made))
+pub given_within : {D : Type 0} (earliest latest : ℕ) (s t : OpenHub D) (grip : Gripped D Done) (m : ℕ) (made : List Entry) → IsGiven s grip m (Ok made) t → AreWithin earliest latest (kept_by grip.slip.maker made)
 given_within earliest latest s t grip m made is =
     let by = given_entries_are s t grip m made is in
     subst (λ es. AreWithin earliest latest (kept_by grip.slip.maker es)) (sym by.1) (back_within earliest latest grip.slip.maker s.setting (read_of (configuration_of s)) grip.slip.device.0 by.0 grip.stage.told)
 
-pub probe_given_within : {D : Type 0} (earliest latest : ℕ) (s t : OpenHub D) (grip : Gripped D Done) (made : Made) → IsProbeGiven s grip (Ok made) t → AreWithin earliest latest (kept_by 0 (entries_made made))
+pub probe_given_within : {D : Type 0} (earliest latest : ℕ) (s t : OpenHub D) (grip : Gripped D Done) (made : List Entry) → IsProbeGiven s grip (Ok made) t → AreWithin earliest latest (kept_by 0 made)
 probe_given_within earliest latest s t grip made is =
     let by = probe_given_entries_are s t grip made is in
     subst (λ es. AreWithin earliest latest (kept_by 0 es)) (sym by.1) (back_within earliest latest 0 s.setting (read_of (configuration_of s)) grip.slip.device.0 by.0 grip.stage.told)

@@ -4,8 +4,8 @@ use Rattle.device_gate.specs.declared.gates.Place.{Place}
 use Rattle.device_gate.specs.declared.grips.Done.{Done}
 use Rattle.device_gate.specs.declared.grips.Ready.{Ready}
 use Rattle.device_states.specs.Devices.{Plan, Shown}
-use Rattle.history_book.specs.declared.entries.Made.{Made}
-use Rattle.hub_core.proofs.steps.HubAnswers.{took_probe}
+use Rattle.history_book.specs.declared.entries.Entry.{Entry}
+use Rattle.hub_core.proofs.Cited.{took_probe}
 use Rattle.hub_core.specs.HubCalls.{IsGiven, IsProbeGiven, IsProbed, IsTurn, SameWindow}
 use Rattle.hub_core.specs.OpenHubs.{OpenHub, hub_state_of}
 use Rattle.hub_core.specs.declared.turns.Turn.TheVariants.{Absent, Go, Moved, Over, Wait}
@@ -37,9 +37,9 @@ plans_by shows plans before after same have = subst (PlacesHavePlans shows plans
 
 turn_plans : {D : Type 0} (shows : D → Shown) (plans : ℕ → Plan) (s t : OpenHub D) (r m : ℕ) (turn : Turn D) → IsTurn s r m turn t → PlacesHavePlans shows plans s.places → PlacesHavePlans shows plans t.places
 turn_plans shows plans s t r m (Go grip) is have = plans_by shows plans _ t.places is.places (plans_out shows plans s.places grip.slip.device.0 grip.slip grip.task have)
-turn_plans shows plans s t r m (Moved made) is have = plans_by shows plans s.places t.places is.0.places have
+turn_plans shows plans s t r m (Moved made) is have = plans_by shows plans s.places t.places is.places have
 turn_plans shows plans s t r m (Wait why) is have = plans_by shows plans s.places t.places is.0.places have
-turn_plans shows plans s t r m (Over end made) is have = plans_by shows plans s.places t.places is.0.places have
+turn_plans shows plans s t r m (Over end made) is have = plans_by shows plans s.places t.places is.places have
 turn_plans shows plans s t r m Absent is have = plans_by shows plans s.places t.places is.0.places have
 
 pub turn_named : {D : Type 0} (shows : D → Shown) (window : NamedWindow) (s t : OpenHub D) (r m : ℕ) (turn : Turn D)
@@ -60,10 +60,10 @@ turn_plan shows plans s t r m (Wait why) have is = tt
 turn_plan shows plans s t r m (Over end made) have is = tt
 turn_plan shows plans s t r m Absent have is = tt
 
-given_plans : {D : Type 0} (shows : D → Shown) (plans : ℕ → Plan) (s t : OpenHub D) (grip : Gripped D Done) (m : ℕ) (made : Made) → IsGiven s grip m (Ok made) t → HasPlan shows plans grip → PlacesHavePlans shows plans s.places → PlacesHavePlans shows plans t.places
+given_plans : {D : Type 0} (shows : D → Shown) (plans : ℕ → Plan) (s t : OpenHub D) (grip : Gripped D Done) (m : ℕ) (made : List Entry) → IsGiven s grip m (Ok made) t → HasPlan shows plans grip → PlacesHavePlans shows plans s.places → PlacesHavePlans shows plans t.places
 given_plans shows plans s t grip m made is own have = plans_by shows plans _ t.places is.1 (plans_home shows plans s.places grip.slip.device.0 grip.device have own)
 
-pub given_named : {D : Type 0} (shows : D → Shown) (window : NamedWindow) (s t : OpenHub D) (grip : Gripped D Done) (m : ℕ) (made : Made)
+pub given_named : {D : Type 0} (shows : D → Shown) (window : NamedWindow) (s t : OpenHub D) (grip : Gripped D Done) (m : ℕ) (made : List Entry)
     → IsNamed shows window s → IsGiven s grip m (Ok made) t → SameWindow s t → HasPlan shows window.plans grip → IsWithin window m → IsNamed shows window t
 given_named shows window s t grip m made named is same own early =
     named_after shows window s t named same (given_moment s t grip m window.latest made is named.moment early.1)
@@ -86,10 +86,10 @@ probed_plan shows plans s t d grip have is =
     let slip = (took_probe (hub_state_of s) (hub_state_of t) d grip.slip grip.task is.0).2 in
     have d grip.device is.1 ∙ ap plans (sym slip.device)
 
-probe_given_plans : {D : Type 0} (shows : D → Shown) (plans : ℕ → Plan) (s t : OpenHub D) (grip : Gripped D Done) (made : Made) → IsProbeGiven s grip (Ok made) t → HasPlan shows plans grip → PlacesHavePlans shows plans s.places → PlacesHavePlans shows plans t.places
+probe_given_plans : {D : Type 0} (shows : D → Shown) (plans : ℕ → Plan) (s t : OpenHub D) (grip : Gripped D Done) (made : List Entry) → IsProbeGiven s grip (Ok made) t → HasPlan shows plans grip → PlacesHavePlans shows plans s.places → PlacesHavePlans shows plans t.places
 probe_given_plans shows plans s t grip made is own have = plans_by shows plans _ t.places is.1 (plans_home shows plans s.places grip.slip.device.0 grip.device have own)
 
-pub probe_given_named : {D : Type 0} (shows : D → Shown) (window : NamedWindow) (s t : OpenHub D) (grip : Gripped D Done) (made : Made)
+pub probe_given_named : {D : Type 0} (shows : D → Shown) (window : NamedWindow) (s t : OpenHub D) (grip : Gripped D Done) (made : List Entry)
     → IsNamed shows window s → IsProbeGiven s grip (Ok made) t → SameWindow s t → HasPlan shows window.plans grip → IsNamed shows window t
 probe_given_named shows window s t grip made named is same own =
     let adds = probe_given_adds s t grip made is in

@@ -8,8 +8,8 @@ use Rattle.device_gate.specs.declared.slips.Slip.{Slip}
 use Rattle.device_gate.specs.declared.slips.Task.{Task}
 use Rattle.device_gate.specs.declared.strangers.Stranger.{Stranger}
 use Rattle.grip_seats.specs.Desks.{DeskName, PassState}
-use Rattle.history_book.specs.declared.entries.Made.{Made}
-use Rattle.hub_core.proofs.steps.HubAnswers.{never_refused, probe_never_refused, took_choice, took_probe}
+use Rattle.history_book.specs.declared.entries.Entry.{Entry}
+use Rattle.hub_core.proofs.Cited.{never_refused, probe_never_refused, took_choice, took_probe}
 use Rattle.hub_core.specs.HubCalls.{IsGiven, IsProbeGiven, IsProbed, IsTurn, carried_by}
 use Rattle.hub_core.specs.HubSteps.{Carried, IsSlipOf, SlipFits}
 use Rattle.hub_core.specs.OpenHubs.{OpenHub, carried_in, configuration_of, hub_state_of}
@@ -67,9 +67,9 @@ turn_can s t r m Absent is = tt
 
 pub turn_out : {D : Type 0} (s t : OpenHub D) (r m : ℕ) (turn : Turn D) → IsTurn s r m turn t → what_is_out t.places ≡ out_after (what_is_out s.places) turn
 turn_out s t r m (Go grip) is = ap (λ ps. what_is_out ps) is.places ∙ out_set s.places grip.slip.device.0 (Out grip.slip grip.task)
-turn_out s t r m (Moved made) is = ap (λ ps. what_is_out ps) is.0.places
+turn_out s t r m (Moved made) is = ap (λ ps. what_is_out ps) is.places
 turn_out s t r m (Wait why) is = ap (λ ps. what_is_out ps) is.0.places
-turn_out s t r m (Over end made) is = ap (λ ps. what_is_out ps) is.0.places
+turn_out s t r m (Over end made) is = ap (λ ps. what_is_out ps) is.places
 turn_out s t r m Absent is = ap (λ ps. what_is_out ps) is.0.places
 
 none_for_nobody : (s : Configuration) (m : ℕ) → choice_of s 0 m ≡ IsAbsent
@@ -129,10 +129,10 @@ run_taken_in s t grip m refused is out maker = never_refused (hub_state_of s) (h
 pub probe_taken_in : {D : Type 0} (s t : OpenHub D) (grip : Gripped D Done) (refused : Gripped D Done × Stranger) → IsProbeGiven s grip (Err refused) t → slice_get (what_is_out s.places) grip.slip.device.0 ≡ Some (Some (grip.slip, grip.task)) → grip.slip.maker ≡ 0 → ⊥
 probe_taken_in s t grip refused is out maker = probe_never_refused (hub_state_of s) (hub_state_of t) (carried_by grip) grip.stage.told refused.1 (ap (λ p. carried_in p) (out_back s.places grip.slip.device.0 grip.slip grip.task out)) maker is.0
 
-pub given_out : {D : Type 0} (s t : OpenHub D) (grip : Gripped D Done) (m : ℕ) (made : Made) → IsGiven s grip m (Ok made) t → what_is_out t.places ≡ slice_set (what_is_out s.places) grip.slip.device.0 None
+pub given_out : {D : Type 0} (s t : OpenHub D) (grip : Gripped D Done) (m : ℕ) (made : List Entry) → IsGiven s grip m (Ok made) t → what_is_out t.places ≡ slice_set (what_is_out s.places) grip.slip.device.0 None
 given_out s t grip m made is = ap (λ ps. what_is_out ps) is.1 ∙ out_set s.places grip.slip.device.0 (Home grip.device)
 
-pub probe_given_out : {D : Type 0} (s t : OpenHub D) (grip : Gripped D Done) (made : Made) → IsProbeGiven s grip (Ok made) t → what_is_out t.places ≡ slice_set (what_is_out s.places) grip.slip.device.0 None
+pub probe_given_out : {D : Type 0} (s t : OpenHub D) (grip : Gripped D Done) (made : List Entry) → IsProbeGiven s grip (Ok made) t → what_is_out t.places ≡ slice_set (what_is_out s.places) grip.slip.device.0 None
 probe_given_out s t grip made is = ap (λ ps. what_is_out ps) is.1 ∙ out_set s.places grip.slip.device.0 (Home grip.device)
 
 -- Grips that were called

@@ -1,5 +1,5 @@
 -- The words of the runs that sleep.
-use Rattle.blocked_runs.proofs.RunBits.{has_either, has_nothing, has_one, has_without}
+use Rattle.blocked_runs.proofs.Cited.{has_either, has_nothing, has_one, has_without}
 use Rattle.blocked_runs.specs.RunBits.{has_run}
 use Rattle.hub_core.specs.BlockedRuns.{IsBlocked}
 use Rattle.hub_threads.specs.Sleepers.{SleepersAreBlocked, has_run_bit}

@@ -1,7 +1,7 @@
 -- A hub whose window was worked to its end under its name, and closed: what it leaves.
 use Rattle.device_states.specs.Devices.{Shown}
 use Rattle.history_book.specs.declared.records.WindowRecord.{WindowRecord}
-use Rattle.hub_core.proofs.calls.WindowWays.{plan_in, window_worked}
+use Rattle.hub_core.proofs.Cited.{plan_in, window_worked}
 use Rattle.hub_core.specs.Homes.{HomeState}
 use Rattle.hub_core.specs.HubCalls.{HubStands, WindowIsClosed, probes_taken}
 use Rattle.hub_core.specs.OpenHubs.{OpenHub, progress_at}

@@ -4,7 +4,6 @@ use Rattle.device_gate.specs.Grips.{Gripped}
 use Rattle.device_gate.specs.declared.gates.Place.TheVariants.{Home}
 use Rattle.device_gate.specs.declared.gates.Place.{Place}
 use Rattle.device_states.specs.Devices.{Plan, Shown}
-use Rattle.history_book.specs.Histories.{entries_made}
 use Rattle.history_book.specs.declared.entries.Entry.{Entry}
 use Rattle.home_types.specs.Numbers.{DeviceId}
 use Rattle.hub_core.specs.OpenHubs.{OpenHub, progress_at}
@@ -55,9 +54,9 @@ is_idle Absent = true
 -- the entries in the answer to a run's step
 abbrev pub entries_told : {D : Type 0} → Turn D → List Entry
 entries_told (Go grip) = []
-entries_told (Moved made) = entries_made made
+entries_told (Moved made) = made
 entries_told (Wait why) = []
-entries_told (Over end made) = entries_made made
+entries_told (Over end made) = made
 entries_told Absent = []
 
 -- how many they are

@@ -1,14 +1,14 @@
 -- The runs that sleep, as words of bits.
 use Rattle.history_book.specs.declared.entries.Entry.TheVariants.{Arrived, Did, Doomed, Ended, Fell, Placed, Rose, Undid}
 use Rattle.history_book.specs.declared.entries.Entry.{Entry}
-use Rattle.history_book.specs.declared.entries.Made.{Made}
 use Rattle.home_types.specs.Numbers.{RunId}
 use Rattle.blocked_runs.specs.RunBits.{has_run}
 use Rattle.hub_core.specs.BlockedRuns.{IsBlocked}
 use Rattle.hub_core.specs.declared.waits.Why.TheVariants.{Behind, Busy, Denied, Dirty, Follow, Strict}
 use Rattle.hub_core.specs.declared.waits.Why.{Why}
 use Rattle.lock_leasing.specs.Configurations.{Configuration}
-use Rattle.std.specs.Prelude.{Bool, None, Option, Some, false, nat_lt, true, ℕ, ◌&&◌, ◌-◌, ◌||◌, ◌≡◌}
+use Rattle.std.specs.List.{list_any}
+use Rattle.std.specs.Prelude.{Bool, List, false, nat_lt, true, ℕ, ◌&&◌, ◌-◌, ◌≡◌}
 
 -- the words: those that are blocked, those that wait for their place, the others, and those that
 -- sleep no more and are to be called
@@ -43,17 +43,16 @@ is_unplaced (Strict x) = false
 is_unplaced (Busy d) = false
 
 -- the entry may give a run its place that waits for it: an end, a doom, an undo
-abbrev pub frees_place : Option Entry → Bool
-frees_place None = false
-frees_place (Some (Arrived r m)) = false
-frees_place (Some (Placed r at m)) = false
-frees_place (Some (Did r c a)) = false
-frees_place (Some (Undid r d drove)) = true
-frees_place (Some (Fell d)) = false
-frees_place (Some (Rose d)) = false
-frees_place (Some (Doomed r cause)) = true
-frees_place (Some (Ended r end)) = true
+abbrev pub frees_place : Entry → Bool
+frees_place (Arrived r m) = false
+frees_place (Placed r at m) = false
+frees_place (Did r c a) = false
+frees_place (Undid r d drove) = true
+frees_place (Fell d) = false
+frees_place (Rose d) = false
+frees_place (Doomed r cause) = true
+frees_place (Ended r end) = true
 
 -- one of these entries may
-abbrev pub frees_places : Made → Bool
-frees_places made = frees_place made.a || (frees_place made.b || frees_place made.c)
+abbrev pub frees_places : List Entry → Bool
+frees_places made = list_any frees_place made

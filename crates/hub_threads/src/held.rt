@@ -1,7 +1,7 @@
 //! What lies under the lock.
 ghost use Rattle.std.specs.Prelude.{◌≡◌, ◌+◌, ◌<◌, ◌≤◌, ◌++◌, IfSome, IsTrue, None, Ok, Some, length, option_map, slice_get, slice_set, ℕ};
 ghost use Rattle.grip_seats.specs.Desks.{PassState};
-ghost use Rattle.history_book.specs.Histories.{entries_made, kept_by};
+ghost use Rattle.history_book.specs.Histories.{kept_by};
 ghost use Rattle.hub_core.specs.BlockedRuns.{IsBlocked};
 ghost use Rattle.hub_core.specs.HubCalls.{IsGiven, IsProbeGiven, IsProbed, IsTurn, SameWindow, carried_by};
 ghost use Rattle.hub_core.specs.HubSteps.{Carried};
@@ -71,7 +71,7 @@ pub trait Steps<D: Device, N: Name, G: DoneGrip<D>>: Drop {
         requires plan { (D.shows (G.device grip)).plan
             ≡ N.window.plans (G.carried grip).slip.device.0 }
         requires pass { IsRunsPass N.desk (G.carried grip) pass }
-        ensures told { share.new.amount ≡ share.old.amount + length (entries_made result) }
+        ensures told { share.new.amount ≡ share.old.amount + length result }
         ensures parts { share.new.parts ≡ share.old.parts };
 
     /// Hands out a probe of the device, with its pass, where it may.
@@ -93,7 +93,7 @@ pub trait Steps<D: Device, N: Name, G: DoneGrip<D>>: Drop {
         requires plan { (D.shows (G.device grip)).plan
             ≡ N.window.plans (G.carried grip).slip.device.0 }
         requires pass { IsDetectorsPass N.desk (G.carried grip) pass }
-        ensures told { share.new.amount ≡ share.old.amount + length (entries_made result) }
+        ensures told { share.new.amount ≡ share.old.amount + length result }
         ensures parts { share.new.parts ≡ share.old.parts };
 
     /// Why the window cannot be closed.
@@ -177,8 +177,8 @@ impl<D: Device, N: Name> Steps<D, N, Grip<D, Done>> for Held<D, N> {
         ensures given { IsGiven self.old grip moment (Ok result) self.new }
         ensures window { SameWindow self.old self.new }
         ensures appended { self.new.history
-            ≡ self.old.history ++ kept_by grip.slip.maker (entries_made result) }
-        ensures told { share.new.amount ≡ share.old.amount + length (entries_made result) }
+            ≡ self.old.history ++ kept_by grip.slip.maker result }
+        ensures told { share.new.amount ≡ share.old.amount + length result }
         ensures parts { share.new.parts ≡ share.old.parts }
     {
         let Held {
@@ -232,8 +232,8 @@ impl<D: Device, N: Name> Steps<D, N, Grip<D, Done>> for Held<D, N> {
         ensures given { IsProbeGiven self.old grip (Ok result) self.new }
         ensures window { SameWindow self.old self.new }
         ensures appended { self.new.history
-            ≡ self.old.history ++ kept_by 0 (entries_made result) }
-        ensures told { share.new.amount ≡ share.old.amount + length (entries_made result) }
+            ≡ self.old.history ++ kept_by 0 result }
+        ensures told { share.new.amount ≡ share.old.amount + length result }
         ensures parts { share.new.parts ≡ share.old.parts }
     {
         let Held {
@@ -355,7 +355,7 @@ fn is_idle<D: Device>(turn: &Turn<D>) -> bool
 
 /// The entries that a step has made.
 fn made_by<D: Device>(turn: &Turn<D>) -> Made
-    ensures { entries_made result ≡ entries_told turn.now }
+    ensures { result ≡ entries_told turn.now }
 {
     match turn {
         Turn::Moved(made) => *made,
@@ -366,7 +366,7 @@ fn made_by<D: Device>(turn: &Turn<D>) -> Made
 
 /// How many entries these are.
 fn count(made: &Made) -> u64
-    ensures { result ≡ length (entries_made made.now) }
+    ensures { result ≡ length made.now }
 {
     u64::from(made.a.is_some()) + u64::from(made.b.is_some()) + u64::from(made.c.is_some())
 }

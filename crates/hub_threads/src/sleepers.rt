@@ -1,5 +1,5 @@
 //! The runs that sleep, and those that are to be called.
-ghost use Rattle.std.specs.Prelude.{if◌then◌else◌, not, true, ℕ, ◌&&◌, ◌==◌, ◌||◌, ◌≡◌};
+ghost use Rattle.std.specs.Prelude.{if◌then◌else◌, not, true, ℕ, ◌&&◌, ◌==◌, ◌||◌, ◌≡◌, false, option_map, unwrap_or};
 ghost use Rattle.blocked_runs.specs.RunBits.{has_run};
 ghost use Rattle.hub_core.specs.OpenHubs.{configuration_of};
 ghost use Rattle.hub_threads.specs.Sleepers.{NoneSleep, SleepersAreBlocked, frees_place, frees_places, has_run_bit, is_unplaced};
@@ -145,7 +145,7 @@ fn frees_places(made: &Made) -> bool
 
 /// Whether the entry, where there is one, may give a run its place that waits for it.
 fn frees_place(entry: Option<Entry>) -> bool
-    ensures { result ≡ frees_place entry }
+    ensures { result ≡ unwrap_or (option_map frees_place entry) false }
 {
     matches!(
         entry,

@@ -1,5 +1,5 @@
 -- What is answered by the first place and the first denial is what just-in-time admission says.
-use Rattle.command_rules.proofs.Indexes.{device_below}
+use Rattle.command_rules.proofs.Cited.{device_below}
 use Rattle.command_rules.specs.Rosters.{Run, commands_of, device_no, is_run, run_no, touches}
 use Rattle.history_book.specs.Lines.{split_at}
 use Rattle.history_book.specs.Readings.{Reading, is_live}
@@ -13,8 +13,7 @@ use Rattle.jit_scheduler.specs.declared.answers.Admit.TheVariants.{At, Denied, P
 use Rattle.jit_scheduler.specs.declared.answers.Admit.{Admit}
 use Rattle.jit_scheduler.specs.declared.denials.Denial.{Denial as FoundDenial}
 use Rattle.lineage_table.specs.Lineages.{LineageState}
-use Rattle.lock_leasing.proofs.ClearPlaces.{place_within}
-use Rattle.lock_leasing.proofs.Facts.{facts_of}
+use Rattle.lock_leasing.proofs.Cited.{facts_of, place_within}
 use Rattle.lock_leasing.specs.Configurations.{Grips, point, point_of, read_of}
 use Rattle.lock_leasing.specs.FirstPlaces.{IsFirstPlaceOf}
 use Rattle.lock_leasing.specs.Places.{At as PlacedAt, Denial, DeniedBy, Placing, denial_of, first_place, just_in_time, patience}

@@ -1,6 +1,6 @@
 -- By which run a device is denied: the parts of one window tell it as the history does.
 use Rattle.command_rules.specs.Rosters.{Run, device_no, reads_first, touches}
-use Rattle.history_book.proofs.Told.{doom_is}
+use Rattle.history_book.proofs.Cited.{doom_is}
 use Rattle.history_book.specs.Books.{doom_of}
 use Rattle.history_book.specs.Readings.{Reading, is_doomed, is_live}
 use Rattle.history_book.specs.Settings.{Setting}
@@ -14,8 +14,7 @@ use Rattle.jit_scheduler.specs.declared.denials.Denial.{Denial as FoundDenial}
 use Rattle.lineage_table.specs.Accesses.{effective_writer}
 use Rattle.lineage_table.specs.Lineages.{LineageState, accesses_at, lineage_at}
 use Rattle.lineage_table.specs.declared.accesses.Access.{Access}
-use Rattle.lock_leasing.proofs.Facts.{Facts, facts_of}
-use Rattle.lock_leasing.proofs.Writers.{live_writer, writer_is}
+use Rattle.lock_leasing.proofs.Cited.{Facts, facts_of, live_writer, writer_is}
 use Rattle.lock_leasing.specs.Configurations.{Configuration, Grips, point, point_of, read_of}
 use Rattle.lock_leasing.specs.Holders.{holder_before}
 use Rattle.lock_leasing.specs.Places.{Denial, denial_of, denied_by, first_place, first_some}

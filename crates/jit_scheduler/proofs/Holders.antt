@@ -9,9 +9,7 @@ use Rattle.home_types.specs.declared.items.Item.{Item}
 use Rattle.home_types.specs.declared.numbers.RunNo.{RunNo}
 use Rattle.lineage_table.specs.Accesses.{accesses_before, effective_writer, first_before, is_released}
 use Rattle.lineage_table.specs.declared.accesses.Access.{Access}
-use Rattle.lock_leasing.proofs.AccessRuns.{EachTail, HasAccess, has_work, workers_have_access}
-use Rattle.lock_leasing.proofs.Facts.{Facts, command_pends}
-use Rattle.lock_leasing.proofs.Writers.{live_writer, run_in, writer_has_effect, writer_is}
+use Rattle.lock_leasing.proofs.Cited.{EachTail, Facts, HasAccess, command_pends, has_work, live_writer, run_in, workers_have_access, writer_has_effect, writer_is}
 use Rattle.lock_leasing.specs.Configurations.{Grips, grips_command, point}
 use Rattle.lock_leasing.specs.Holders.{access_holds, holder_before, is_writer}
 use Rattle.lock_leasing.specs.Order.{covers}

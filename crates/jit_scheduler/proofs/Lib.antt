@@ -1,6 +1,6 @@
-pub mod Admitted
-pub mod Deniers
-pub mod DeviceWalks
-pub mod Fronts
-pub mod Holders
-pub mod Searches
+mod Admitted
+mod Deniers
+mod DeviceWalks
+mod Fronts
+mod Holders
+mod Searches

@@ -1,2 +1,2 @@
-pub mod Crossing
-pub mod Grasps
+mod Crossing
+mod Grasps

@@ -1,6 +1,6 @@
 -- The steps of a window as a C program makes them.
 use Rattle.device_gate.specs.declared.slips.Told.{Told}
-use Rattle.history_book.specs.declared.entries.Made.{Made}
+use Rattle.history_book.specs.declared.entries.Entry.{Entry}
 use Rattle.home_states.specs.LiveHomes.{LiveState, hub_in}
 use Rattle.home_states.specs.Steps.{HasAnswered, HasProbed, HasTaken, IsBlockedRun, left_to_do}
 use Rattle.hub_core.specs.declared.refusals.NotQuiet.{NotQuiet}
@@ -11,7 +11,7 @@ use Rattle.lazbendix_c.specs.Told.{left_of, made_of, out_turn, turn_of}
 use Rattle.lazbendix_c.specs.declared.told_entries.ToldMade.{ToldMade}
 use Rattle.lazbendix_c.specs.declared.told_turns.ToldLeft.{ToldLeft}
 use Rattle.lazbendix_c.specs.declared.told_turns.ToldTurn.{ToldTurn}
-use Rattle.std.specs.Prelude.{Option, Some, ℕ, ◌≡◌}
+use Rattle.std.specs.Prelude.{List, Option, Some, ℕ, ◌≡◌}
 
 -- the step of the run was made, and this is told of it
 pub record HasStepped (s : LiveState) (run now : ℕ) (told : ToldTurn) (t : LiveState) : Type 0 where
@@ -23,7 +23,7 @@ pub record HasStepped (s : LiveState) (run now : ℕ) (told : ToldTurn) (t : Liv
 pub record HasGiven (s : LiveState) (device ticket answer value now : ℕ) (told : ToldMade)
     (t : LiveState) : Type 0 where
   pub heard : Told
-  pub made : Made
+  pub made : List Entry
   pub means : told_as answer value ≡ Some heard
   pub answered : HasAnswered s (device_number device) ticket heard now made t
   pub told_is : told ≡ made_of made

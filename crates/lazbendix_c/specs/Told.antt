@@ -8,7 +8,6 @@ use Rattle.history_book.specs.declared.entries.End.TheVariants.{Aborted, Committ
 use Rattle.history_book.specs.declared.entries.End.{End}
 use Rattle.history_book.specs.declared.entries.Entry.TheVariants.{Arrived, Did, Doomed, Ended, Fell, Placed, Rose, Undid}
 use Rattle.history_book.specs.declared.entries.Entry.{Entry}
-use Rattle.history_book.specs.declared.entries.Made.{Made}
 use Rattle.home_types.specs.declared.commands.Answer.TheVariants.{Down, Fine, Found, Skipped}
 use Rattle.home_types.specs.declared.commands.Answer.{Answer}
 use Rattle.home_types.specs.declared.worlds.Stand.{Stand}
@@ -23,7 +22,7 @@ use Rattle.lazbendix_c.specs.declared.told_entries.ToldMade.{ToldMade}
 use Rattle.lazbendix_c.specs.declared.told_turns.ToldLeft.{ToldLeft}
 use Rattle.lazbendix_c.specs.declared.told_turns.ToldStand.{ToldStand}
 use Rattle.lazbendix_c.specs.declared.told_turns.ToldTurn.{ToldTurn}
-use Rattle.std.specs.Prelude.{None, Option, Some, if◌then◌else◌, ℕ, ◌+◌}
+use Rattle.std.specs.Prelude.{List, None, Option, Some, if◌then◌else◌, length, slice_get, ℕ}
 
 abbrev pub no_entry : ToldEntry
 no_entry = record {
@@ -87,12 +86,12 @@ one_if None = 0
 one_if (Some entry) = 1
 
 -- the entries of a step
-abbrev pub made_of : Made → ToldMade
+abbrev pub made_of : List Entry → ToldMade
 made_of made = record {
-  a = entry_or_none made.a;
-  b = entry_or_none made.b;
-  c = entry_or_none made.c;
-  count = one_if made.a + one_if made.b + one_if made.c;
+  a = entry_or_none (slice_get made 0);
+  b = entry_or_none (slice_get made 1);
+  c = entry_or_none (slice_get made 2);
+  count = length made;
 }
 
 abbrev pub none_made : ToldMade

@@ -1,1 +1,2 @@
-pub mod Lists
+mod Lists
+pub mod Cited

@@ -1,10 +1,10 @@
 -- Neighbours of an order that are apart share no device.
-use Rattle.command_rules.proofs.Meeting.{is_of, of_one_device}
+use Rattle.command_rules.proofs.Cited.{is_of, of_one_device}
 use Rattle.command_rules.specs.Apart.{meet}
 use Rattle.command_rules.specs.ClosedSets.{are_apart, exchanged}
 use Rattle.command_rules.specs.Rosters.{Run}
 use Rattle.command_rules.specs.Serial.{serial_execution}
-use Rattle.device_order.proofs.Swaps.{exchanged as outcome_stays}
+use Rattle.device_order.proofs.Cited.{exchanged as outcome_stays}
 use Rattle.device_order.specs.Exchanges.{SameOutcome, ShareNoDevice, is_on_device}
 use Rattle.home_types.specs.declared.items.Item.TheVariants.{Back, Failed, Ran}
 use Rattle.home_types.specs.declared.items.Item.{Item}

@@ -1,3 +1,3 @@
-pub mod LineOrders
-pub mod Statuses
-pub mod Exchanges
+mod LineOrders
+mod Statuses
+mod Exchanges

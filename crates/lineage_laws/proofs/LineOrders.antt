@@ -2,8 +2,7 @@
 use Rattle.home_types.specs.declared.numbers.RunNo.{RunNo}
 use Rattle.lineage_laws.specs.Laws.{AreInRunOrder, RunsDiffer, is_one_of_runs, next_with_access}
 use Rattle.command_rules.specs.Rosters.{run_no}
-use Rattle.lineage_table.proofs.Pairs.{Pairs, pairs_from_all, pairs_front}
-use Rattle.lineage_table.proofs.Splits.{without_none}
+use Rattle.lineage_table.proofs.Cited.{Pairs, pairs_from_all, pairs_front, without_none}
 use Rattle.lineage_table.specs.Accesses.{accesses_without, has_access, is_of, put_access_before, put_before_run}
 use Rattle.lineage_table.specs.declared.accesses.Access.{Access}
 use Rattle.std.proofs.Common.{Bool, List, None, Option, Some, [], ap, ap₂, arith, cond, drop, false, refl, subst, suc, sym, take, true, zero, ℕ, ◌++◌, ◌∙◌, ◌∷◌, ◌≡◌}

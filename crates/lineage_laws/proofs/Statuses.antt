@@ -1,6 +1,6 @@
 -- Why the accesses stand by their status.
 use Rattle.lineage_laws.specs.Laws.{StandByStatus}
-use Rattle.lineage_table.proofs.Pairs.{Pairs, pairs_from_all}
+use Rattle.lineage_table.proofs.Cited.{Pairs, pairs_from_all}
 use Rattle.lineage_table.specs.Accesses.{AreInTurn, IsDisciplined}
 use Rattle.lineage_table.specs.declared.accesses.Access.{Access}
 use Rattle.lineage_table.specs.declared.accesses.Status.TheVariants.{Acquired, Released, Scheduled}

@@ -2,7 +2,7 @@
 use Rattle.command_rules.specs.Rosters.{Run, is_on, plain_run, runs_of}
 use Rattle.command_rules.specs.declared.rosters.Roster.{Roster}
 use Rattle.command_rules.specs.declared.rosters.RosterRun.{RosterRun}
-use Rattle.home_types.proofs.DeviceBits.{contains_insert}
+use Rattle.home_types.proofs.Cited.{contains_insert}
 use Rattle.home_types.specs.DeviceSets.{Devices}
 use Rattle.home_types.specs.Limits.{most_devices}
 use Rattle.home_types.specs.declared.commands.Command.{Command}

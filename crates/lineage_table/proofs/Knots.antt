@@ -1,5 +1,5 @@
 -- The access of a run in a chain, and what a call of the chain makes of the accesses.
-use Rattle.chain_arena.proofs.Cuts.{apart_front, apart_rest, from_cut, has_cut, length_values, put_cut, set_cut, value_cut, values_cut, values_join, without_cut}
+use Rattle.chain_arena.proofs.Cited.{apart_front, apart_rest, from_cut, has_cut, length_values, put_cut, set_cut, value_cut, values_cut, values_join, without_cut}
 use Rattle.chain_arena.specs.Chains.{AreApart, IsBehind, from_knot, has_knot, is_at, put_before, rest_of, set_value, value_at, values_of, without}
 use Rattle.chain_arena.specs.Linked.{knot}
 use Rattle.chain_arena.specs.declared.knots.Knot.{Knot}

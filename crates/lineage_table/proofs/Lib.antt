@@ -1,14 +1,15 @@
-pub mod Pairs
-pub mod Splits
-pub mod Keeping
-pub mod Knots
-pub mod Leaving
-pub mod Standing
-pub mod Steps
-pub mod Undoing
-pub mod Writers
-pub mod KeptTables
-pub mod RunSets
-pub mod RunAccesses
-pub mod DeviceCounts
-pub mod Sweeps
+mod Pairs
+mod Splits
+mod Keeping
+mod Knots
+mod Leaving
+mod Standing
+mod Steps
+mod Undoing
+mod Writers
+mod KeptTables
+mod RunSets
+mod RunAccesses
+mod DeviceCounts
+mod Sweeps
+pub mod Cited

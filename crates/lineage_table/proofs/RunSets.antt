@@ -1,6 +1,6 @@
 -- The devices of each run, as its accesses come and leave.
 use Rattle.home_types.specs.DeviceSets.{Devices}
-use Rattle.home_types.proofs.DeviceBits.{contains_insert, contains_remove}
+use Rattle.home_types.proofs.Cited.{contains_insert, contains_remove}
 use Rattle.lineage_table.proofs.KeptTables.{table_set}
 use Rattle.lineage_table.specs.Accesses.{IsDisciplined, has_access}
 use Rattle.lineage_table.specs.Lineages.{LineageState, accesses_at, lineage_at, no_lineage}

@@ -1,7 +1,7 @@
 -- A sound script that grows is sound.
 use Rattle.day_clock.specs.Times.{IsCivilTime}
 use Rattle.day_clock.specs.declared.times.When.{When}
-use Rattle.home_types.proofs.Snocs.{snoc_get}
+use Rattle.home_types.proofs.Cited.{snoc_get}
 use Rattle.home_types.specs.Listed.{Listed}
 use Rattle.home_types.specs.declared.numbers.RunNo.{RunNo}
 use Rattle.live_scripts.specs.Growth.{HasBegun, IsNewWindow, is_earlier, is_later_after, windows_before}

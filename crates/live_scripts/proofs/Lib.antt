@@ -1,1 +1,1 @@
-pub mod GrowthSound
+mod GrowthSound

@@ -1,8 +1,6 @@
 -- Which runs have an access: each with more to do on the device that is not doomed, and each live one with the effective write there.
 use Rattle.command_rules.specs.Items.{is_ran, of_run}
-use Rattle.history_book.proofs.Once.{StandsOnce}
-use Rattle.history_book.proofs.Searches.{map_some}
-use Rattle.history_book.proofs.Standing.{stands_in}
+use Rattle.history_book.proofs.Cited.{StandsOnce, map_some, stands_in}
 use Rattle.history_book.specs.Readings.{Reading, is_live, is_open}
 use Rattle.history_book.specs.Settings.{Setting}
 use Rattle.home_types.specs.declared.items.Item.TheVariants.{Back, Failed, Ran}

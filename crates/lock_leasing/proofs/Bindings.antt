@@ -1,8 +1,7 @@
 -- The first place, as parts that belong to one window tell it.
 use Rattle.command_rules.specs.Items.{is_ran, of_run}
 use Rattle.command_rules.specs.Rosters.{Run, commands_of, followed_by, follows, is_on, touches}
-use Rattle.history_book.proofs.Told.{end_is}
-use Rattle.history_book.proofs.Standing.{stands_in}
+use Rattle.history_book.proofs.Cited.{end_is, stands_in}
 use Rattle.history_book.specs.Books.{end_of}
 use Rattle.history_book.specs.Readings.{OfRun, Reading, is_committed, is_committing, is_live}
 use Rattle.history_book.specs.Settings.{Setting, device_numbers, devices_of}
@@ -20,8 +19,7 @@ use Rattle.lock_leasing.specs.FirstPlaces.{IsFirstPlaceOf}
 use Rattle.lock_leasing.specs.Places.{binds, up_to_first, up_to_last}
 use Rattle.lock_leasing.specs.Standings.{IsRosterFor, has_ended, item_has_touched}
 use Rattle.lock_leasing.specs.Words.{has_touched}
-use Rattle.serial_line.proofs.Searches.{last_counted, up_to_either}
-use Rattle.serial_line.proofs.Ties.{front_in_line, last_in_line}
+use Rattle.serial_line.proofs.Cited.{front_in_line, last_counted, last_in_line, up_to_either}
 use Rattle.serial_line.specs.Marks.{Mark, front_of, items_of}
 use Rattle.command_rules.specs.Searches.{last_place}
 use Rattle.serial_line.specs.Ties.{IsLineOf}

@@ -1,6 +1,6 @@
 -- Leases, as parts that belong to one window tell them.
 use Rattle.command_rules.specs.Rosters.{Run, commands_of, estimate_to_last, is_on, run_no}
-use Rattle.history_book.proofs.Told.{doom_is, placing_is}
+use Rattle.history_book.proofs.Cited.{doom_is, placing_is}
 use Rattle.history_book.specs.Books.{doom_of}
 use Rattle.history_book.specs.Plans.{greatest}
 use Rattle.history_book.specs.Readings.{Reading, is_doomed, next_of}
@@ -9,8 +9,7 @@ use Rattle.history_book.specs.declared.entries.Cause.{Cause}
 use Rattle.history_book.specs.declared.entries.Kept.{Kept}
 use Rattle.home_types.specs.declared.commands.Command.{Command}
 use Rattle.home_types.specs.declared.numbers.RunNo.{RunNo}
-use Rattle.lineage_table.proofs.RunAccesses.{found_has}
-use Rattle.lineage_table.proofs.RunSets.{has_homed}
+use Rattle.lineage_table.proofs.Cited.{found_has, has_homed}
 use Rattle.lineage_table.specs.Accesses.{access_of, accesses_before, first_before, has_access, is_released}
 use Rattle.lineage_table.specs.Lineages.{LineageState, accesses_at}
 use Rattle.lineage_table.specs.declared.accesses.Access.{Access}

@@ -2,10 +2,7 @@
 use Rattle.command_rules.specs.ClosedSets.{chosen, others, rearranged}
 use Rattle.command_rules.specs.Items.{is_ran, of_run}
 use Rattle.command_rules.specs.Rosters.{follows, touches}
-use Rattle.history_book.proofs.Asking.{asks_next}
-use Rattle.history_book.proofs.GapFronts.{gaps_behind}
-use Rattle.history_book.proofs.Sealed.{first_within}
-use Rattle.history_book.proofs.Splits.{gap_holds, line_length}
+use Rattle.history_book.proofs.Cited.{asks_next, first_within, gap_holds, gaps_behind, line_length}
 use Rattle.history_book.specs.Gaps.{gap_set, is_needed, line_for}
 use Rattle.history_book.specs.Lines.{Split, is_event_on, split_at}
 use Rattle.history_book.specs.Readings.{Reading, asks_on, did, is_committed, is_live, is_next_on, next_of}

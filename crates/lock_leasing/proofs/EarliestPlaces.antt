@@ -1,9 +1,9 @@
 -- No set of items plans an earlier end of a run than that of the timeline does.
-use Rattle.command_rules.proofs.ClosedLeasts.{grown_least}
+use Rattle.command_rules.proofs.Cited.{grown_least}
 use Rattle.command_rules.specs.Apart.{meet}
 use Rattle.command_rules.specs.ClosedSets.{BarsRise, IsLeast, IsPart, chosen}
 use Rattle.command_rules.specs.Rosters.{commands_of, reads_first, touches, writes_on}
-use Rattle.history_book.proofs.Splits.{base_length}
+use Rattle.history_book.proofs.Cited.{base_length}
 use Rattle.history_book.specs.Gaps.{bars, base_of, gap_set}
 use Rattle.history_book.specs.Plans.{Planning, free, greatest, plan_more, planned_end, planned_start, planned_times, whole_end}
 use Rattle.history_book.specs.Readings.{Planned, Reading, is_live, is_open, passed_by}

@@ -1,5 +1,5 @@
 -- Live runs, and runs with an effective write.
-use Rattle.history_book.proofs.Searches.{Each, map_some}
+use Rattle.history_book.proofs.Cited.{Each, map_some}
 use Rattle.history_book.specs.Readings.{Reading, has_written, is_live}
 use Rattle.home_types.specs.declared.items.Item.{Item}
 use Rattle.home_types.specs.declared.items.Item.TheVariants.{Back, Failed, Ran}

@@ -1,7 +1,7 @@
 -- The first live run of the line of which a test holds, as the accesses to a device tell it, and what is put before it: so an event finds its place, and a failure the run that it loses.
 use Rattle.command_rules.specs.Items.{is_ran, of_run}
 use Rattle.command_rules.specs.Rosters.{run_no, touches}
-use Rattle.history_book.proofs.Searches.{some_is}
+use Rattle.history_book.proofs.Cited.{some_is}
 use Rattle.history_book.specs.Lines.{put_before}
 use Rattle.history_book.specs.Readings.{Reading, is_live, is_open, passed_by}
 use Rattle.history_book.specs.Settings.{Setting}

@@ -1,10 +1,6 @@
 -- What holds of a configuration that is not of the weak model, and whose history, grips and order are as they must be.
 use Rattle.command_rules.specs.Rosters.{commands_of, is_on, touches}
-use Rattle.history_book.proofs.Asking.{asks_next}
-use Rattle.history_book.proofs.Lines.{any_parted}
-use Rattle.history_book.proofs.Once.{StandsOnce, stands_once}
-use Rattle.history_book.proofs.Shapes.{Shaped, committed_in, did_not_passed, did_touches, pending_not_passed, shapes}
-use Rattle.history_book.proofs.Standing.{Standing, is_abort, stands_in, standing}
+use Rattle.history_book.proofs.Cited.{Shaped, Standing, StandsOnce, any_parted, asks_next, committed_in, did_not_passed, did_touches, is_abort, pending_not_passed, shapes, standing, stands_in, stands_once}
 use Rattle.history_book.specs.Histories.{entries_of}
 use Rattle.history_book.specs.Readings.{OfRun, PlacedAt, Reading, asks_on, did, has_written, is_committed, is_committing, is_doomed, is_live, next_of, passed_by, pends}
 use Rattle.history_book.specs.Settings.{Setting}

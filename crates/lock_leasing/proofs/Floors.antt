@@ -1,7 +1,7 @@
 -- Counts of items of the line, as its touches and the history's ends tell them.
-use Rattle.command_rules.proofs.LastPlaces.{last_told, last_within}
+use Rattle.command_rules.proofs.Cited.{last_told, last_within}
 use Rattle.home_types.specs.declared.items.Item.{Item}
-use Rattle.serial_line.proofs.Once.{place_is, place_unfound}
+use Rattle.serial_line.proofs.Cited.{place_is, place_unfound}
 use Rattle.serial_line.specs.Marks.{Mark, all_differ, is_item, items_of, place_of, untouched}
 use Rattle.command_rules.specs.Searches.{last_place}
 use Rattle.std.proofs.Common.{ap, refl, sym, ◌∙◌}

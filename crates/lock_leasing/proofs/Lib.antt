@@ -1,16 +1,17 @@
-pub mod Places
-pub mod Effects
-pub mod Facts
-pub mod AccessRuns
-pub mod Writers
-pub mod Undoing
-pub mod Holding
-pub mod Meetings
-pub mod Floors
-pub mod Bindings
-pub mod Borrowers
-pub mod ClearPlaces
-pub mod EarliestPlaces
-pub mod TouchCounts
-pub mod FirstRuns
-pub mod EventRuns
+mod Places
+mod Effects
+mod Facts
+mod AccessRuns
+mod Writers
+mod Undoing
+mod Holding
+mod Meetings
+mod Floors
+mod Bindings
+mod Borrowers
+mod ClearPlaces
+mod EarliestPlaces
+mod TouchCounts
+mod FirstRuns
+mod EventRuns
+pub mod Cited

@@ -1,7 +1,7 @@
 -- What a run meets at its next command, as parts that belong to one window tell it.
 use Rattle.command_rules.specs.Items.{is_ran}
 use Rattle.command_rules.specs.Rosters.{Run, command_at, commands_of, is_on, no_command}
-use Rattle.history_book.proofs.Told.{doom_is}
+use Rattle.history_book.proofs.Cited.{doom_is}
 use Rattle.history_book.specs.Readings.{is_open, next_of}
 use Rattle.history_book.specs.declared.entries.Kept.{Kept}
 use Rattle.home_types.specs.declared.commands.Command.{Command}

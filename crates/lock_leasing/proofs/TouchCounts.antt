@@ -3,7 +3,7 @@ use Rattle.command_rules.specs.Rosters.{is_on}
 use Rattle.command_rules.specs.Searches.{last_place}
 use Rattle.home_types.specs.DeviceSets.{Devices}
 use Rattle.home_types.specs.declared.commands.Command.{Command}
-use Rattle.serial_line.proofs.Meetings.{meets_by}
+use Rattle.serial_line.proofs.Cited.{meets_by}
 use Rattle.serial_line.specs.Marks.{Mark, last_meeting}
 use Rattle.std.proofs.Common.{refl}
 use Rattle.std.specs.FinSet as set

@@ -1,13 +1,14 @@
-pub mod Bytes
-pub mod Numbers
-pub mod Notes
-pub mod Told
-pub mod Walking
-pub mod Passing
-pub mod Events
-pub mod Executions
-pub mod RunSteps
-pub mod Effects
-pub mod Orders
-pub mod SoundRuns
-pub mod WindowSteps
+mod Bytes
+mod Numbers
+mod Notes
+mod Told
+mod Walking
+mod Passing
+mod Events
+mod Executions
+mod RunSteps
+mod Effects
+mod Orders
+mod SoundRuns
+mod WindowSteps
+pub mod Cited

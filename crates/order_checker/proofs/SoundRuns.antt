@@ -5,7 +5,7 @@ use Rattle.home_types.specs.Limits.{most_commands, most_windows}
 use Rattle.home_types.specs.declared.commands.Command.{Command}
 use Rattle.order_checker.specs.Readers.{IsReader}
 use Rattle.order_checker.specs.declared.order_lines.OrderReader.{OrderReader}
-use Rattle.routine_reader.proofs.RosterLemmas.{runs-there}
+use Rattle.routine_reader.proofs.Cited.{runs-there}
 use Rattle.routine_reader.specs.Rosters.{routine_commands, run_of_text, script_runs}
 use Rattle.routine_reader.specs.Scripts.{plain_device, plain_routine, plain_script, plain_window}
 use Rattle.routine_reader.specs.Sound.{IsSound, IsSoundRoutine, IsSoundWindow}

@@ -1,1 +1,1 @@
-pub mod Returns
+mod Returns

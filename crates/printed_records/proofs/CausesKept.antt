@@ -1,6 +1,6 @@
 -- The cause of an aborted run names its own commands and values, and devices and runs that there are.
 use Rattle.command_rules.specs.Rosters.{Run, command_at, commands_of, is_run, no_command}
-use Rattle.history_book.proofs.Shapes.{put_all}
+use Rattle.history_book.proofs.Cited.{put_all}
 use Rattle.history_book.specs.Histories.{entry, reading}
 use Rattle.history_book.specs.Readings.{OfRun, Reading, nothing_read, same_answer}
 use Rattle.history_book.specs.Settings.{Setting}

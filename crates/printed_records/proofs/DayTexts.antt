@@ -6,7 +6,7 @@ use Rattle.home_types.specs.declared.modes.Scheduler.{Scheduler}
 use Rattle.home_types.specs.declared.modes.Visibility.TheVariants.{Eventual, Global, Partitioned, Weak}
 use Rattle.home_types.specs.declared.modes.Visibility.{Visibility}
 use Rattle.home_types.specs.declared.worlds.Stand.{Stand}
-use Rattle.order_checker.proofs.SoundRuns.{window_sound}
+use Rattle.order_checker.proofs.Cited.{window_sound}
 use Rattle.order_checker.specs.Heads.{is_head}
 use Rattle.order_checker.specs.Lines.{line_at, lines_of}
 use Rattle.order_checker.specs.Records.{first_progress, in_window, next_window_told, record_told, verdict, verdict_of}

@@ -1,9 +1,7 @@
 -- How many runs of a window committed, and how many were aborted: by the history, by the reading, by the ends that are told.
 use Rattle.command_rules.specs.Rosters.{is_run}
 use Rattle.day_report.specs.Days.{is_abort, is_commit}
-use Rattle.history_book.proofs.Searches.{none_is}
-use Rattle.history_book.proofs.Snoc.{put_keeps}
-use Rattle.history_book.proofs.Told.{end_is}
+use Rattle.history_book.proofs.Cited.{end_is, none_is, put_keeps}
 use Rattle.history_book.specs.Books.{end_of}
 use Rattle.history_book.specs.Histories.{entries_of, entry, reading}
 use Rattle.history_book.specs.Readings.{OfRun, Reading, nothing_read, put}
@@ -14,7 +12,7 @@ use Rattle.history_book.specs.declared.entries.End.{End}
 use Rattle.history_book.specs.declared.entries.Entry.TheVariants.{Arrived, Did, Doomed, Ended, Fell, Placed, Rose, Undid}
 use Rattle.history_book.specs.declared.entries.Entry.{Entry}
 use Rattle.history_book.specs.declared.entries.Kept.{Kept}
-use Rattle.legal_days.proofs.Lists.{count_cons}
+use Rattle.legal_days.proofs.Cited.{count_cons}
 use Rattle.printed_records.proofs.CausesKept.{run-among}
 use Rattle.printed_records.specs.Ends.{ends_told, told_end}
 use Rattle.routine_reader.specs.declared.scripts.RunText.{RunText}

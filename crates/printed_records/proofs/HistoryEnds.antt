@@ -1,9 +1,6 @@
 -- The ends of a window's runs, and their answers, by what the history says.
 use Rattle.command_rules.specs.Rosters.{Run, commands_of, is_run}
-use Rattle.history_book.proofs.Plain.{answer_by, answers_are}
-use Rattle.history_book.proofs.Shapes.{IsShaped, committed_in, shapes}
-use Rattle.history_book.proofs.Snoc.{put_keeps}
-use Rattle.history_book.proofs.Told.{end_is}
+use Rattle.history_book.proofs.Cited.{IsShaped, answer_by, answers_are, committed_in, end_is, put_keeps, shapes}
 use Rattle.history_book.specs.Books.{end_of}
 use Rattle.history_book.specs.Histories.{entries_of, entry, reading}
 use Rattle.history_book.specs.Readings.{OfRun, PlacedAt, Reading, is_committed, is_committing, next_of, nothing_read, put}
@@ -15,7 +12,7 @@ use Rattle.history_book.specs.declared.entries.Entry.TheVariants.{Arrived, Did, 
 use Rattle.history_book.specs.declared.entries.Entry.{Entry}
 use Rattle.history_book.specs.declared.entries.Kept.{Kept}
 use Rattle.home_types.specs.declared.commands.Answer.{Answer}
-use Rattle.legal_days.proofs.Lists.{at_place}
+use Rattle.legal_days.proofs.Cited.{at_place}
 use Rattle.order_checker.specs.RunLines.{told_of}
 use Rattle.order_checker.specs.RunLines as checked
 use Rattle.printed_records.proofs.ToldEnds.{told_at}

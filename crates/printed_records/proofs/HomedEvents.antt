@@ -1,7 +1,6 @@
 -- The events of a line are of the home's devices.
 use Rattle.command_rules.specs.Items.{is_ran}
-use Rattle.history_book.proofs.Lines.{any_insert, any_put_before}
-use Rattle.history_book.proofs.Splits.{split_any}
+use Rattle.history_book.proofs.Cited.{any_insert, any_put_before, split_any}
 use Rattle.history_book.specs.Histories.{entry, reading}
 use Rattle.history_book.specs.Lines.{without}
 use Rattle.history_book.specs.Gaps.{split_of}

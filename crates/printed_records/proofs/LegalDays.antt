@@ -8,10 +8,10 @@ use Rattle.home_types.specs.declared.modes.Scheduler.{Scheduler}
 use Rattle.home_types.specs.declared.modes.Visibility.TheVariants.{Eventual, Global, Partitioned, Weak}
 use Rattle.home_types.specs.declared.modes.Visibility.{Visibility}
 use Rattle.home_types.specs.declared.worlds.Stand.{Stand}
-use Rattle.legal_days.proofs.Lists.{at_place}
+use Rattle.legal_days.proofs.Cited.{at_place}
 use Rattle.legal_days.specs.LegalDays.{RecordsAreLegal, state_after}
 use Rattle.legal_days.specs.LegalWindows.{IsLegalWindow, IsSeriallyLegal}
-use Rattle.order_checker.proofs.SoundRuns.{window_sound}
+use Rattle.order_checker.proofs.Cited.{window_sound}
 use Rattle.order_checker.specs.Records.{verdict_of}
 use Rattle.order_checker.specs.declared.verdicts.Verdict.TheVariants.{Agrees}
 use Rattle.printed_records.proofs.DayTexts.{day-agrees}

@@ -1,6 +1,6 @@
 -- A legal window fits: what is printed of it is read again as what it is.
 use Rattle.command_rules.specs.Rosters.{follows}
-use Rattle.history_book.proofs.Told.{end_is}
+use Rattle.history_book.proofs.Cited.{end_is}
 use Rattle.history_book.specs.Books.{end_of}
 use Rattle.history_book.specs.Histories.{entries_of, entry, reading}
 use Rattle.history_book.specs.Readings.{Reading, is_committed, is_committing, nothing_read}

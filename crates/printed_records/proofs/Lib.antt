@@ -1,31 +1,32 @@
-pub mod Plain
-pub mod LineTexts
-pub mod Numerals
-pub mod ToldEnds
-pub mod Firsts
-pub mod Names
-pub mod Values
-pub mod Heads
-pub mod Totals
-pub mod Times
-pub mod WordReads
-pub mod HomeTexts
-pub mod Runs
-pub mod AnswerTexts
-pub mod CauseTexts
-pub mod RunTexts
-pub mod OrderTexts
-pub mod Traces
-pub mod WindowTexts
-pub mod DayTexts
-pub mod ValuesKept
-pub mod TypedAnswers
-pub mod SerialAnswers
-pub mod StandingItems
-pub mod HistoryEnds
-pub mod HomedEvents
-pub mod CausesKept
-pub mod LegalFits
-pub mod EndCounts
-pub mod LegalDays
-pub mod SmallCauses
+mod Plain
+mod LineTexts
+mod Numerals
+mod ToldEnds
+mod Firsts
+mod Names
+mod Values
+mod Heads
+mod Totals
+mod Times
+mod WordReads
+mod HomeTexts
+mod Runs
+mod AnswerTexts
+mod CauseTexts
+mod RunTexts
+mod OrderTexts
+mod Traces
+mod WindowTexts
+mod DayTexts
+mod ValuesKept
+mod TypedAnswers
+mod SerialAnswers
+mod StandingItems
+mod HistoryEnds
+mod HomedEvents
+mod CausesKept
+mod LegalFits
+mod EndCounts
+mod LegalDays
+mod SmallCauses
+pub mod Cited

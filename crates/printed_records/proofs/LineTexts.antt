@@ -1,5 +1,5 @@
 -- Lines of words, each with a space before it but the first, behind each other.
-use Rattle.order_checker.proofs.Notes.{lines-cons}
+use Rattle.order_checker.proofs.Cited.{lines-cons}
 use Rattle.order_checker.specs.Lines.{is_note, lines_of, lines_of_pieces, pieces_of}
 use Rattle.order_checker.specs.Words.{words_of}
 use Rattle.printed_records.proofs.Plain.{AreWords, IsWord, Lacks}

@@ -1,9 +1,9 @@
 -- Names of a sound script: each is a word, and names its own device.
-use Rattle.order_checker.proofs.SoundRuns.{seen_at}
+use Rattle.order_checker.proofs.Cited.{seen_at}
 use Rattle.order_checker.specs.Values.{device_named}
 use Rattle.printed_records.proofs.Firsts.{bytes_eq-self, position-at}
 use Rattle.printed_records.proofs.Plain.{IsPlain, IsWord, is_plain, word-plain}
-use Rattle.routine_reader.proofs.NameLemmas.{position-map}
+use Rattle.routine_reader.proofs.Cited.{position-map}
 use Rattle.routine_reader.specs.Names.{is_name_byte, starts_with_letter}
 use Rattle.routine_reader.specs.Scripts.{PlainDevice, plain_device, plain_routine, plain_script}
 use Rattle.routine_reader.specs.Sound.{IsName, IsSound, IsSoundDevice, IsSoundRoutine}

@@ -1,5 +1,5 @@
 -- Numbers as they are printed, read again.
-use Rattle.order_checker.proofs.Numbers.{own}
+use Rattle.order_checker.proofs.Cited.{own}
 use Rattle.order_checker.specs.Words.{is_number, is_numeral, number_of}
 use Rattle.printed_records.proofs.Plain.{IsPlain, IsWord, word-plain}
 use Rattle.std.proofs.Common.{List, Some, [], ap, arith, false, length, nat_lt, not, refl, suc, true, zero, ℕ, ◌<◌, ◌==◌, ◌^◌, ◌||◌, ◌≡◌, ◌∙◌, ◌∷◌}

@@ -14,7 +14,7 @@ use Rattle.home_types.specs.declared.worlds.Stand.{Stand}
 use Rattle.order_checker.specs.Answers.{first_found, first_wrong, home_behind, is_same, wrong_of}
 use Rattle.order_checker.specs.RunLines.{told_of}
 use Rattle.printed_records.specs.Fits.{plain_item}
-use Rattle.serial_meaning.proofs.Items.{serve_stays}
+use Rattle.serial_meaning.proofs.Cited.{serve_stays}
 use Rattle.std.proofs.Common.{ap, append-nil, append_assoc, arith, refl, subst, sym, ◌∙◌}
 use Rattle.std.proofs.lemmas.Grind.{common_steps}
 use Rattle.std.specs.Prelude.{Bool, List, None, Ok, Option, Some, [], false, fold, map, not, true, ⊤, ◌&&◌, ◌++◌, ◌∷◌, ◌≡◌}

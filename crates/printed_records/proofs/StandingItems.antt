@@ -3,7 +3,7 @@ use Rattle.command_rules.specs.Items.{is_ran}
 use Rattle.command_rules.specs.Rosters.{Run, commands_of, followed_by, follows}
 use Rattle.command_rules.specs.Serial.{SerialRun, serve}
 use Rattle.history_book.specs.Lines.{behind}
-use Rattle.history_book.proofs.Once.{count_insert}
+use Rattle.history_book.proofs.Cited.{count_insert}
 use Rattle.home_types.specs.Commands.{Execution, command_effect, done_effect, execute, holds}
 use Rattle.home_types.specs.declared.commands.Answer.TheVariants.{Skipped}
 use Rattle.home_types.specs.declared.commands.Guard.{Guard}

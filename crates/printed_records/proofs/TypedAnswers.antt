@@ -1,6 +1,6 @@
 -- The answers of a run suit its commands.
 use Rattle.command_rules.specs.Rosters.{command_at, commands_of, no_command}
-use Rattle.history_book.proofs.Shapes.{put_all}
+use Rattle.history_book.proofs.Cited.{put_all}
 use Rattle.history_book.specs.Histories.{entry, reading}
 use Rattle.history_book.specs.Readings.{OfRun, Reading, nothing_read}
 use Rattle.history_book.specs.Settings.{Setting}

@@ -14,7 +14,7 @@ use Rattle.home_types.specs.declared.items.Item.{Item}
 use Rattle.home_types.specs.declared.kinds.Kind.TheVariants.{Range, States}
 use Rattle.home_types.specs.declared.kinds.Kind.{Kind}
 use Rattle.home_types.specs.declared.worlds.Stand.{Stand}
-use Rattle.legal_days.proofs.Lists.{at_place}
+use Rattle.legal_days.proofs.Cited.{at_place}
 use Rattle.printed_records.proofs.Names.{sound-device, sound-routine}
 use Rattle.printed_records.proofs.Runs.{IsRunOf, device-kind, device-there, run-commands}
 use Rattle.printed_records.specs.FitWindows.{HaveValues}

@@ -9,7 +9,7 @@ use Rattle.home_types.specs.declared.commands.Answer.{Answer}
 use Rattle.home_types.specs.declared.modes.Mode.{Mode}
 use Rattle.home_types.specs.declared.modes.Visibility.TheVariants.{Weak}
 use Rattle.home_types.specs.declared.worlds.Stand.{Stand}
-use Rattle.legal_days.proofs.Lists.{at_place}
+use Rattle.legal_days.proofs.Cited.{at_place}
 use Rattle.order_checker.specs.Answers.{home_behind}
 use Rattle.order_checker.specs.HomeLines.{home_agrees, home_told, next_device_told, stands_so}
 use Rattle.order_checker.specs.Lines.{line_at, lines_of}

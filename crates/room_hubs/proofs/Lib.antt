@@ -1,13 +1,14 @@
-pub mod Found
-pub mod JoinedOrders
-pub mod Loops
-pub mod Merges
-pub mod Names
-pub mod Parts
-pub mod Sizes
-pub mod Steps
-pub mod RoomScripts
-pub mod SoundRuns
-pub mod JoinedHomes
-pub mod OwnSound
-pub mod OwnRuns
+mod Found
+mod JoinedOrders
+mod Loops
+mod Merges
+mod Names
+mod Parts
+mod Sizes
+mod Steps
+mod RoomScripts
+mod SoundRuns
+mod JoinedHomes
+mod OwnSound
+mod OwnRuns
+pub mod Cited

@@ -9,7 +9,7 @@ use Rattle.room_hubs.proofs.Parts.{Filtered, filtered}
 use Rattle.room_hubs.specs.Numbers.{numbers_of_devices, numbers_of_runs}
 use Rattle.room_hubs.specs.Rooms.{PlainRooms, no_rooms, room_name, rooms_of, with_device}
 use Rattle.room_hubs.specs.Splits.{device_room, devices_in, run_room, run_with, runs_in}
-use Rattle.routine_reader.proofs.RosterLemmas.{runs-there}
+use Rattle.routine_reader.proofs.Cited.{runs-there}
 use Rattle.routine_reader.specs.Rosters.{run_of_text, script_runs}
 use Rattle.routine_reader.specs.Scripts.{plain_device, plain_routine, plain_script, plain_window}
 use Rattle.routine_reader.specs.Sound.{IsSound, IsSoundWindow}

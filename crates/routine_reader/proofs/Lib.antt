@@ -1,13 +1,14 @@
-pub mod DeviceSound
-pub mod FormLemmas
-pub mod GivenLemmas
-pub mod NameLemmas
-pub mod PrefixLemmas
-pub mod ReadingLemmas
-pub mod RosterLemmas
-pub mod RoutineSound
-pub mod ScriptSound
-pub mod WalkLemmas
-pub mod WalkSound
-pub mod WindowLemmas
-pub mod WindowSound
+mod DeviceSound
+mod FormLemmas
+mod GivenLemmas
+mod NameLemmas
+mod PrefixLemmas
+mod ReadingLemmas
+mod RosterLemmas
+mod RoutineSound
+mod ScriptSound
+mod WalkLemmas
+mod WalkSound
+mod WindowLemmas
+mod WindowSound
+pub mod Cited

@@ -1,11 +1,12 @@
--- The runs of a window of a sound script.
-use Rattle.routine_reader.specs.Rosters.{run_of_text, script_runs}
-use Rattle.routine_reader.specs.Scripts.{plain_routine, plain_script, plain_window}
+-- The runs of a window of a sound script, and its devices.
+use Rattle.home_types.specs.declared.kinds.Kind.{Kind}
+use Rattle.routine_reader.specs.Rosters.{kinds_of, run_of_text, script_runs}
+use Rattle.routine_reader.specs.Scripts.{plain_device, plain_routine, plain_script, plain_window}
 use Rattle.routine_reader.specs.Sound.{IsSound, IsSoundWindow}
 use Rattle.routine_reader.specs.declared.scripts.RunText.{RunText}
 use Rattle.routine_reader.specs.declared.scripts.Script.{Script}
 use Rattle.routine_reader.specs.declared.scripts.WindowText.{WindowText}
-use Rattle.std.proofs.Common.{List, Some, [], ap, get_or, length, map, option_map, subst, sym, take, ℕ, ◌+◌, ◌++◌, ◌<◌, ◌∙◌, ◌≡◌, ◌≤◌, ◌∷◌}
+use Rattle.std.proofs.Common.{List, Some, [], ap, arith, get_or, length, map, option_map, subst, sym, take, ℕ, ◌++◌, ◌+◌, ◌<◌, ◌∙◌, ◌∷◌, ◌≡◌, ◌≤◌}
 use Rattle.std.proofs.lemmas.List.Elements.{All-get_or}
 use Rattle.std.proofs.lemmas.List.{length-map, map-append, take_all, take_more}
 use Rattle.std.proofs.lemmas.Option.{get_or_from_slice_get, slice_get-get_or, slice_get-map, slice_get_within}
@@ -47,3 +48,12 @@ pub window-there : (script : Script) (k : ℕ) (seen : List WindowText) (window 
 window-there script k seen window within same is =
     slice_get-get_or script.windows.items k window within
     ∙ ap (λ ws. Some (get_or ws k window)) (sym same) ∙ ap (λ (w : WindowText). Some w) (sym is)
+
+-- a script that is sound has few devices
+pub few_kinds : (script : Script) (kinds : List Kind) → IsSound (plain_script script) → kinds ≡ kinds_of script → length kinds ≤ 256
+few_kinds script kinds sound is =
+    let texts = script.devices.items in
+    let said = sound.few_devices in
+    let same : length (map plain_device texts) ≡ length texts = length-map texts plain_device in
+    let made : length kinds ≡ length texts = ap (λ l. length l) is ∙ length-map texts (λ t. t.kind) in
+    omega (arith, said, same, made)

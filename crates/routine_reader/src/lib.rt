@@ -5,6 +5,7 @@ mod commands;
 mod devices;
 pub mod faults;
 mod forms;
+mod homes;
 mod names;
 mod readers;
 mod rosters;
@@ -13,6 +14,7 @@ pub mod scripts;
 mod windows;
 
 pub use faults::{Count, Part, ReadFault, Spot};
+pub use homes::{script_kinds, start_world};
 pub use readers::read_script;
 pub use rosters::roster;
 pub use scripts::{DeviceText, RoutineText, RunText, Script, WindowText};

@@ -1,2 +1,2 @@
-pub mod OneLamp
-pub mod Unsealed
+mod OneLamp
+mod Unsealed

@@ -7,7 +7,7 @@ use Rattle.device_gate.specs.declared.slips.Slip.{Slip}
 use Rattle.device_gate.specs.declared.strangers.Stranger.{Stranger}
 use Rattle.device_states.specs.Devices.{Plan, Shown}
 use Rattle.history_book.specs.declared.entries.Entry.{Entry}
-use Rattle.hub_core.proofs.calls.HubChanges.{length_with}
+use Rattle.hub_core.proofs.Cited.{gave_back, length_with, never_refused}
 use Rattle.hub_core.specs.HubCalls.{SameWindow, carried_by, grip_takes}
 use Rattle.hub_core.specs.HubSteps.{Gave, Give, HubStep, Refused, Returned}
 use Rattle.hub_core.specs.OpenHubs.{OpenHub, carried_in, configuration_of, grip_in, hub_state_of, progress_at}
@@ -15,14 +15,14 @@ use Rattle.hub_core.specs.Steps.{after_give, at_moment, give_entries}
 use Rattle.lock_leasing.specs.Configurations.{Configuration, is_command, is_undo, point_of, read_of}
 use Rattle.lock_leasing.specs.Places.{GripsFit}
 use Rattle.run_replay.proofs.Holding.{Gives, gives_keeps, gives_plans}
-use Rattle.hub_core.proofs.steps.HubAnswers.{gave_back, never_refused}
 use Rattle.run_replay.proofs.Making.{give_makes}
 use Rattle.run_replay.proofs.Picking.{acted_is_stepped, full_is, met}
 use Rattle.run_replay.proofs.Stepping.{gave_fewer}
 use Rattle.run_replay.proofs.Taking.{stays_by}
 use Rattle.run_replay.specs.Players.{HavePlans, PlayerIsKept, PlayerState, is_ended, is_full, most_made, play_of, steps_left}
 use Rattle.run_replay.specs.Playing.{IsStepped}
-use Rattle.run_replay.specs.Replays.{Made, takes_of}
+use Rattle.run_replay.specs.Replays.{takes_of}
+use Rattle.run_replay.specs.declared.picked.Picked.TheVariants.{Made}
 use Rattle.std.proofs.Common.{ap, arith, refl, subst, sym, ◌∙◌}
 use Rattle.std.proofs.lemmas.Grind.{common_steps}
 use Rattle.std.proofs.lemmas.Option.{slice_get_read, slice_get_within}

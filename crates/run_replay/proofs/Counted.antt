@@ -3,7 +3,9 @@ use Rattle.hub_core.specs.HubCalls.{SameWindow}
 use Rattle.run_replay.proofs.Picking.{ended_is, stepped_is_picked}
 use Rattle.run_replay.specs.Players.{HoldNothing, MovesAreFew, PlayerIsKept, PlayerStands, PlayerState, empty_places, first_is_full, is_ended, most_made, most_moves, play_of, steps_left, with_moves}
 use Rattle.run_replay.specs.Playing.{IsPicked, IsStepped}
-use Rattle.run_replay.specs.Replays.{Made, Passed, Picked, Took, Waited, is_waiting_pick, moves_after}
+use Rattle.run_replay.specs.Replays.{is_waiting_pick, moves_after}
+use Rattle.run_replay.specs.declared.picked.Picked.TheVariants.{Made, Passed, Took, Waits as Waited}
+use Rattle.run_replay.specs.declared.picked.Picked.{Picked}
 use Rattle.std.proofs.Common.{ap, arith, mul-le-mul, refl, subst, sym, ◌∙◌}
 use Rattle.std.specs.Prelude.{List, None, Option, Some, [], drop, false, length, true, ℕ, ◌*◌, ◌+◌, ◌-◌, ◌<◌, ◌^◌, ◌∷◌, ◌≡◌, ◌≤◌}
 

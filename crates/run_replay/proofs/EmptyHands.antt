@@ -1,5 +1,5 @@
 -- Where each device is home no hand holds a grip.
-use Rattle.device_gate.proofs.Places.{none_out}
+use Rattle.device_gate.proofs.Cited.{none_out}
 use Rattle.device_gate.specs.Places.{all_home}
 use Rattle.run_replay.specs.Players.{HoldNothing, PlayerIsKept, PlayerState}
 use Rattle.std.proofs.Common.{ap, refl, sym, ◌∙◌}

@@ -4,10 +4,9 @@ use Rattle.device_gate.specs.Grips.{Gripped}
 use Rattle.device_gate.specs.declared.gates.Place.TheVariants.{Home, Out}
 use Rattle.device_gate.specs.declared.gates.Place.{Place}
 use Rattle.device_gate.specs.declared.grips.Ready.{Ready}
-use Rattle.history_book.proofs.Searches.{Each}
+use Rattle.history_book.proofs.Cited.{Each}
 use Rattle.history_book.specs.Readings.{is_live}
-use Rattle.hub_core.proofs.kept.Finds.{find_none, not_none}
-use Rattle.hub_core.proofs.kept.Sizes.{run_there}
+use Rattle.hub_core.proofs.Cited.{find_none, not_none, run_there}
 use Rattle.hub_core.specs.OpenHubs.{configuration_of, grip_in, progress_at}
 use Rattle.lock_leasing.specs.declared.purposes.Purpose.TheVariants.{Commands, Probes, Undoes}
 use Rattle.lock_leasing.specs.declared.purposes.Purpose.{Purpose}

@@ -4,7 +4,7 @@ use Rattle.device_gate.specs.declared.grips.Done.{Done}
 use Rattle.device_gate.specs.declared.grips.Ready.{Ready}
 use Rattle.device_gate.specs.declared.slips.Told.{Told}
 use Rattle.device_gate.specs.declared.slips.Told.TheVariants.{Died, Sensed, Worked}
-use Rattle.history_book.proofs.Snoc.{entries_on, put_keeps, put_other, reading_on}
+use Rattle.history_book.proofs.Cited.{entries_on, put_keeps, put_other, reading_on}
 use Rattle.history_book.specs.Histories.{entries_of, entry, kept_by, reading}
 use Rattle.history_book.specs.Readings.{Reading, did, is_doomed}
 use Rattle.history_book.specs.Settings.{Setting, is_weak}
@@ -12,7 +12,7 @@ use Rattle.history_book.specs.declared.entries.Cause.TheVariants.{Lost}
 use Rattle.history_book.specs.declared.entries.Cause.{Cause}
 use Rattle.history_book.specs.declared.entries.Entry.TheVariants.{Arrived, Did, Doomed, Ended, Fell, Placed, Rose, Undid}
 use Rattle.history_book.specs.declared.entries.Entry.{Entry}
-use Rattle.hub_core.proofs.steps.Choices.{decide_is}
+use Rattle.hub_core.proofs.Cited.{decide_is}
 use Rattle.hub_core.specs.OpenHubs.{configuration_of}
 use Rattle.hub_core.specs.HubCalls.{SameWindow}
 use Rattle.hub_core.specs.Steps.{Absent, Choice, HandsOut, Moves, Over, Waits, after_choice, after_give, after_take, at_moment, choice_of, give_entries}

@@ -1,6 +1,6 @@
 -- The runs that have not ended, as the bits of a word.
 use Rattle.command_rules.specs.Rosters.{is_run}
-use Rattle.blocked_runs.proofs.RunBits.{has_either, has_nothing, has_without}
+use Rattle.blocked_runs.proofs.Cited.{has_either, has_nothing, has_without}
 use Rattle.blocked_runs.specs.RunBits.{has_run}
 use Rattle.hub_core.specs.OpenHubs.{configuration_of}
 use Rattle.lock_leasing.specs.Configurations.{read_of}

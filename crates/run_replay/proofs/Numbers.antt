@@ -6,7 +6,8 @@ use Rattle.run_replay.proofs.LiveRuns.{live_low}
 use Rattle.run_replay.proofs.Trying.{HaveWaited, PickedNext, goes_on_at, never_all, none_waited, one_more_waits, one_moves, turned_length}
 use Rattle.run_replay.specs.Players.{PlayerStands, PlayerState, are_live, is_ended, play_of, steps_left}
 use Rattle.run_replay.specs.Playing.{GoesOn}
-use Rattle.run_replay.specs.Replays.{Picked, from_place, is_waiting_pick, pick_first}
+use Rattle.run_replay.specs.Replays.{from_place, is_waiting_pick, pick_first}
+use Rattle.run_replay.specs.declared.picked.Picked.{Picked}
 use Rattle.std.proofs.Common.{ap, arith, inl, inr, refl, subst, sym, ◌∙◌}
 use Rattle.std.proofs.lemmas.Grind.{common_steps}
 use Rattle.std.proofs.lemmas.List.{append-nil}

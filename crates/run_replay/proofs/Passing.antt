@@ -3,7 +3,7 @@ use Rattle.command_rules.specs.Rosters.{is_run}
 use Rattle.history_book.specs.Readings.{Reading}
 use Rattle.history_book.specs.Settings.{Setting}
 use Rattle.history_book.specs.declared.entries.End.{End}
-use Rattle.hub_core.proofs.waiting.Sleepers.{wait_is}
+use Rattle.hub_core.proofs.Cited.{wait_is}
 use Rattle.hub_core.specs.BlockedRuns.{IsBlocked, is_wait}
 use Rattle.hub_core.specs.OpenHubs.{configuration_of}
 use Rattle.hub_core.specs.Steps.{Over, Waits, after_choice, after_take, at_moment, choice_of, decide}
@@ -14,7 +14,7 @@ use Rattle.run_replay.proofs.Played.{played_next}
 use Rattle.run_replay.proofs.Trying.{HaveWaited, one_more_waits}
 use Rattle.run_replay.specs.Players.{PlayerState, play_of}
 use Rattle.run_replay.specs.Playing.{ArePicked, IsPicked}
-use Rattle.run_replay.specs.Replays.{Waited}
+use Rattle.run_replay.specs.declared.picked.Picked.TheVariants.{Waits as Waited}
 use Rattle.std.proofs.Common.{ap, refl, subst, sym, ◌∙◌}
 use Rattle.std.proofs.Math.ListN.{get_or}
 use Rattle.std.specs.Prelude.{List, None, Option, Some, [], false, length, slice_get, take, true, ℕ, ◌+◌, ◌<◌, ◌≡◌}

@@ -1,5 +1,5 @@
 -- A pick of an actor is a step of its hub.
-use Rattle.command_rules.specs.Rosters.{is_run}
+use Rattle.command_rules.specs.Rosters.{device_no, is_run}
 use Rattle.device_gate.specs.Grips.{Gripped}
 use Rattle.device_gate.specs.declared.grips.Ready.{Ready}
 use Rattle.device_gate.specs.declared.slips.Told.{Told}
@@ -13,7 +13,9 @@ use Rattle.run_replay.proofs.Gripping.{empty_hand, full_hand}
 use Rattle.run_replay.proofs.Settings.{there}
 use Rattle.run_replay.specs.Players.{PlayerIsKept, PlayerState, is_ended, is_full, play_of}
 use Rattle.run_replay.specs.Playing.{IsPicked, IsStepped, Tells}
-use Rattle.run_replay.specs.Replays.{Course, Made, Passed, Picked, Play, Took, act_on, counted_pick, detector_takes, gripped, is_actor_done, passes, pick, pick_live, picked_by, run_takes, takes_of}
+use Rattle.run_replay.specs.Replays.{Course, Play, act_on, counted_pick, detector_takes, gripped, is_actor_done, passes, pick, pick_live, picked_by, run_takes, takes_of}
+use Rattle.run_replay.specs.declared.picked.Picked.TheVariants.{Made, Passed, Took}
+use Rattle.run_replay.specs.declared.picked.Picked.{Picked}
 use Rattle.std.proofs.Common.{ap, arith, refl, sym, ◌∙◌}
 use Rattle.std.specs.Prelude.{Bool, List, None, Option, Some, [], false, if◌then◌else◌, is_some, length, max, nat_le, option_map, slice_get, suc, true, unwrap_or, zero, ℕ, ◌%◌, ◌*◌, ◌+◌, ◌-◌, ◌<◌, ◌==◌, ◌∷◌, ◌≡◌}
 
@@ -178,12 +180,12 @@ abbrev pub next_device : {D : Type 0} → PlayerState D → ℕ
 next_device s = s.place % length s.hub.setting.first
 
 by_probe : (p : Play) (b : Bool) → may_probe p.configuration (p.place % length p.configuration.setting.first) ≡ b → detector_takes p ≡ (if b then record {
-  picked = Took (p.place % length p.configuration.setting.first);
+  picked = Took (device_no (p.place % length p.configuration.setting.first));
   next = record p { configuration = after_take_probe p.configuration (p.place % length p.configuration.setting.first); place = p.place + 1 };
 } else passes (record p { place = p.place + 1 }))
 by_probe p b is =
     ap (λ (x : Bool). if x then record {
-      picked = Took (p.place % length p.configuration.setting.first);
+      picked = Took (device_no (p.place % length p.configuration.setting.first));
       next = record p { configuration = after_take_probe p.configuration (p.place % length p.configuration.setting.first); place = p.place + 1 };
     } else passes (record p { place = p.place + 1 })) is
 
@@ -199,12 +201,12 @@ detector_passed s t acts kept free may after place moves = record {
 }
 
 pub detector_took : {D : Type 0} (s t : PlayerState D) (acts : ℕ) → PlayerIsKept s → slice_get s.grips 0 ≡ Some None
-    → may_probe (configuration_of s.hub) (next_device s) ≡ true → configuration_of t.hub ≡ after_take_probe (configuration_of s.hub) (next_device s) → t.place ≡ s.place + 1 → t.moves ≡ s.moves → IsStepped s.rounds 0 (play_of s acts) (Took (next_device s)) (play_of t acts)
+    → may_probe (configuration_of s.hub) (next_device s) ≡ true → configuration_of t.hub ≡ after_take_probe (configuration_of s.hub) (next_device s) → t.place ≡ s.place + 1 → t.moves ≡ s.moves → IsStepped s.rounds 0 (play_of s acts) (Took (device_no (next_device s))) (play_of t acts)
 detector_took s t acts kept free may after place moves = record {
   told = [];
   acts = omega arith;
   leads = λ course same tells. rest_live course (play_of s acts) (empty_hand s 0 acts kept free) ∙ by_probe (play_of s acts) true may ∙ λ i. record {
-    picked = Took (next_device s);
+    picked = Took (device_no (next_device s));
     next = record { configuration = sym after i; moment = sym moment i; place = sym place i; acts = acts; moves = sym moves i };
   };
 }

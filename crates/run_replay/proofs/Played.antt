@@ -2,7 +2,7 @@
 use Rattle.run_replay.proofs.Tellings.{played_more}
 use Rattle.run_replay.specs.Players.{PlayerState, play_of}
 use Rattle.run_replay.specs.Playing.{ArePicked, IsPicked}
-use Rattle.run_replay.specs.Replays.{Picked}
+use Rattle.run_replay.specs.declared.picked.Picked.{Picked}
 use Rattle.std.proofs.Common.{ap, arith, refl, subst, sym, ◌∙◌}
 use Rattle.std.proofs.Math.ListN.{get_or}
 use Rattle.std.specs.Prelude.{List, [], length, suc, take, zero, ℕ, ◌++◌, ◌+◌, ◌<◌, ◌∷◌, ◌≡◌, ◌≤◌}

@@ -3,10 +3,7 @@ use Rattle.device_gate.specs.Grips.{Gripped}
 use Rattle.device_gate.specs.declared.grips.Done.{Done}
 use Rattle.device_gate.specs.declared.grips.Ready.{Ready}
 use Rattle.device_states.specs.Devices.{Shown}
-use Rattle.history_book.specs.Histories.{entries_made}
-use Rattle.history_book.specs.declared.entries.Made.{Made as MadeEntries}
 use Rattle.home_types.specs.declared.numbers.DeviceNo.{DeviceNo}
-use Rattle.hub_core.specs.HubCalls.{IsPacked}
 use Rattle.hub_core.specs.Steps.{Choice, Waits}
 use Rattle.hub_core.specs.declared.waits.Why.{Why}
 use Rattle.run_replay.proofs.Acting.{IsGivenBack, given_fewer, given_plans, given_stepped}
@@ -16,13 +13,15 @@ use Rattle.run_replay.proofs.Settings.{put_length}
 use Rattle.run_replay.proofs.Taking.{GoesToHand, IsAnswered, answered_fewer, answered_plans, answered_stepped, makes, passed_now, waited_left, went_fewer, went_plans, went_stepped}
 use Rattle.run_replay.proofs.Trying.{same_window, window_stays}
 use Rattle.run_replay.specs.PlayerSteps.{PlayerPicks, PlayerStays, PlayerSteps}
-use Rattle.run_replay.specs.Players.{PlayerStands, PlayerState, is_ended, most_made, picked_of, play_of, with_moves}
+use Rattle.run_replay.specs.Players.{PlayerStands, PlayerState, is_ended, most_made, play_of, with_moves}
 use Rattle.run_replay.specs.Playing.{IsStepped}
-use Rattle.run_replay.specs.Replays.{Made, Took, moves_after, picked_by}
-use Rattle.run_replay.specs.declared.picked.Picked.TheVariants.{Made as MadeSo, Passed as PassedSo, Took as TookSo, Waits as WaitsSo}
-use Rattle.run_replay.specs.declared.picked.Picked.{Picked as PickedSo}
+use Rattle.run_replay.specs.Replays.{moves_after, picked_by}
+use Rattle.run_replay.specs.declared.picked.Picked.TheVariants.{Made, Passed, Took, Waits as Waited}
+use Rattle.run_replay.specs.declared.picked.Picked.{Picked}
 use Rattle.std.proofs.Common.{ap, refl, subst, sym, ◌∙◌}
-use Rattle.std.specs.Prelude.{None, Some, false, length, suc, true, zero, ℕ, ◌+◌, ◌≡◌, ◌≤◌}
+use Rattle.std.specs.Prelude.{List, None, Some, false, length, suc, true, zero, ℕ, ◌+◌, ◌≡◌, ◌≤◌}
+use Rattle.history_book.specs.declared.entries.Entry.{Entry}
+use Rattle.command_rules.specs.Rosters.{device_no}
 
 pub stays_here : {D : Type 0} (shows : D → Shown) (s : PlayerState D) → PlayerStays shows s s
 stays_here shows s = record { window = window_stays s.hub; rounds = refl; plans = λ plans have. have }
@@ -31,20 +30,19 @@ pub stays_on : {D : Type 0} (shows : D → Shown) (s t u : PlayerState D) → Pl
 stays_on shows s t u first next = record { window = same_window s.hub t.hub u.hub first.window next.window; rounds = next.rounds ∙ first.rounds; plans = λ plans have. next.plans plans (first.plans plans have) }
 
 -- the player as callers see it
-pub steps_now : {D : Type 0} (shows : D → Shown) (now s t : PlayerState D) (a : ℕ) (picked : PickedSo) → s ≡ now → PlayerSteps shows s a picked t → PlayerSteps shows now a picked t
+pub steps_now : {D : Type 0} (shows : D → Shown) (now s t : PlayerState D) (a : ℕ) (picked : Picked) → s ≡ now → PlayerSteps shows s a picked t → PlayerSteps shows now a picked t
 steps_now {D = D} shows now s t a picked same = subst (λ (x : PlayerState D). PlayerSteps shows x a picked t) same
 
-pub picks_now : {D : Type 0} (shows : D → Shown) (now s t : PlayerState D) (a : ℕ) (picked : PickedSo) → s ≡ now → PlayerPicks shows s a picked t → PlayerPicks shows now a picked t
+pub picks_now : {D : Type 0} (shows : D → Shown) (now s t : PlayerState D) (a : ℕ) (picked : Picked) → s ≡ now → PlayerPicks shows s a picked t → PlayerPicks shows now a picked t
 picks_now {D = D} shows now s t a picked same = subst (λ (x : PlayerState D). PlayerPicks shows x a picked t) same
 
 -- A run takes
 
 -- it made entries
-pub made_steps : {D : Type 0} (shows : D → Shown) (s t : PlayerState D) (r : ℕ) (choice : Choice) (made : MadeEntries) → makes choice ≡ true → picked_by choice ≡ Made (entries_made made) → IsPacked made → IsAnswered s t r choice
-    → length t.hub.history ≤ most_made t → PlayerSteps shows s r (MadeSo made) t
-made_steps shows s t r choice made some told packed is bound = record {
+pub made_steps : {D : Type 0} (shows : D → Shown) (s t : PlayerState D) (r : ℕ) (choice : Choice) (made : List Entry) → makes choice ≡ true → picked_by choice ≡ Made made → IsAnswered s t r choice
+    → length t.hub.history ≤ most_made t → PlayerSteps shows s r (Made made) t
+made_steps shows s t r choice made some told is bound = record {
   stepped = λ acts. (acts, subst (λ p. IsStepped s.rounds r (play_of s acts) p (play_of t acts)) told (answered_stepped s t r acts choice is));
-  packed = packed;
   stays = record { window = is.window; rounds = is.rounds; plans = λ plans. answered_plans shows plans s t r choice is };
   moves = is.moves;
   hands = ap length is.grips;
@@ -55,10 +53,9 @@ made_steps shows s t r choice made some told packed is bound = record {
 }
 
 -- it waits
-pub waited_steps : {D : Type 0} (shows : D → Shown) (s t : PlayerState D) (r : ℕ) (why : Why) → IsAnswered s t r (Waits why) → PlayerSteps shows s r (WaitsSo why) t
+pub waited_steps : {D : Type 0} (shows : D → Shown) (s t : PlayerState D) (r : ℕ) (why : Why) → IsAnswered s t r (Waits why) → PlayerSteps shows s r (Waited why) t
 waited_steps shows s t r why is = record {
   stepped = λ acts. (acts, answered_stepped s t r acts (Waits why) is);
-  packed = tt;
   stays = record { window = is.window; rounds = is.rounds; plans = λ plans. answered_plans shows plans s t r (Waits why) is };
   moves = is.moves;
   hands = ap length is.grips;
@@ -69,10 +66,9 @@ waited_steps shows s t r why is = record {
 }
 
 -- it took a device
-pub went_steps : {D : Type 0} (shows : D → Shown) (s t : PlayerState D) (r : ℕ) (d : DeviceNo) (grip : Gripped D Ready) → d.0 ≡ grip.slip.device.0 → GoesToHand s t r grip → PlayerSteps shows s r (TookSo d) t
+pub went_steps : {D : Type 0} (shows : D → Shown) (s t : PlayerState D) (r : ℕ) (d : DeviceNo) (grip : Gripped D Ready) → d.0 ≡ grip.slip.device.0 → GoesToHand s t r grip → PlayerSteps shows s r (Took d) t
 went_steps shows s t r d grip number is = record {
-  stepped = λ acts. (acts, subst (λ e. IsStepped s.rounds r (play_of s acts) (Took e) (play_of t acts)) (sym number) (went_stepped s t r acts grip is));
-  packed = tt;
+  stepped = λ acts. (acts, subst (λ e. IsStepped s.rounds r (play_of s acts) (Took (device_no e)) (play_of t acts)) (sym number) (went_stepped s t r acts grip is));
   stays = record { window = is.window; rounds = is.rounds; plans = λ plans. went_plans shows plans s t r grip is };
   moves = is.moves;
   hands = ap length is.grips ∙ put_length s.grips r (Some grip);
@@ -83,16 +79,15 @@ went_steps shows s t r d grip number is = record {
 }
 
 -- its grip was done, and given back
-pub given_steps : {D : Type 0} (shows : D → Shown) (s t : PlayerState D) (a : ℕ) (grip : Gripped D Ready) (done : Gripped D Done) (made : MadeEntries) → IsGivenBack s t a grip done (entries_made made) → (shows done.device).plan ≡ (shows grip.device).plan → IsPacked made
-    → length t.hub.history ≤ most_made t → PlayerSteps shows s a (MadeSo made) t
-given_steps shows s t a grip done made by own packed bound = record {
-  stepped = λ acts. (acts + 1, given_stepped s t a acts grip done (entries_made made) by);
-  packed = packed;
-  stays = record { window = by.window; rounds = by.rounds; plans = λ plans. given_plans shows plans s t a grip done (entries_made made) by own };
+pub given_steps : {D : Type 0} (shows : D → Shown) (s t : PlayerState D) (a : ℕ) (grip : Gripped D Ready) (done : Gripped D Done) (made : List Entry) → IsGivenBack s t a grip done made → (shows done.device).plan ≡ (shows grip.device).plan
+    → length t.hub.history ≤ most_made t → PlayerSteps shows s a (Made made) t
+given_steps shows s t a grip done made by own bound = record {
+  stepped = λ acts. (acts + 1, given_stepped s t a acts grip done made by);
+  stays = record { window = by.window; rounds = by.rounds; plans = λ plans. given_plans shows plans s t a grip done made by own };
   moves = by.moves;
   hands = ap length by.grips ∙ put_length s.grips a None;
-  others = λ q other. given_ends s t a grip done (entries_made made) by q;
-  fewer = λ goes. given_fewer s t a grip done (entries_made made) by bound;
+  others = λ q other. given_ends s t a grip done made by q;
+  fewer = λ goes. given_fewer s t a grip done made by bound;
   left = λ waits. absurd (cc);
   waiting = λ waits. absurd (cc);
 }
@@ -100,10 +95,9 @@ given_steps shows s t a grip done made by own packed bound = record {
 -- A pick
 
 -- an actor that has ended passes
-pub passed_picks : {D : Type 0} (shows : D → Shown) (s : PlayerState D) (a : ℕ) → PlayerStands s → is_ended s a ≡ true → PlayerPicks shows s a PassedSo s
+pub passed_picks : {D : Type 0} (shows : D → Shown) (s : PlayerState D) (a : ℕ) → PlayerStands s → is_ended s a ≡ true → PlayerPicks shows s a Passed s
 passed_picks shows s a stands ended = record {
   picks = λ acts. passed_now s a acts stands ended;
-  packed = tt;
   stays = stays_here shows s;
   moves = refl;
   fewer = λ goes going. absurd (let both : true ≡ false = sym ended ∙ going in cc);
@@ -118,18 +112,17 @@ same_end moves s zero = refl
 same_end moves s (suc r) = refl
 
 -- a step that was counted is a pick
-pub counted_picks : {D : Type 0} (shows : D → Shown) (s t u : PlayerState D) (a : ℕ) (picked : PickedSo) → PlayerStands s → is_ended s a ≡ false → PlayerSteps shows s a picked t → u ≡ with_moves (moves_after (picked_of picked) t.moves) t → PlayerPicks shows s a picked u
+pub counted_picks : {D : Type 0} (shows : D → Shown) (s t u : PlayerState D) (a : ℕ) (picked : Picked) → PlayerStands s → is_ended s a ≡ false → PlayerSteps shows s a picked t → u ≡ with_moves (moves_after picked t.moves) t → PlayerPicks shows s a picked u
 counted_picks {D = D} shows s t u a picked stands going steps is = subst (λ (x : PlayerState D). PlayerPicks shows s a picked x) (sym is) (record {
-  picks = counted_now s t counted a (picked_of picked) stands going steps.stepped refl;
-  packed = steps.packed;
+  picks = counted_now s t counted a picked stands going steps.stepped refl;
   stays = record { window = steps.stays.window; rounds = steps.stays.rounds; plans = λ plans have. steps.stays.plans plans have };
-  moves = ap (moves_after (picked_of picked)) steps.moves;
+  moves = ap (moves_after picked) steps.moves;
   fewer = λ goes before. steps.fewer goes;
   hands = steps.hands;
-  others = λ q other. same_end (moves_after (picked_of picked) t.moves) t q ∙ steps.others q other;
+  others = λ q other. same_end (moves_after picked t.moves) t q ∙ steps.others q other;
   over = λ ended. absurd (let both : true ≡ false = sym ended ∙ going in cc);
-  waiting = λ waits. same_end (moves_after (picked_of picked) t.moves) t a ∙ steps.waiting waits;
+  waiting = λ waits. same_end (moves_after picked t.moves) t a ∙ steps.waiting waits;
 })
   where
     counted : PlayerState D
-    counted = with_moves (moves_after (picked_of picked) t.moves) t
+    counted = with_moves (moves_after picked t.moves) t

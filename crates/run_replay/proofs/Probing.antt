@@ -7,19 +7,16 @@ use Rattle.device_gate.specs.declared.slips.Slip.{Slip}
 use Rattle.device_gate.specs.declared.strangers.Stranger.{Stranger}
 use Rattle.device_states.specs.Devices.{Shown}
 use Rattle.history_book.specs.declared.entries.Entry.{Entry}
-use Rattle.history_book.specs.Histories.{entries_made}
-use Rattle.history_book.specs.declared.entries.Made.{Made as MadeEntries}
 use Rattle.home_types.specs.declared.numbers.DeviceNo.{DeviceNo}
-use Rattle.hub_core.specs.HubCalls.{IsPacked, IsProbed, SameWindow, carried_by}
+use Rattle.hub_core.specs.HubCalls.{IsProbed, SameWindow, carried_by}
 use Rattle.hub_core.specs.HubSteps.{Gave, GiveProbe, HubStep, IsSlipOf, Refused, Returned}
 use Rattle.hub_core.specs.OpenHubs.{OpenHub, carried_in, configuration_of, hub_state_of}
 use Rattle.hub_core.specs.Steps.{after_give, after_take_probe, give_entries, may_probe, probe_grip}
 use Rattle.history_book.specs.Readings.{put}
-use Rattle.hub_core.proofs.calls.HubChanges.{length_with}
+use Rattle.hub_core.proofs.Cited.{gave_probe_back, length_with, probe_never_refused, took_none, took_probe}
 use Rattle.lock_leasing.specs.Configurations.{Configuration, read_of}
 use Rattle.run_replay.proofs.Acting.{hand_by, out_of_hand, purpose_at}
 use Rattle.run_replay.proofs.Holding.{Gives, Moves, Takes, gives_keeps, gives_plans, moves_keeps, moves_plans, takes_keeps, takes_plans}
-use Rattle.hub_core.proofs.steps.HubAnswers.{gave_probe_back, probe_never_refused, took_none, took_probe}
 use Rattle.run_replay.proofs.Leaving.{give_ended, same_ends}
 use Rattle.run_replay.proofs.Picking.{acted_is_stepped, detector_passed, detector_took, empty_is, next_device}
 use Rattle.run_replay.proofs.Settings.{put_length}
@@ -28,14 +25,15 @@ use Rattle.run_replay.proofs.Taking.{some_slip, stays_by}
 use Rattle.run_replay.specs.PlayerSteps.{PlayerSteps}
 use Rattle.run_replay.specs.Players.{PlayerIsKept, PlayerState, is_ended, is_full, play_of}
 use Rattle.run_replay.specs.Playing.{IsStepped}
-use Rattle.run_replay.specs.Replays.{Made, Passed, Took, takes_of}
-use Rattle.run_replay.specs.declared.picked.Picked.TheVariants.{Made as MadeSo, Passed as PassedSo, Took as TookSo}
+use Rattle.run_replay.specs.Replays.{takes_of}
+use Rattle.run_replay.specs.declared.picked.Picked.TheVariants.{Made, Passed, Took}
 use Rattle.std.proofs.Common.{ap, arith, refl, subst, sym, ◌∙◌}
 use Rattle.std.proofs.lemmas.Grind.{common_steps}
 use Rattle.std.proofs.Math.ListN.{get_or}
 use Rattle.std.specs.Prelude.{Bool, List, None, Option, Some, false, if◌then◌else◌, length, nat_le, not, slice_get, slice_set, true, ℕ, ◌&&◌, ◌*◌, ◌+◌, ◌-◌, ◌<◌, ◌^◌, ◌≡◌, ◌≤◌}
 use Rattle.lock_leasing.specs.declared.purposes.Purpose.TheVariants.{Commands, Probes, Undoes}
 use Rattle.lock_leasing.specs.declared.purposes.Purpose.{Purpose}
+use Rattle.command_rules.specs.Rosters.{device_no}
 
 -- The detector comes to a device
 
@@ -119,10 +117,10 @@ takes_it s t d grip is =
 pub probed_keeps : {D : Type 0} (s t : PlayerState D) (d : ℕ) (grip : Gripped D Ready) → GoesToDetector s t d grip → PlayerIsKept t
 probed_keeps s t d grip is = takes_keeps s t 0 grip (takes_it s t d grip is) is.rest.kept
 
-probed_stepped : {D : Type 0} (s t : PlayerState D) (d acts : ℕ) (grip : Gripped D Ready) → GoesToDetector s t d grip → IsStepped s.rounds 0 (play_of s acts) (Took d) (play_of t acts)
+probed_stepped : {D : Type 0} (s t : PlayerState D) (d acts : ℕ) (grip : Gripped D Ready) → GoesToDetector s t d grip → IsStepped s.rounds 0 (play_of s acts) (Took (device_no d)) (play_of t acts)
 probed_stepped s t d acts grip is =
     let three = taken s t d grip is in
-    subst (λ e. IsStepped s.rounds 0 (play_of s acts) (Took e) (play_of t acts)) (sym is.next)
+    subst (λ e. IsStepped s.rounds 0 (play_of s acts) (Took (device_no e)) (play_of t acts)) (sym is.next)
     (detector_took s t acts is.rest.kept (its_hand s is.rest) (ap (may_probe (configuration_of s.hub)) (sym is.next) ∙ three.0) (three.1 ∙ ap (after_take_probe (configuration_of s.hub)) is.next) is.place is.moves)
 
 -- The device is passed over
@@ -248,10 +246,9 @@ back_keeps s t grip done entries is = gives_keeps s t 0 grip done.device (gives_
 
 -- The step of the detector
 
-pub probed_steps : {D : Type 0} (shows : D → Shown) (s t : PlayerState D) (d : DeviceNo) (grip : Gripped D Ready) → GoesToDetector s t d.0 grip → PlayerSteps shows s 0 (TookSo d) t
+pub probed_steps : {D : Type 0} (shows : D → Shown) (s t : PlayerState D) (d : DeviceNo) (grip : Gripped D Ready) → GoesToDetector s t d.0 grip → PlayerSteps shows s 0 (Took d) t
 probed_steps shows s t d grip is = record {
   stepped = λ acts. (acts, probed_stepped s t d.0 acts grip is);
-  packed = tt;
   stays = record { window = is.window; rounds = is.rounds; plans = λ plans. takes_plans shows plans s t 0 grip (takes_it s t d.0 grip is) };
   moves = is.moves;
   hands = ap length is.grips ∙ put_length s.grips 0 (Some grip);
@@ -261,10 +258,9 @@ probed_steps shows s t d grip is = record {
   waiting = λ waits. absurd (cc);
 }
 
-pub passed_steps : {D : Type 0} (shows : D → Shown) (s t : PlayerState D) (d : ℕ) → PassesOver s t d → PlayerSteps shows s 0 PassedSo t
+pub passed_steps : {D : Type 0} (shows : D → Shown) (s t : PlayerState D) (d : ℕ) → PassesOver s t d → PlayerSteps shows s 0 Passed t
 passed_steps {D = D} shows s t d is = record {
   stepped = λ acts. (acts, passed_stepped s t d acts is);
-  packed = tt;
   stays = record { window = is.window; rounds = is.rounds; plans = λ plans. moves_plans shows plans s t (stays s t d is) };
   moves = is.moves;
   hands = ap length is.grips;
@@ -274,16 +270,15 @@ passed_steps {D = D} shows s t d is = record {
   waiting = λ waits. absurd (cc);
 }
 
-pub back_steps : {D : Type 0} (shows : D → Shown) (s t : PlayerState D) (grip : Gripped D Ready) (done : Gripped D Done) (made : MadeEntries) → ProbeIsBack s t grip done (entries_made made) → (shows done.device).plan ≡ (shows grip.device).plan → IsPacked made
-    → PlayerSteps shows s 0 (MadeSo made) t
-back_steps shows s t grip done made is own packed = record {
-  stepped = λ acts. (acts + 1, back_stepped s t acts grip done (entries_made made) is);
-  packed = packed;
-  stays = record { window = is.window; rounds = is.rounds; plans = λ plans. gives_plans shows plans s t 0 grip done.device (gives_it s t grip done (entries_made made) is) is.held.kept own };
+pub back_steps : {D : Type 0} (shows : D → Shown) (s t : PlayerState D) (grip : Gripped D Ready) (done : Gripped D Done) (made : List Entry) → ProbeIsBack s t grip done made → (shows done.device).plan ≡ (shows grip.device).plan
+    → PlayerSteps shows s 0 (Made made) t
+back_steps shows s t grip done made is own = record {
+  stepped = λ acts. (acts + 1, back_stepped s t acts grip done made is);
+  stays = record { window = is.window; rounds = is.rounds; plans = λ plans. gives_plans shows plans s t 0 grip done.device (gives_it s t grip done made is) is.held.kept own };
   moves = is.moves;
   hands = ap length is.grips ∙ put_length s.grips 0 None;
-  others = λ q other. same_ends s t q is.window (λ own. absurd (other own)) (ap (λ (c : Configuration). ((read_of c).run q).ended) (came_back s t grip done (entries_made made) is).1 ∙ give_ended (configuration_of s.hub) grip.slip.device.0 0 q (purpose_at s grip) done.stage.told);
-  fewer = λ goes. returned_fewer s t grip (stays_by s t is.window is.rounds) is.held.hand is.grips is.place (longer s t grip done (entries_made made) is);
+  others = λ q other. same_ends s t q is.window (λ own. absurd (other own)) (ap (λ (c : Configuration). ((read_of c).run q).ended) (came_back s t grip done made is).1 ∙ give_ended (configuration_of s.hub) grip.slip.device.0 0 q (purpose_at s grip) done.stage.told);
+  fewer = λ goes. returned_fewer s t grip (stays_by s t is.window is.rounds) is.held.hand is.grips is.place (longer s t grip done made is);
   left = λ waits. absurd (cc);
   waiting = λ waits. absurd (cc);
 }

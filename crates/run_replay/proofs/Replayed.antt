@@ -2,7 +2,7 @@
 use Rattle.device_gate.specs.declared.slips.Told.TheVariants.{Worked}
 use Rattle.device_states.specs.Devices.{Shown}
 use Rattle.history_book.specs.declared.records.WindowRecord.{WindowRecord}
-use Rattle.hub_core.proofs.calls.WindowWays.{plan_in, window_worked}
+use Rattle.hub_core.proofs.Cited.{plan_in, window_worked}
 use Rattle.hub_core.specs.Homes.{HomeState}
 use Rattle.hub_core.specs.HubCalls.{HubStands, SameWindow, WindowIsClosed}
 use Rattle.hub_core.specs.OpenHubs.{OpenHub, configuration_of, progress_at}

@@ -1,12 +1,10 @@
 -- A run takes its step: what its player is after it.
-use Rattle.command_rules.specs.Rosters.{is_run}
+use Rattle.command_rules.specs.Rosters.{device_no, is_run}
 use Rattle.device_gate.specs.Grips.{Gripped}
 use Rattle.device_gate.specs.declared.grips.Ready.{Ready}
 use Rattle.device_gate.specs.declared.slips.Slip.{Slip}
 use Rattle.device_states.specs.Devices.{Plan, Shown}
-use Rattle.hub_core.proofs.calls.HubChanges.{length_with}
-use Rattle.hub_core.proofs.kept.Finds.{none_there}
-use Rattle.hub_core.proofs.steps.Choices.{decide_is}
+use Rattle.hub_core.proofs.Cited.{decide_is, length_with, none_there, took_after, took_choice}
 use Rattle.hub_core.specs.HubCalls.{Answers, DeviceGoesOut, SameWindow}
 use Rattle.hub_core.specs.HubSteps.{IsSlipOf, SlipFits}
 use Rattle.hub_core.specs.OpenHubs.{OpenHub, configuration_of, hub_state_of}
@@ -14,7 +12,6 @@ use Rattle.hub_core.specs.Steps.{Absent, Choice, HandsOut, Moves, Over, Waits, a
 use Rattle.hub_core.specs.declared.waits.Why.{Why}
 use Rattle.lock_leasing.specs.Configurations.{Configuration, read_of}
 use Rattle.run_replay.proofs.Holding.{Moves as MovesOn, Takes, moves_keeps, moves_plans, takes_keeps, takes_plans}
-use Rattle.hub_core.proofs.steps.HubAnswers.{took_after, took_choice}
 use Rattle.run_replay.proofs.Making.{Makes, choice_makes}
 use Rattle.run_replay.proofs.Gripping.{empty_hand}
 use Rattle.run_replay.proofs.Picking.{IsGoing, empty_is, passed_is_picked, same_moment, taken_is_stepped}
@@ -22,7 +19,8 @@ use Rattle.run_replay.proofs.Settings.{both_are, within}
 use Rattle.run_replay.proofs.Stepping.{StaysBy, made_fewer, still_left, took_fewer}
 use Rattle.run_replay.specs.Players.{HavePlans, PlayerIsKept, PlayerStands, PlayerState, is_ended, is_full, most_made, play_of, steps_left}
 use Rattle.run_replay.specs.Playing.{IsPicked, IsStepped}
-use Rattle.run_replay.specs.Replays.{Passed, Took, picked_by}
+use Rattle.run_replay.specs.Replays.{picked_by}
+use Rattle.run_replay.specs.declared.picked.Picked.TheVariants.{Passed, Took}
 use Rattle.std.proofs.Common.{ap, arith, subst, sym, ◌∙◌}
 use Rattle.std.specs.Prelude.{Bool, None, Some, false, is_some, length, slice_get, slice_set, suc, true, zero, ℕ, ◌*◌, ◌<◌, ◌^◌, ◌≡◌, ◌≢◌, ◌≤◌}
 
@@ -211,7 +209,7 @@ went_keeps s t r grip is = takes_keeps s t r grip (takes_of s t r grip is) is.fr
 pub went_plans : {D : Type 0} (shows : D → Shown) (plans : ℕ → Plan) (s t : PlayerState D) (r : ℕ) (grip : Gripped D Ready) → GoesToHand s t r grip → HavePlans shows plans s → HavePlans shows plans t
 went_plans shows plans s t r grip is = takes_plans shows plans s t r grip (takes_of s t r grip is)
 
-pub went_stepped : {D : Type 0} (s t : PlayerState D) (r acts : ℕ) (grip : Gripped D Ready) → GoesToHand s t r grip → IsStepped s.rounds r (play_of s acts) (Took grip.slip.device.0) (play_of t acts)
+pub went_stepped : {D : Type 0} (s t : PlayerState D) (r acts : ℕ) (grip : Gripped D Ready) → GoesToHand s t r grip → IsStepped s.rounds r (play_of s acts) (Took grip.slip.device) (play_of t acts)
 went_stepped s t r acts grip is = taken_is_stepped s t s.rounds r acts (HandsOut grip.slip.device.0 is.out.purpose) (going_of s r is.free) (empty_hand s r acts is.free.kept (hand_is_empty s r is.free)) (went s t r grip is) (went_after s t r grip is) is.place is.moves
 
 pub went_fewer : {D : Type 0} (s t : PlayerState D) (r : ℕ) (grip : Gripped D Ready) → GoesToHand s t r grip → steps_left t < steps_left s

@@ -3,7 +3,8 @@ use Rattle.device_gate.specs.declared.slips.Told.{Told}
 use Rattle.device_gate.specs.declared.slips.Told.TheVariants.{Worked}
 use Rattle.history_book.specs.Settings.{Setting}
 use Rattle.run_replay.specs.Playing.{ArePicked, GoesOn, IsFinished, IsPicked, Tells}
-use Rattle.run_replay.specs.Replays.{Course, DrawnPlay, IsReplay, Pick, Picked, Play, draw_once, draw_times, pick, play, start_of}
+use Rattle.run_replay.specs.Replays.{Course, DrawnPlay, IsReplay, Pick, Play, draw_once, draw_times, pick, play, start_of}
+use Rattle.run_replay.specs.declared.picked.Picked.{Picked}
 use Rattle.std.proofs.Common.{ap, arith, refl, subst, sym, ◌∙◌}
 use Rattle.std.proofs.lemmas.List.{length-append}
 use Rattle.std.proofs.lemmas.Grind.{fold-append}

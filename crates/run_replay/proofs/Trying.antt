@@ -1,7 +1,7 @@
 -- The actors that have not ended, picked one after another while they wait.
 use Rattle.device_gate.specs.declared.slips.Told.TheVariants.{Worked}
 use Rattle.device_gate.specs.declared.slips.Told.{Told}
-use Rattle.history_book.proofs.Searches.{Each}
+use Rattle.history_book.proofs.Cited.{Each}
 use Rattle.hub_core.specs.HubCalls.{SameWindow}
 use Rattle.hub_core.specs.OpenHubs.{OpenHub, configuration_of}
 use Rattle.run_replay.proofs.Counting.{of_filter}
@@ -16,7 +16,8 @@ use Rattle.run_replay.proofs.Stepping.{same_most}
 use Rattle.run_replay.proofs.Tellings.{index_or_get}
 use Rattle.run_replay.specs.Players.{PlayerIsKept, PlayerStands, PlayerState, are_live, empty_places, first_is_full, is_ended, is_full, most_made, play_of, steps_left}
 use Rattle.run_replay.specs.Playing.{GoesOn, IsPicked, IsTried, Tells}
-use Rattle.run_replay.specs.Replays.{Course, Pick, Picked, Play, actors, from_place, gripped, is_actor_done, is_waiting_pick, pick, pick_first}
+use Rattle.run_replay.specs.Replays.{Course, Pick, Play, actors, from_place, gripped, is_actor_done, is_waiting_pick, pick, pick_first}
+use Rattle.run_replay.specs.declared.picked.Picked.{Picked}
 use Rattle.std.proofs.Common.{ap, arith, inl, inr, refl, subst, sym, ◌∙◌}
 use Rattle.std.proofs.lemmas.Bool.{not-true}
 use Rattle.std.proofs.lemmas.List.{length-append, take-append-drop}

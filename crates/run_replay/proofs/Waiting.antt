@@ -1,7 +1,10 @@
 -- A pick that waits changes no more than the last moment.
+use Rattle.command_rules.specs.Rosters.{device_no}
 use Rattle.hub_core.specs.Steps.{Absent, Choice, HandsOut, Moves, Over, Waits, after_choice, after_take_probe, at_moment, choice_of, may_probe}
 use Rattle.lock_leasing.specs.Configurations.{Configuration, Grip}
-use Rattle.run_replay.specs.Replays.{Course, Made, Passed, Pick, Picked, Play, Took, Waited, act_on, act_where_out, actor_takes, counted_pick, detector_takes, gripped, is_actor_done, is_waiting_pick, moves_after, passes, pick, pick_live, picked_by, run_takes}
+use Rattle.run_replay.specs.Replays.{Course, Pick, Play, act_on, act_where_out, actor_takes, counted_pick, detector_takes, gripped, is_actor_done, is_waiting_pick, moves_after, passes, pick, pick_live, picked_by, run_takes}
+use Rattle.run_replay.specs.declared.picked.Picked.TheVariants.{Made, Passed, Took, Waits as Waited}
+use Rattle.run_replay.specs.declared.picked.Picked.{Picked}
 use Rattle.std.proofs.Common.{ap, refl, ◌∙◌}
 use Rattle.std.specs.Prelude.{Bool, None, Option, Some, false, if◌then◌else◌, length, option_map, suc, true, unwrap_or, zero, ℕ, ◌%◌, ◌+◌, ◌≡◌}
 
@@ -23,7 +26,7 @@ take_waits p r e = ap (λ c. record p { configuration = c }) (wait_changes_nothi
 pub detector_never_waits : (p : Play) → is_waiting_pick (detector_takes p).picked ≡ false
 detector_never_waits p =
     elim (may_probe p.configuration (p.place % length p.configuration.setting.first)) as (λ b. is_waiting_pick (if b then record {
-      picked = Took (p.place % length p.configuration.setting.first);
+      picked = Took (device_no (p.place % length p.configuration.setting.first));
       next = record p { configuration = after_take_probe p.configuration (p.place % length p.configuration.setting.first); place = p.place + 1 };
     } else passes (record p { place = p.place + 1 })).picked ≡ false) [ true ↦ refl | false ↦ refl ]
 

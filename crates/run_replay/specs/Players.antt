@@ -6,20 +6,17 @@ use Rattle.device_gate.specs.declared.grips.Ready.{Ready}
 use Rattle.device_gate.specs.declared.slips.Slip.{Slip}
 use Rattle.device_gate.specs.declared.slips.Task.{Task}
 use Rattle.device_states.specs.Devices.{Plan, Shown}
-use Rattle.history_book.specs.Histories.{entries_made}
 use Rattle.home_types.specs.Limits.{most_devices, most_runs}
 use Rattle.home_types.specs.Numbers.{ActorId, DeviceId, RunId}
 use Rattle.blocked_runs.specs.RunBits.{has_run}
 use Rattle.hub_core.specs.Bounds.{IsBounded, most_entries}
-use Rattle.hub_core.specs.HubCalls.{IsPacked, SomeRunMoves}
+use Rattle.hub_core.specs.HubCalls.{SomeRunMoves}
 use Rattle.hub_core.specs.OpenHubs.{OpenHub, configuration_of}
 use Rattle.lock_leasing.specs.Configurations.{point_of, read_of}
 use Rattle.lock_leasing.specs.Places.{GripsFit}
-use Rattle.run_replay.specs.Replays.{Made, Passed, Picked, Play, Took, Waited, start_of}
-use Rattle.run_replay.specs.declared.picked.Picked.TheVariants.{Made as MadeSo, Passed as PassedSo, Took as TookSo, Waits as WaitsSo}
-use Rattle.run_replay.specs.declared.picked.Picked.{Picked as PickedSo}
+use Rattle.run_replay.specs.Replays.{Play, start_of}
 use Rattle.std.specs.List.{range_with_len}
-use Rattle.std.specs.Prelude.{Bool, List, None, Option, Some, [], drop, false, filter, is_some, length, nat_le, not, option_map, slice_get, suc, unwrap_or, zero, ℕ, ⊤, ◌&&◌, ◌*◌, ◌+◌, ◌-◌, ◌<◌, ◌^◌, ◌||◌, ◌∷◌, ◌≡◌, ◌≤◌, ◌⊎◌}
+use Rattle.std.specs.Prelude.{Bool, List, None, Option, Some, [], drop, false, filter, is_some, length, nat_le, not, option_map, slice_get, suc, unwrap_or, zero, ℕ, ◌&&◌, ◌*◌, ◌+◌, ◌-◌, ◌<◌, ◌^◌, ◌||◌, ◌∷◌, ◌≡◌, ◌≤◌, ◌⊎◌}
 
 -- what a player shows: its hub, the grips that its actors hold, by their numbers, the detector's
 -- rounds, how many devices the detector has come to, and how many picks took a device, gave one
@@ -44,20 +41,6 @@ play_of s acts = record {
   acts = acts;
   moves = s.moves;
 }
-
--- what a pick did
-abbrev pub picked_of : PickedSo → Picked
-picked_of PassedSo = Passed
-picked_of (MadeSo made) = Made (entries_made made)
-picked_of (TookSo d) = Took d.0
-picked_of (WaitsSo why) = Waited why
-
--- the entries that a pick made stand in the first places
-abbrev pub PickIsPacked : PickedSo → Type 0
-PickIsPacked PassedSo = ⊤
-PickIsPacked (MadeSo made) = IsPacked made
-PickIsPacked (TookSo d) = ⊤
-PickIsPacked (WaitsSo why) = ⊤
 
 -- the actor holds a grip
 abbrev pub is_full : {D : Type 0} → PlayerState D → ActorId → Bool

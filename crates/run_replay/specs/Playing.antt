@@ -1,7 +1,8 @@
 -- How a play goes on, for what the devices tell meanwhile.
 use Rattle.device_gate.specs.declared.slips.Told.{Told}
 use Rattle.home_types.specs.Numbers.{ActorId}
-use Rattle.run_replay.specs.Replays.{Course, Picked, Play, actors, draw_times, is_waiting_pick, pick, pick_first, pick_live, play}
+use Rattle.run_replay.specs.Replays.{Course, Play, actors, draw_times, is_waiting_pick, pick, pick_first, pick_live, play}
+use Rattle.run_replay.specs.declared.picked.Picked.{Picked}
 use Rattle.std.specs.Prelude.{Bool, List, Some, [], length, slice_get, ℕ, ◌+◌, ◌≡◌}
 
 -- the course tells these, act after act, from the act of this number on

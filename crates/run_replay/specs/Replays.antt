@@ -1,17 +1,17 @@
 -- The replay of a window, given what the devices tell: picks first, then draws until every actor
 -- has ended.
-use Rattle.command_rules.specs.Rosters.{command_at, is_run}
+use Rattle.command_rules.specs.Rosters.{command_at, device_no, is_run}
 use Rattle.history_book.specs.Settings.{Setting}
-use Rattle.history_book.specs.declared.entries.Entry.{Entry}
 use Rattle.home_types.specs.Numbers.{ActorId, DeviceId, Moment, RunId}
 use Rattle.hub_core.specs.Steps.{Absent, Choice, HandsOut, Moves, Over, Waits, after_give, after_take, after_take_probe, at_moment, choice_of, give_entries, may_probe, opened}
 use Rattle.device_gate.specs.declared.slips.Told.{Told}
-use Rattle.hub_core.specs.declared.waits.Why.{Why}
 use Rattle.lock_leasing.specs.Configurations.{Configuration, Grip, read_of}
 use Rattle.lock_leasing.specs.declared.purposes.Purpose.TheVariants.{Commands, Probes, Undoes}
 use Rattle.lock_leasing.specs.declared.purposes.Purpose.{Purpose}
 use Rattle.lock_leasing.specs.Waits.{grip_wait}
 use Rattle.seeded_draws.specs.Draws.{below, drawn}
+use Rattle.run_replay.specs.declared.picked.Picked.TheVariants.{Made, Passed, Took, Waits as Waited}
+use Rattle.run_replay.specs.declared.picked.Picked.{Picked}
 use Rattle.std.specs.List.{range_with_len}
 use Rattle.std.specs.Prelude.{Bool, List, Option, [], drop, false, filter, fold, if◌then◌else◌, is_none, is_some, length, nat_le, not, option_map, suc, take, true, unwrap_or, zero, ℕ, ◌%◌, ◌&&◌, ◌*◌, ◌++◌, ◌+◌, ◌==◌, ◌||◌, ◌∷◌, ◌≡◌}
 
@@ -32,14 +32,7 @@ pub record Course : Type 0 where
   pub rounds : ℕ
   pub told : ℕ → Told
 
--- what a pick does
-pub data Picked : Type 0 where
-  -- the actor has ended or is none of the window, or the detector came to a device that is out
-  Passed : Picked
-  Made : List Entry → Picked
-  Took : DeviceId → Picked
-  Waited : Why → Picked
-
+-- one pick: what it does, and the play after it
 pub record Pick : Type 0 where
   pub picked : Picked
   pub next : Play
@@ -104,7 +97,7 @@ picked_by Absent = Passed
 picked_by (Over e entries) = Made entries
 picked_by (Moves entries) = Made entries
 picked_by (Waits why) = Waited why
-picked_by (HandsOut d purpose) = Took d
+picked_by (HandsOut d purpose) = Took (device_no d)
 
 -- a run with no grip takes its step
 abbrev pub run_takes : Play → RunId → Pick
@@ -117,7 +110,7 @@ run_takes p r = record {
 abbrev pub detector_takes : Play → Pick
 detector_takes p =
     if may_probe p.configuration d then record {
-      picked = Took d;
+      picked = Took (device_no d);
       next = record p { configuration = after_take_probe p.configuration d; place = p.place + 1 };
     } else passes (record p { place = p.place + 1 })
   where

@@ -5,7 +5,7 @@ ghost use Rattle.hub_core.specs.HubCalls.{HubStands, WindowIsClosed};
 ghost use Rattle.hub_core.specs.OpenHubs.{configuration_of};
 ghost use Rattle.hub_core.specs.Steps.{not_quiet, opened};
 ghost use Rattle.run_replay.specs.PlayerSteps.{PlayerPicks, PlayerSteps};
-ghost use Rattle.run_replay.specs.Players.{HoldNothing, MovesAreFew, PlayerIsOpened, PlayerStands, is_ended, is_full, picked_of, with_moves};
+ghost use Rattle.run_replay.specs.Players.{HoldNothing, MovesAreFew, PlayerIsOpened, PlayerStands, is_ended, is_full, with_moves};
 ghost use Rattle.run_replay.specs.Replays.{moves_after};
 ghost use Rattle.blocked_runs.specs.RunBits.{has_run};
 
@@ -97,15 +97,15 @@ impl<D: Device> Hands<D> {
             return Picked::Passed;
         }
         let picked = self.step(actor);
-        self.count(picked);
+        self.count(&picked);
         picked
     }
 
     /// Counts a pick where it moved.
     #[inline(always)]
-    fn count(&mut self, picked: Picked)
+    fn count(&mut self, picked: &Picked)
         requires low { self.old.moves < 2 ^ 63 }
-        ensures { self.new ≡ with_moves (moves_after (picked_of picked) self.old.moves) self.old }
+        ensures { self.new ≡ with_moves (moves_after picked.now self.old.moves) self.old }
     {
         if has_moved(picked) {
             self.moves += 1;

@@ -1,6 +1,5 @@
 //! What came of a pick.
 ghost use Rattle.std.specs.Prelude.{◌≡◌};
-ghost use Rattle.run_replay.specs.Players.{picked_of};
 ghost use Rattle.run_replay.specs.Replays.{has_moved, is_waiting_pick};
 
 use history_book::Made;
@@ -23,16 +22,16 @@ pub enum Picked {
 
 /// Whether the actor that did this waits.
 #[inline(always)]
-pub(crate) fn has_waited(picked: Picked) -> bool
-    ensures { result ≡ is_waiting_pick (picked_of picked) }
+pub(crate) fn has_waited(picked: &Picked) -> bool
+    ensures { result ≡ is_waiting_pick picked.now }
 {
     matches!(picked, Picked::Waits(_))
 }
 
 /// Whether the actor that did this took a device, gave one back or made entries.
 #[inline(always)]
-pub(crate) fn has_moved(picked: Picked) -> bool
-    ensures { result ≡ has_moved (picked_of picked) }
+pub(crate) fn has_moved(picked: &Picked) -> bool
+    ensures { result ≡ has_moved picked.now }
 {
     matches!(picked, Picked::Made(_) | Picked::Took(_))
 }

@@ -46,7 +46,7 @@ impl<D: Device> Player<D> {
         ensures { PlayerPicks D.shows self.old actor result self.new }
     {
         let picked = self.hands.pick(actor);
-        if has_waited(picked) {
+        if has_waited(&picked) {
             return picked;
         }
         if !self.hands.has_ended(actor) {
@@ -66,7 +66,7 @@ impl<D: Device> Player<D> {
             → steps_left self.new < steps_left self.old }
     {
         let picked = self.pick(actor);
-        has_waited(picked)
+        has_waited(&picked)
     }
 
     /// Steps each of these actors, one after another. A run that is known to wait is passed over:

@@ -1,10 +1,8 @@
 -- What a line keeps of the runs of its window tells which items meet.
-use Rattle.command_rules.proofs.Meeting.{both_touch}
-use Rattle.command_rules.proofs.Sharing.{found}
+use Rattle.command_rules.proofs.Cited.{both_touch, found}
 use Rattle.command_rules.specs.Apart.{are_tied, meet, share_device}
 use Rattle.command_rules.specs.Rosters.{Run, commands_of, followed_by, follows, is_on, is_run, run_in_roster, shares, touches}
-use Rattle.home_types.proofs.DeviceBits.{contains_insert}
-use Rattle.home_types.proofs.Snocs.{snoc_get}
+use Rattle.home_types.proofs.Cited.{contains_insert, snoc_get}
 use Rattle.home_types.specs.DeviceSets.{Devices, Meet}
 use Rattle.home_types.specs.declared.commands.Command.{Command}
 use Rattle.home_types.specs.declared.items.Item.TheVariants.{Back, Failed, Ran}

@@ -1,11 +1,12 @@
-pub mod Searches
-pub mod Once
-pub mod Exchanged
-pub mod Neighbours
-pub mod RunPlaces
-pub mod Fronts
-pub mod Labels
-pub mod Sealed
-pub mod Meetings
-pub mod KeptRuns
-pub mod Ties
+mod Searches
+mod Once
+mod Exchanged
+mod Neighbours
+mod RunPlaces
+mod Fronts
+mod Labels
+mod Sealed
+mod Meetings
+mod KeptRuns
+mod Ties
+pub mod Cited

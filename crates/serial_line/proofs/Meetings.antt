@@ -1,5 +1,5 @@
 -- Sets of devices that have a device in common.
-use Rattle.home_types.proofs.DeviceBits.{contains_one}
+use Rattle.home_types.proofs.Cited.{contains_one}
 use Rattle.home_types.specs.DeviceSets.{Devices, Meet}
 use Rattle.std.proofs.Common.{ap, ap₂, arith, refl, sym, ◌∙◌}
 use Rattle.std.proofs.lemmas.Bool.{eq-eqb, or_left, or_right}

@@ -1,5 +1,5 @@
 -- Which marks of a line may be exchanged, by their items.
-use Rattle.command_rules.proofs.ClosedBrought.{apart_there}
+use Rattle.command_rules.proofs.Cited.{apart_there}
 use Rattle.command_rules.specs.Apart.{meet}
 use Rattle.command_rules.specs.ClosedSets.{IsClosed, are_apart, chosen}
 use Rattle.command_rules.specs.Rosters.{Run}

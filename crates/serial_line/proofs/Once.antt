@@ -1,5 +1,5 @@
 -- A line in which no item stands twice.
-use Rattle.command_rules.proofs.LastPlaces.{last_unfound}
+use Rattle.command_rules.proofs.Cited.{last_unfound}
 use Rattle.command_rules.specs.Items.{is_ran}
 use Rattle.home_types.specs.declared.items.Item.TheVariants.{Back, Failed, Ran}
 use Rattle.home_types.specs.declared.items.Item.{Item}

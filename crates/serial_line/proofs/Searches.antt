@@ -1,5 +1,5 @@
 -- What searches in a list find.
-use Rattle.command_rules.proofs.LastPlaces.{last_found, last_unfound}
+use Rattle.command_rules.proofs.Cited.{last_found, last_unfound}
 use Rattle.command_rules.specs.Searches.{last_place}
 use Rattle.std.proofs.Common.{ap, arith, cond, refl, subst}
 use Rattle.std.proofs.lemmas.Grind.{common_steps}

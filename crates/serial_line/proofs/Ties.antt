@@ -5,7 +5,7 @@ use Rattle.command_rules.specs.Items.{is_ran, of_run}
 use Rattle.home_types.specs.declared.items.Item.TheVariants.{Back, Failed, Ran}
 use Rattle.home_types.specs.declared.items.Item.{Item}
 use Rattle.home_types.specs.declared.numbers.RunNo.{RunNo}
-use Rattle.home_types.proofs.DeviceBits.{contains_insert}
+use Rattle.home_types.proofs.Cited.{contains_insert}
 use Rattle.serial_line.proofs.Searches.{up_to_first}
 use Rattle.serial_line.specs.Marks.{Mark, front_of, is_item, items_of, mark_has_touched, marks_without, settling, touching, untouched, with_end, with_item, with_touch}
 use Rattle.command_rules.specs.Searches.{last_place}

@@ -1,2 +1,3 @@
-pub mod Refusals
-pub mod Items
+mod Refusals
+mod Items
+pub mod Cited

@@ -1,2 +1,3 @@
-pub mod Publishings
+mod Publishings
 mod Steps
+pub mod Cited

@@ -1,2 +1,2 @@
-pub mod FittingOrders
-pub mod FreshWindows
+mod FittingOrders
+mod FreshWindows

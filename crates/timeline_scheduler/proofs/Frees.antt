@@ -10,9 +10,7 @@ use Rattle.home_types.specs.declared.numbers.DeviceNo.{DeviceNo}
 use Rattle.home_types.specs.declared.numbers.RunNo.{RunNo}
 use Rattle.lineage_table.specs.Accesses.{access_of, has_access, is_of, is_released}
 use Rattle.lineage_table.specs.declared.accesses.Access.{Access}
-use Rattle.lock_leasing.proofs.AccessRuns.{Alone, EachTail, HasAccess}
-use Rattle.lock_leasing.proofs.Facts.{Facts}
-use Rattle.lock_leasing.proofs.Holding.{sound_holds}
+use Rattle.lock_leasing.proofs.Cited.{Alone, EachTail, Facts, HasAccess, sound_holds}
 use Rattle.lock_leasing.specs.Configurations.{Grips, point}
 use Rattle.lock_leasing.specs.Order.{covers}
 use Rattle.lock_leasing.specs.Tables.{EachTellsOfRun, TellsOfRun, runs_with_access, uses}

@@ -1,10 +1,10 @@
 -- An item meets one of some items where their devices, the runs among them and those that these follow tell it.
-use Rattle.command_rules.proofs.Meeting.{both_touch}
+use Rattle.command_rules.proofs.Cited.{both_touch}
 use Rattle.command_rules.specs.Apart.{are_tied, meet, share_device}
 use Rattle.command_rules.specs.Items.{is_ran, of_run}
 use Rattle.command_rules.specs.Rosters.{Run, commands_of, followed_by, follows, touches}
 use Rattle.history_book.specs.Lines.{is_item_on}
-use Rattle.home_types.proofs.DeviceBits.{contains_insert}
+use Rattle.home_types.proofs.Cited.{contains_insert}
 use Rattle.home_types.specs.DeviceSets.{Devices, Meet}
 use Rattle.home_types.specs.declared.commands.Command.{Command}
 use Rattle.home_types.specs.declared.items.Item.TheVariants.{Back, Failed, Ran}

@@ -1,7 +1,7 @@
 -- The items of a line are runs of the roster and events of the home's devices.
-use Rattle.command_rules.proofs.Indexes.{device_below}
+use Rattle.command_rules.proofs.Cited.{device_below}
 use Rattle.command_rules.specs.Rosters.{Run, commands_of, is_run, touches}
-use Rattle.history_book.proofs.OwnItems.{is_stray, none_strays}
+use Rattle.history_book.proofs.Cited.{is_stray, none_strays}
 use Rattle.history_book.specs.Histories.{entries_of}
 use Rattle.history_book.specs.Settings.{Setting}
 use Rattle.history_book.specs.declared.entries.Kept.{Kept}

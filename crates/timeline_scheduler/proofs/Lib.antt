@@ -1,17 +1,21 @@
-pub mod Closing
-pub mod Counting
-pub mod DeviceWalks
-pub mod Frees
-pub mod Gathering
-pub mod HeldTimes
-pub mod Misfits
-pub mod Needs
-pub mod ItemPlaces
-pub mod KnownItems
-pub mod Overlaps
-pub mod Passes
-pub mod Rounds
-pub mod SlotSets
-pub mod Taking
-pub mod Wholes
-pub mod WriterWaits
+mod Closing
+mod Counting
+mod DeviceWalks
+mod Frees
+mod Gathering
+mod HeldTimes
+mod Misfits
+mod Needs
+mod ItemPlaces
+mod KnownItems
+mod Overlaps
+mod Passes
+mod Rounds
+mod SlotSets
+mod Taking
+mod Wholes
+mod WriterWaits
+mod PlannedInTurn
+mod PlannedUses
+mod HeldUses
+pub mod Cited

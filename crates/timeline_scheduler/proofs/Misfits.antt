@@ -1,5 +1,5 @@
 -- The runs outside of a set that do not fit, as slots and table tell them.
-use Rattle.command_rules.proofs.Meeting.{of_one_device}
+use Rattle.command_rules.proofs.Cited.{of_one_device}
 use Rattle.command_rules.specs.Apart.{meet}
 use Rattle.command_rules.specs.ClosedSets.{IsClosed, IsPart, chosen, either_of}
 use Rattle.command_rules.specs.Items.{of_run}
@@ -17,9 +17,7 @@ use Rattle.home_types.specs.declared.numbers.RunNo.{RunNo}
 use Rattle.lineage_table.specs.Accesses.{access_of}
 use Rattle.lineage_table.specs.Lineages.{LineageState, accesses_at}
 use Rattle.lineage_table.specs.declared.accesses.Access.{Access}
-use Rattle.lock_leasing.proofs.AccessRuns.{Alone, EachTail, alone}
-use Rattle.lock_leasing.proofs.Bindings.{any_range}
-use Rattle.lock_leasing.proofs.Facts.{Facts, written_did, written_touches}
+use Rattle.lock_leasing.proofs.Cited.{Alone, EachTail, Facts, alone, any_range, written_did, written_touches}
 use Rattle.lock_leasing.specs.Configurations.{Grips}
 use Rattle.lock_leasing.specs.Order.{covers}
 use Rattle.lock_leasing.specs.Tables.{uses}

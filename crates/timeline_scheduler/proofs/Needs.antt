@@ -1,9 +1,7 @@
 -- The items that must stand before a run, as line, history and roster tell them, are those of the base.
 use Rattle.command_rules.specs.Items.{of_run}
 use Rattle.command_rules.specs.Rosters.{Run, commands_of, follows, is_on, touches}
-use Rattle.history_book.proofs.Asking.{asks_next}
-use Rattle.history_book.proofs.Standing.{stands_in}
-use Rattle.history_book.proofs.Told.{answers_are, end_is}
+use Rattle.history_book.proofs.Cited.{answer_count_is, asks_next, end_is, stands_in}
 use Rattle.history_book.specs.Books.{answer_count, end_of}
 use Rattle.history_book.specs.Gaps as gaps
 use Rattle.history_book.specs.Readings.{OfRun, Reading, asks_on, did, is_committing, is_live, is_next_on, next_of}
@@ -17,12 +15,11 @@ use Rattle.home_types.specs.declared.items.Item.TheVariants.{Back, Failed, Ran}
 use Rattle.home_types.specs.declared.items.Item.{Item}
 use Rattle.home_types.specs.declared.numbers.RunNo.{RunNo}
 use Rattle.lineage_table.specs.Lineages.{LineageState}
-use Rattle.lock_leasing.proofs.Bindings.{any_filter, any_range, devices_by_commands}
-use Rattle.lock_leasing.proofs.Facts.{Facts, command_out, facts_of}
+use Rattle.lock_leasing.proofs.Cited.{Facts, any_filter, any_range, command_out, devices_by_commands, facts_of}
 use Rattle.lock_leasing.specs.Configurations.{Configuration, Grips, grips_command, read_of}
 use Rattle.lock_leasing.specs.Standings.{IsRosterFor, IsStandingOf, has_ended, item_has_touched}
 use Rattle.lock_leasing.specs.Words.{has_touched}
-use Rattle.serial_line.proofs.Meetings.{meets_by}
+use Rattle.serial_line.proofs.Cited.{meets_by}
 use Rattle.serial_line.specs.Marks.{Mark, front_of, is_open_run, items_of, meets}
 use Rattle.serial_line.specs.Ties.{Each, EndsAs, TouchesAs}
 use Rattle.std.proofs.Common.{ap, ap₂, arith, refl, sym, ◌∙◌}
@@ -321,4 +318,4 @@ module _ (table : List LineageState) (line : List Mark) (history : List Kept) (r
       ends q = ap (λ h. end_of h q) (sym parts.its_history) ∙ end_is s.setting s.history q parts.well_formed
 
       answers : (q : ℕ) → answer_count history q ≡ next_of (read_of s) q
-      answers q = ap (λ h. answer_count h q) (sym parts.its_history) ∙ answers_are s.setting s.history q
+      answers q = ap (λ h. answer_count h q) (sym parts.its_history) ∙ answer_count_is s.setting s.history q

@@ -1,5 +1,5 @@
 -- What the slots tell behind a front of the line, item by item.
-use Rattle.command_rules.proofs.FirstReads.{unread}
+use Rattle.command_rules.proofs.Cited.{unread}
 use Rattle.command_rules.specs.ClosedSets.{chosen}
 use Rattle.command_rules.specs.Rosters.{Run, commands_of, is_on, reads_first, reads_unwritten, touches, writes_on}
 use Rattle.history_book.specs.Books.{doom_of}
@@ -15,8 +15,7 @@ use Rattle.home_types.specs.declared.numbers.RunNo.{RunNo}
 use Rattle.lineage_table.specs.Accesses.{access_of, has_access}
 use Rattle.lineage_table.specs.Lineages.{LineageState, accesses_at}
 use Rattle.lineage_table.specs.declared.accesses.Access.{Access}
-use Rattle.lock_leasing.proofs.AccessRuns.{Alone, EachTail, HasAccess, alone, workers_have_access}
-use Rattle.lock_leasing.proofs.Facts.{Facts}
+use Rattle.lock_leasing.proofs.Cited.{Alone, EachTail, Facts, HasAccess, alone, workers_have_access}
 use Rattle.lock_leasing.specs.Configurations.{Grips}
 use Rattle.std.proofs.Common.{ap, ap₂, append-nil, append_assoc, arith, cond, refl, subst, sym, ◌∙◌}
 use Rattle.std.proofs.lemmas.Bool.{or_right}

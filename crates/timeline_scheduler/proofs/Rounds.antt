@@ -1,11 +1,10 @@
 -- The rounds in which the set of a run grows: in each configuration to which the parts belong the last one is the timeline's.
-use Rattle.command_rules.proofs.ClosedLeasts.{closure_holds, closure_least, closure_size, either_first, either_in, either_second, either_size, map_part, part_of_part, same_least}
-use Rattle.command_rules.proofs.ClosedParts.{closure_closed}
+use Rattle.command_rules.proofs.Cited.{closure_closed, closure_holds, closure_least, closure_size, either_first, either_in, either_second, either_size, map_part, part_of_part, same_least}
 use Rattle.command_rules.specs.Apart.{meet}
 use Rattle.command_rules.specs.ClosedSets.{IsClosed, IsLeast, IsPart, chosen, closure, either_of}
 use Rattle.command_rules.specs.Items.{of_run}
 use Rattle.command_rules.specs.Rosters.{Run, commands_of, touches}
-use Rattle.history_book.proofs.Told.{doom_is}
+use Rattle.history_book.proofs.Cited.{doom_is}
 use Rattle.history_book.specs.Books.{doom_of}
 use Rattle.history_book.specs.Gaps.{bars, base_of, gap_set, is_needed}
 use Rattle.history_book.specs.Plans.{free, planned_times}
@@ -14,8 +13,7 @@ use Rattle.history_book.specs.Settings.{scheduler_of}
 use Rattle.history_book.specs.declared.entries.Kept.{Kept}
 use Rattle.home_types.specs.declared.modes.Scheduler.TheVariants.{Timeline}
 use Rattle.lineage_table.specs.Lineages.{LineageState, accesses_at}
-use Rattle.lock_leasing.proofs.EarliestPlaces.{bars_rise, gap_is_earliest, gap_least}
-use Rattle.lock_leasing.proofs.Facts.{facts_of}
+use Rattle.lock_leasing.proofs.Cited.{bars_rise, facts_of, gap_is_earliest, gap_least}
 use Rattle.lock_leasing.specs.Configurations.{Configuration, read_of}
 use Rattle.lock_leasing.specs.Places.{IsEarliestSet}
 use Rattle.lock_leasing.specs.Standings.{IsStandingOf}

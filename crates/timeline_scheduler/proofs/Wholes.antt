@@ -11,7 +11,7 @@ use Rattle.home_types.specs.declared.numbers.RunNo.{RunNo}
 use Rattle.lineage_table.specs.Accesses.{access_of, has_access}
 use Rattle.lineage_table.specs.Lineages.{LineageState, accesses_at}
 use Rattle.lineage_table.specs.declared.accesses.Access.{Access}
-use Rattle.lock_leasing.proofs.AccessRuns.{Alone, EachTail}
+use Rattle.lock_leasing.proofs.Cited.{Alone, EachTail}
 use Rattle.lock_leasing.specs.Configurations.{Grips}
 use Rattle.lock_leasing.specs.Order.{covers}
 use Rattle.std.proofs.Common.{ap, arith, cond, refl, sym, ◌∙◌}

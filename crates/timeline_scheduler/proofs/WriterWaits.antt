@@ -1,5 +1,5 @@
 -- The devices on which a run waits for one that writes them.
-use Rattle.command_rules.proofs.FirstUses.{read_touched}
+use Rattle.command_rules.proofs.Cited.{read_touched}
 use Rattle.command_rules.specs.Rosters.{Run, reads_first, touches, writes_on}
 use Rattle.home_types.specs.DeviceSets.{Devices, IsFirstFrom}
 use Rattle.std.proofs.Common.{ap, arith, refl, sym, ◌∙◌}

@@ -3,3 +3,4 @@ pub mod Gathered
 pub mod Placings
 pub mod Scratches
 pub mod Slots
+pub mod PlannedUses

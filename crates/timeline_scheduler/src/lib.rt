@@ -5,8 +5,10 @@
 mod bases;
 mod gathered;
 mod places;
+mod plans;
 mod scratches;
 mod slots;
 
 pub use places::place;
+pub use plans::planned_uses;
 pub use scratches::Scratch;

@@ -1,5 +1,5 @@
 -- Things that are drawn one after the other, and what holds of each.
-use Rattle.routine_reader.proofs.PrefixLemmas.{EachAfter, each-more, each-none}
+use Rattle.routine_reader.proofs.Cited.{EachAfter, each-more, each-none}
 use Rattle.seeded_draws.specs.Draws.{below}
 use Rattle.std.proofs.Common.{List, [], ap, arith, length, length-append, map, refl, subst, suc, zero, ℕ, ◌+◌, ◌++◌, ◌/◌, ◌<◌, ◌≡◌, ◌∙◌, ◌∷◌}
 use Rattle.std.proofs.Math.Nat.{mod-lt}

@@ -1,6 +1,6 @@
-pub mod DrawnEach
-pub mod TrialDevicesSound
-pub mod TrialNames
-pub mod TrialRoutinesSound
-pub mod TrialSound
-pub mod TrialWindowsSound
+mod DrawnEach
+mod TrialDevicesSound
+mod TrialNames
+mod TrialRoutinesSound
+mod TrialSound
+mod TrialWindowsSound

@@ -1,5 +1,5 @@
 -- Names with numbers: they are names, and all different.
-use Rattle.routine_reader.proofs.PrefixLemmas.{EachAfter, each-more, each-none}
+use Rattle.routine_reader.proofs.Cited.{EachAfter, each-more, each-none}
 use Rattle.routine_reader.specs.Names.{is_among, is_letter, is_name, is_name_byte}
 use Rattle.routine_reader.specs.Sound.{AreDifferent}
 use Rattle.std.proofs.Common.{Bool, List, ap, arith, false, map, refl, subst, suc, sym, true, zero, ℕ, ◌%◌, ◌+◌, ◌/◌, ◌<◌, ◌≡◌, ◌≤◌, ◌∙◌, ◌∷◌, ◌||◌}

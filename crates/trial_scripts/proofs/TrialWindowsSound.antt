@@ -2,7 +2,7 @@
 use Rattle.day_clock.specs.Times.{IsCivilTime}
 use Rattle.day_clock.specs.declared.times.When.{When}
 use Rattle.home_types.specs.declared.numbers.RunNo.{RunNo}
-use Rattle.routine_reader.proofs.PrefixLemmas.{EachAfter, length-before}
+use Rattle.routine_reader.proofs.Cited.{EachAfter, length-before}
 use Rattle.routine_reader.specs.Scripts.{PlainWindow}
 use Rattle.routine_reader.specs.Sound.{AreInOrder, IsBefore, IsSoundRun, IsSoundWindow}
 use Rattle.routine_reader.specs.declared.scripts.RunText.{RunText}

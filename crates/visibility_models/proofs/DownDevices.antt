@@ -11,7 +11,7 @@ use Rattle.lock_leasing.specs.Configurations.{Configuration, point, read_of}
 use Rattle.lock_leasing.specs.Standings.{IsStandingOf}
 use Rattle.lock_leasing.specs.Waits.{down_at_end}
 use Rattle.lock_leasing.specs.Words.{has_touched}
-use Rattle.serial_line.proofs.Ties.{touched_in_line}
+use Rattle.serial_line.proofs.Cited.{touched_in_line}
 use Rattle.serial_line.specs.Marks.{Mark, stands}
 use Rattle.serial_line.specs.Marks.{mark_has_touched}
 use Rattle.std.proofs.Common.{ap, arith, refl, sym, ◌∙◌}

@@ -1,7 +1,7 @@
 -- No run is waited for that stands before the first one which has not ended.
 use Rattle.command_rules.specs.Items.{of_run}
 use Rattle.command_rules.specs.Rosters.{Run}
-use Rattle.history_book.proofs.Told.{end_is}
+use Rattle.history_book.proofs.Cited.{end_is}
 use Rattle.history_book.specs.Books.{end_of}
 use Rattle.history_book.specs.Readings.{OfRun, Reading}
 use Rattle.history_book.specs.declared.entries.End.{End}

@@ -1,5 +1,5 @@
-pub mod Found
-pub mod LineRuns
-pub mod Fronts
-pub mod StrictWaits
-pub mod DownDevices
+mod Found
+mod LineRuns
+mod Fronts
+mod StrictWaits
+mod DownDevices

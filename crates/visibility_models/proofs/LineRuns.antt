@@ -1,9 +1,7 @@
 -- What the parts of one window say of the runs of their line.
 use Rattle.command_rules.specs.Items.{is_ran}
 use Rattle.command_rules.specs.Rosters.{Run, is_run}
-use Rattle.history_book.proofs.Shapes.{Shaped, shapes}
-use Rattle.history_book.proofs.Standing.{Standing, is_abort, standing, stands_in}
-use Rattle.history_book.proofs.Told.{end_is}
+use Rattle.history_book.proofs.Cited.{Shaped, Standing, end_is, is_abort, shapes, standing, stands_in}
 use Rattle.history_book.specs.Books.{end_of}
 use Rattle.history_book.specs.Histories.{entries_of}
 use Rattle.history_book.specs.Readings.{OfRun, Reading, is_live}

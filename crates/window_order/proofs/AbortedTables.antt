@@ -1,6 +1,6 @@
 -- The lineages as a run ends aborted: its accesses are gone.
 use Rattle.command_rules.specs.Rosters.{run_no}
-use Rattle.history_book.proofs.Snoc.{put_other}
+use Rattle.history_book.proofs.Cited.{put_other}
 use Rattle.history_book.specs.Histories.{entry}
 use Rattle.history_book.specs.Lines.{without as line_without}
 use Rattle.history_book.specs.Readings.{OfRun, Reading, is_committed, is_live}

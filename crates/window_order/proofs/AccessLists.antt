@@ -6,7 +6,7 @@ use Rattle.device_order.specs.LineWords.{RunsAreDistinct}
 use Rattle.history_book.specs.Lines.{without as line_without}
 use Rattle.home_types.specs.declared.items.Item.TheVariants.{Back, Failed, Ran}
 use Rattle.home_types.specs.declared.items.Item.{Item}
-use Rattle.lineage_table.proofs.Splits.{put_at}
+use Rattle.lineage_table.proofs.Cited.{put_at}
 use Rattle.home_types.specs.declared.numbers.RunNo.{RunNo}
 use Rattle.lineage_table.specs.Accesses.{accesses_without, has_access, is_acquired, is_of, is_released, put_access_before, put_before_run, some_acquired, with_change}
 use Rattle.lineage_table.specs.declared.accesses.Status.TheVariants.{Scheduled}

@@ -2,9 +2,7 @@
 use Rattle.home_types.specs.declared.items.Item.TheVariants.{Back, Failed, Ran}
 use Rattle.home_types.specs.declared.items.Item.{Item}
 use Rattle.home_types.specs.declared.numbers.RunNo.{RunNo}
-use Rattle.lineage_table.proofs.Pairs.{Pairs, pairs_back, pairs_from_all}
-use Rattle.lineage_table.proofs.Splits.{behind_at, put_at, without_at}
-use Rattle.lineage_table.proofs.Steps.{status_at}
+use Rattle.lineage_table.proofs.Cited.{Pairs, behind_at, pairs_back, pairs_from_all, put_at, status_at, without_at}
 use Rattle.lineage_table.specs.Accesses.{AreInTurn, AreOfTwoRuns, IsDisciplined, access_of, accesses_behind, accesses_without, has_access, is_acquired, is_of, is_released, is_scheduled, put_access_before, run_behind, some_acquired, status_of}
 use Rattle.lineage_table.specs.Lineages.{LineageState, removed, scheduled}
 use Rattle.lineage_table.specs.declared.accesses.Access.{Access}

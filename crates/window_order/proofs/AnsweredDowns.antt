@@ -1,15 +1,13 @@
 -- A command is answered Down with no call: its run sees the device down already, or the device is home and counted down. The order of the window is kept.
 use Rattle.command_rules.specs.Rosters.{command_at, commands_of, run_no, touches}
-use Rattle.device_order.proofs.InPlace.{next_used}
-use Rattle.device_order.proofs.Losses.{down_unseen}
-use Rattle.device_order.proofs.WindowAnswers.{down_answered}
+use Rattle.device_order.proofs.Cited.{down_answered, down_unseen, next_used}
 use Rattle.device_order.specs.LineEntries.{entries, stage_of, usage}
 use Rattle.device_order.specs.LineWords.{CutAt}
 use Rattle.device_order.specs.RunStates.{device_summary, rest, uses_device}
 use Rattle.device_order.specs.Usages.{is_up, stage_is_open}
 use Rattle.device_order.specs.WindowSteps.{GetsAnswer, MayAnswerDown}
 use Rattle.device_order.specs.Windows.{device_record}
-use Rattle.history_book.proofs.Snoc.{put_other}
+use Rattle.history_book.proofs.Cited.{put_other}
 use Rattle.history_book.specs.Histories.{entry}
 use Rattle.history_book.specs.Readings.{Reading, is_doomed, is_live, next_command, next_of, put, sees_down, view_of}
 use Rattle.history_book.specs.Settings.{Setting, is_device, is_weak}

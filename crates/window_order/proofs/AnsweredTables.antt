@@ -2,8 +2,7 @@
 use Rattle.command_rules.specs.Items.{is_ran, of_run}
 use Rattle.command_rules.specs.Rosters.{command_at, commands_of, is_on, no_command, run_no, touches, touches_from}
 use Rattle.device_order.specs.LineWords.{CutAt}
-use Rattle.history_book.proofs.Shapes.{pending_not_passed, put_all}
-use Rattle.history_book.proofs.Snoc.{put_other, put_same}
+use Rattle.history_book.proofs.Cited.{pending_not_passed, put_all, put_other, put_same}
 use Rattle.history_book.specs.Histories.{answered, entry}
 use Rattle.history_book.specs.Plans.{planned_end, planned_start}
 use Rattle.history_book.specs.Readings.{OfRun, OnDevice, Reading, did, is_access, is_committed, is_doomed, is_fine, is_live, is_told, is_committing, next_of, pends, put, view_by}

@@ -1,15 +1,11 @@
 -- What a read finds, while it is out: its run's own last write, else the last committed write before the run in the line; and no live run before it has the effective write.
 use Rattle.command_rules.specs.Items.{is_ran}
 use Rattle.command_rules.specs.Rosters.{command_at, run_no, touches}
-use Rattle.device_order.proofs.Claims.{reads as read_finds}
-use Rattle.device_order.proofs.LineEntries.{used_at}
-use Rattle.device_order.proofs.LineWords.{effective_entries}
-use Rattle.device_order.proofs.Lists.{walk_back}
+use Rattle.device_order.proofs.Cited.{effective_entries, reads as read_finds, used_at, walk_back}
 use Rattle.device_order.specs.Claims.{ReadFinds}
 use Rattle.device_order.specs.Invariant.{DeviceInvariant}
 use Rattle.device_order.specs.declared.walks.WalkState.{WalkState}
-use Rattle.history_book.proofs.Searches.{some_is}
-use Rattle.history_book.proofs.Standing.{stands_in}
+use Rattle.history_book.proofs.Cited.{count_append, count_insert, some_is, stands_in}
 use Rattle.history_book.specs.declared.entries.End.{End}
 use Rattle.device_order.specs.LineEntries.{entries, stage_of, usage}
 use Rattle.device_order.specs.Records.{walk_start}
@@ -21,7 +17,6 @@ use Rattle.device_order.specs.declared.records.HeldGrip.TheVariants.{Free, Reads
 use Rattle.device_order.specs.declared.records.OrderEntry.TheVariants.{Used}
 use Rattle.device_order.specs.declared.records.OrderEntry.{OrderEntry}
 use Rattle.device_order.specs.declared.records.Usage.{Usage}
-use Rattle.history_book.proofs.Once.{count_append, count_insert}
 use Rattle.history_book.specs.Lines.{before, behind}
 use Rattle.history_book.specs.Readings.{Reading, is_committed, is_committing, is_doomed, is_live}
 use Rattle.history_book.specs.Settings.{Setting, is_device}

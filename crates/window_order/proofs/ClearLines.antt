@@ -9,7 +9,7 @@ use Rattle.history_book.specs.Settings.{Setting, is_device}
 use Rattle.home_types.specs.declared.items.Item.TheVariants.{Back, Failed, Ran}
 use Rattle.home_types.specs.declared.items.Item.{Item}
 use Rattle.home_types.specs.declared.numbers.RunNo.{RunNo}
-use Rattle.lock_leasing.proofs.ClearPlaces.{clear_touch, none_beside, unbound_touch}
+use Rattle.lock_leasing.proofs.Cited.{clear_touch, none_beside, unbound_touch}
 use Rattle.lock_leasing.specs.Configurations.{Grips, grips_command, point}
 use Rattle.lock_leasing.specs.Places.{IsClear, binds}
 use Rattle.lock_leasing.specs.Words.{has_touched}

@@ -1,8 +1,7 @@
 -- A run that has done all it has to do on a device has its span in the device's log closed: what comes later is not in it.
 use Rattle.command_rules.specs.Rosters.{command_at, commands_of, is_on, no_command, touches_from}
-use Rattle.device_order.proofs.InPlace.{two_places}
-use Rattle.history_book.proofs.Logs.{Logged, logged_step}
-use Rattle.history_book.proofs.Snoc.{put_keeps, put_other, put_same}
+use Rattle.device_order.proofs.Cited.{two_places}
+use Rattle.history_book.proofs.Cited.{Logged, logged_step, put_keeps, put_other, put_same}
 use Rattle.history_book.specs.Histories.{entry, more_if, reading}
 use Rattle.history_book.specs.Readings.{First, Last, LogMark, OfRun, Reading, did, is_access, is_first_mark, is_last_mark, next_of, nothing_read, pends, put, span_of}
 use Rattle.history_book.specs.Settings.{Setting}

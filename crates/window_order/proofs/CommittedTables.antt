@@ -3,8 +3,7 @@ use Rattle.command_rules.specs.Items.{of_run}
 use Rattle.command_rules.specs.Rosters.{run_no, touches, touches_from}
 use Rattle.device_order.specs.LineChanges.{Lacks}
 use Rattle.device_order.specs.LineWords.{CutAt}
-use Rattle.history_book.proofs.Shapes.{did_not_passed, did_touches}
-use Rattle.history_book.proofs.Snoc.{put_other, put_same}
+use Rattle.history_book.proofs.Cited.{did_not_passed, did_touches, put_other, put_same}
 use Rattle.history_book.specs.Histories.{entry}
 use Rattle.history_book.specs.Readings.{OfRun, Reading, did, has_written, is_committed, is_doomed, is_live}
 use Rattle.history_book.specs.Settings.{Setting}
@@ -14,8 +13,7 @@ use Rattle.history_book.specs.declared.entries.Entry.TheVariants.{Ended}
 use Rattle.home_types.specs.HomeStates.{stand_at}
 use Rattle.home_types.specs.declared.items.Item.TheVariants.{Back, Failed, Ran}
 use Rattle.home_types.specs.declared.items.Item.{Item}
-use Rattle.lineage_table.proofs.Splits.{behind_at, without_at, without_none}
-use Rattle.lineage_table.proofs.Steps.{written_at}
+use Rattle.lineage_table.proofs.Cited.{behind_at, without_at, without_none, written_at}
 use Rattle.lineage_table.specs.Accesses.{access_of, accesses_behind, accesses_without, has_access, is_of, written_by}
 use Rattle.lineage_table.specs.Lineages.{LineageState, committed_lineage, removed, settled}
 use Rattle.lineage_table.specs.declared.accesses.Access.{Access}

@@ -1,13 +1,12 @@
 -- The answer Down keeps the order of a window: where the device fails at a command that is out, and where it is given with no call.
 use Rattle.command_rules.specs.Items.{of_run}
 use Rattle.command_rules.specs.Rosters.{command_at, commands_of, run_no, touches, touches_from}
-use Rattle.device_order.proofs.WindowAnswers.{access_died}
+use Rattle.device_order.proofs.Cited.{access_died}
 use Rattle.device_order.specs.LineWords.{CutAt}
 use Rattle.device_order.specs.Usages.{holds_command}
 use Rattle.device_order.specs.WindowSteps.{ChangesInPlace, with_event_in}
 use Rattle.device_order.specs.declared.records.HeldGrip.TheVariants.{Reads, Writes}
-use Rattle.history_book.proofs.Snoc.{put_keeps, put_other, put_same}
-use Rattle.history_book.proofs.Lines.{any_put_before}
+use Rattle.history_book.proofs.Cited.{any_put_before, put_keeps, put_other, put_same}
 use Rattle.history_book.specs.Histories.{answered, entry, more_if, with_event}
 use Rattle.history_book.specs.Lines.{is_event_on, put_before}
 use Rattle.history_book.specs.Readings.{Event, First, Last, OfRun, OnDevice, Reading, did, is_access, is_doomed, is_first_mark, is_live, is_open, next_of, pends, put, sees_up, view_of}

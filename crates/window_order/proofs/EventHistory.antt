@@ -1,7 +1,7 @@
 -- The order of first accesses and events in the line and in the history, where a device fails or comes back.
 use Rattle.command_rules.specs.Items.{is_ran, of_run}
 use Rattle.command_rules.specs.Rosters.{run_no}
-use Rattle.history_book.proofs.Lines.{any_insert}
+use Rattle.history_book.proofs.Cited.{any_insert}
 use Rattle.history_book.specs.Lines.{is_event_on}
 use Rattle.history_book.specs.Readings.{Event, Reading, did, is_doomed, is_event, sees_up, span_of, view_of}
 use Rattle.home_types.specs.declared.items.Item.TheVariants.{Back, Failed, Ran}

@@ -1,10 +1,7 @@
 -- Where the event of a device stands in the line, and what that means for the runs around it.
 use Rattle.command_rules.specs.Items.{is_ran, of_run}
 use Rattle.command_rules.specs.Rosters.{commands_of, device_no, run_no, touches}
-use Rattle.device_order.proofs.Claims.{waits_calm}
-use Rattle.device_order.proofs.LineEntries.{used_at, uses_rest}
-use Rattle.device_order.proofs.LineWords.{calm_entries}
-use Rattle.device_order.proofs.EventCuts.{EventCut}
+use Rattle.device_order.proofs.Cited.{EventCut, calm_entries, used_at, uses_rest, waits_calm}
 use Rattle.device_order.specs.LineChanges.{Lacks, line_with_event, waits_at}
 use Rattle.device_order.specs.LineEntries.{entries, stage_of, usage}
 use Rattle.device_order.specs.LineWords.{CutAt, at_device, is_calm_line}
@@ -12,8 +9,7 @@ use Rattle.device_order.specs.RunStates.{device_summary, rest, uses_device}
 use Rattle.device_order.specs.Usages.{is_up, spans_up, stage_is_open}
 use Rattle.device_order.specs.WindowSteps.{ChangesInPlace, with_event_in}
 use Rattle.device_order.specs.Windows.{device_record}
-use Rattle.history_book.proofs.Shapes.{did_touches}
-use Rattle.history_book.proofs.Standing.{stands_in}
+use Rattle.history_book.proofs.Cited.{did_touches, stands_in}
 use Rattle.history_book.specs.Histories.{with_event}
 use Rattle.history_book.specs.Lines.{put_before}
 use Rattle.history_book.specs.Readings.{Reading, did, is_committed, is_doomed, is_live, is_open, pends, sees_up, view_of}

@@ -5,9 +5,7 @@ use Rattle.history_book.specs.Settings.{Setting}
 use Rattle.history_book.specs.Readings.{Reading}
 use Rattle.home_types.specs.declared.items.Item.TheVariants.{Back, Failed, Ran}
 use Rattle.home_types.specs.declared.items.Item.{Item}
-use Rattle.lineage_table.proofs.Keeping.{none_behind}
-use Rattle.lineage_table.proofs.Pairs.{Pairs, pairs_from_all}
-use Rattle.lineage_table.proofs.Splits.{without_none}
+use Rattle.lineage_table.proofs.Cited.{Pairs, none_behind, pairs_from_all, without_none}
 use Rattle.lineage_table.specs.Accesses.{AreOfTwoRuns, IsDisciplined, accesses_without, is_of}
 use Rattle.lineage_table.specs.Lineages.{LineageState}
 use Rattle.lineage_table.specs.declared.accesses.Access.{Access}

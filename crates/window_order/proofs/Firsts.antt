@@ -1,18 +1,14 @@
 -- A run's first answer on a device is the newest there, and so it keeps the order of the history.
 use Rattle.command_rules.specs.Items.{of_run}
 use Rattle.command_rules.specs.Rosters.{command_at, commands_of, run_no, touches, touches_from}
-use Rattle.device_order.proofs.Claims.{alone_behind, waits_calm}
-use Rattle.device_order.proofs.InPlace.{two_places}
-use Rattle.device_order.proofs.LineEntries.{used_at}
-use Rattle.device_order.proofs.LineWords.{calm_entries, has_entries}
+use Rattle.device_order.proofs.Cited.{alone_behind, calm_entries, has_entries, two_places, used_at, waits_calm}
 use Rattle.device_order.specs.LineEntries.{entries, usage}
 use Rattle.device_order.specs.LineWords.{CutAt, any_run, at_device, is_calm_line}
 use Rattle.device_order.specs.RunStates.{device_summary, uses_device}
 use Rattle.device_order.specs.Usages.{awaits_first, has_used_device, holds_command}
 use Rattle.device_order.specs.Windows.{device_record}
 use Rattle.device_order.specs.declared.records.OrderEntry.TheVariants.{Used}
-use Rattle.history_book.proofs.Shapes.{did_touches}
-use Rattle.history_book.proofs.Snoc.{put_keeps, put_other, put_same}
+use Rattle.history_book.proofs.Cited.{did_touches, put_keeps, put_other, put_same}
 use Rattle.history_book.specs.Histories.{answered, entry, more_if}
 use Rattle.history_book.specs.Readings.{First, Last, OfRun, OnDevice, Reading, did, is_access, is_doomed, is_first_mark, put, view_by, view_of}
 use Rattle.history_book.specs.Settings.{Setting, is_device}

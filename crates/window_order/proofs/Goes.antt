@@ -1,10 +1,7 @@
 -- A run that waits for nothing may have the grip of its next command's device.
 use Rattle.command_rules.specs.Items.{is_ran, of_run}
 use Rattle.command_rules.specs.Rosters.{commands_of, run_no, touches}
-use Rattle.device_order.proofs.LineEntries.{used_at}
-use Rattle.device_order.proofs.LineWords.{has_entries}
-use Rattle.device_order.proofs.Claims.{untouched_behind}
-use Rattle.device_order.proofs.Parts.{Cut, cut}
+use Rattle.device_order.proofs.Cited.{Cut, cut, has_entries, untouched_behind, used_at}
 use Rattle.device_order.specs.LineChanges.{Lacks}
 use Rattle.device_order.specs.LineEntries.{entries, stage_of, usage}
 use Rattle.device_order.specs.LineWords.{CutAt, any_run, at_device, last_in_effect}
@@ -16,8 +13,7 @@ use Rattle.device_order.specs.Walks.{WalkHolds, after_usage, is_command_out, wal
 use Rattle.device_order.specs.Windows.{device_record}
 use Rattle.device_order.specs.declared.records.OrderEntry.{OrderEntry}
 use Rattle.device_order.specs.declared.records.Usage.{Usage}
-use Rattle.history_book.proofs.Searches.{some_is}
-use Rattle.history_book.proofs.Standing.{is_abort, stands_in}
+use Rattle.history_book.proofs.Cited.{is_abort, some_is, stands_in}
 use Rattle.history_book.specs.Lines.{before}
 use Rattle.history_book.specs.Readings.{PlacedAt, Reading, did, is_committed, is_committing, is_doomed, is_live, pends}
 use Rattle.history_book.specs.Settings.{Setting, is_device}

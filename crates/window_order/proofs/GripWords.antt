@@ -1,5 +1,5 @@
 -- What the grip of one device says of the runs.
-use Rattle.history_book.proofs.Snoc.{put_keeps, put_other, put_same}
+use Rattle.history_book.proofs.Cited.{put_keeps, put_other, put_same}
 use Rattle.history_book.specs.Readings.{put}
 use Rattle.lock_leasing.specs.Configurations.{Grip, Grips, grips_command, grips_undo, is_command, is_undo}
 use Rattle.lock_leasing.specs.declared.purposes.Purpose.TheVariants.{Probes}

@@ -1,8 +1,7 @@
 -- A grip that goes out, an undo that comes home or is left out, and a doom keep the lineages.
 use Rattle.command_rules.specs.Rosters.{device_no, run_no, touches, touches_from}
-use Rattle.device_order.proofs.InPlace.{two_places}
-use Rattle.history_book.proofs.Shapes.{put_all}
-use Rattle.history_book.proofs.Snoc.{put_keeps, put_other, put_same}
+use Rattle.device_order.proofs.Cited.{two_places}
+use Rattle.history_book.proofs.Cited.{put_all, put_keeps, put_other, put_same}
 use Rattle.history_book.specs.Histories.{entry}
 use Rattle.history_book.specs.Plans.{planned_end, planned_start}
 use Rattle.history_book.specs.Readings.{OfRun, Reading, did, is_committing, is_doomed, pends, put, view_of}

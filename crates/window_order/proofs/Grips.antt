@@ -3,7 +3,7 @@ use Rattle.command_rules.specs.Rosters.{commands_of, is_on}
 use Rattle.device_order.specs.LineWords.{CutAt}
 use Rattle.device_order.specs.WindowSteps.{ChangesInPlace}
 use Rattle.device_order.specs.declared.records.HeldGrip.TheVariants.{Free}
-use Rattle.history_book.proofs.Searches.{some_is}
+use Rattle.history_book.proofs.Cited.{some_is}
 use Rattle.history_book.specs.Readings.{OfRun, Reading, is_committing, put}
 use Rattle.history_book.specs.Settings.{Setting, is_device}
 use Rattle.home_types.specs.Commands.{holds}

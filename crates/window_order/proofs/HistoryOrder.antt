@@ -3,8 +3,7 @@ use Rattle.command_rules.specs.Items.{is_ran, of_run}
 use Rattle.command_rules.specs.Rosters.{run_no}
 use Rattle.device_order.specs.LineChanges.{Lacks}
 use Rattle.device_order.specs.LineWords.{CutAt}
-use Rattle.history_book.proofs.Lines.{any_insert, any_other, any_without}
-use Rattle.history_book.proofs.Logs.{is_event_of}
+use Rattle.history_book.proofs.Cited.{any_insert, any_other, any_without, is_event_of}
 use Rattle.history_book.specs.Lines.{is_event_on, without}
 use Rattle.history_book.specs.Readings.{Event, First, Last, LogMark, Reading, did, is_doomed, is_event, is_first_mark, is_last_mark, sees_up, span_of, view_of}
 use Rattle.home_types.specs.declared.items.Item.TheVariants.{Back, Failed, Ran}

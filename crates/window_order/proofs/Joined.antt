@@ -1,7 +1,7 @@
 -- A run is placed: the line is rearranged, and the run goes in at a clear place.
 use Rattle.command_rules.specs.ClosedSets.{rearranged}
 use Rattle.command_rules.specs.Rosters.{run_no}
-use Rattle.history_book.proofs.Splits.{line_any, line_count, line_part}
+use Rattle.history_book.proofs.Cited.{line_any, line_count, line_part}
 use Rattle.history_book.specs.Gaps.{front_for, gap_set, line_for, split_of}
 use Rattle.history_book.specs.Histories.{entry}
 use Rattle.history_book.specs.Plans.{planned_times}
@@ -16,7 +16,7 @@ use Rattle.home_types.specs.declared.modes.Scheduler.{Scheduler}
 use Rattle.lineage_table.specs.Lineages.{LineageState}
 use Rattle.lock_leasing.specs.Configurations.{Grips, point}
 use Rattle.lock_leasing.specs.Places.{GripsFit, IsClear, in_order}
-use Rattle.serial_line.proofs.Ties.{line_rearranged}
+use Rattle.serial_line.proofs.Cited.{line_rearranged}
 use Rattle.serial_line.specs.Marks.{Mark, with_item}
 use Rattle.std.proofs.Common.{ap, refl, subst, sym}
 use Rattle.std.specs.Prelude.{List, true, ℕ, ◌≡◌}

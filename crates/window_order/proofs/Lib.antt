@@ -1,54 +1,56 @@
-pub mod ClosedSpans
-pub mod NumberedEvents
-pub mod ReadFacts
-pub mod PromisedWords
-pub mod StandingValues
-pub mod SettledOrders
-pub mod WindowEnds
-pub mod PromisedClauses
-pub mod Promises
-pub mod CleanValues
-pub mod Grips
-pub mod HistoryOrder
-pub mod EventHistory
-pub mod Runs
-pub mod Firsts
-pub mod Goes
-pub mod EventPlaces
-pub mod TurnedOrders
-pub mod ClearLines
-pub mod Steps
-pub mod Rollbacks
-pub mod AccessLists
-pub mod Representing
-pub mod GripWords
-pub mod TableFrames
-pub mod AnsweredTables
-pub mod PassedTables
-pub mod PassedAccesses
-pub mod AgainAccesses
-pub mod TableCalls
-pub mod GrippedTables
-pub mod PlacedTables
-pub mod CommittedTables
-pub mod AbortedTables
-pub mod TableSteps
-pub mod TouchedLines
-pub mod FewAccesses
-pub mod DeadAccesses
-pub mod AnsweredDowns
-pub mod ProbedOrders
-pub mod OutDevices
-pub mod TurnedLines
-pub mod TurnedTables
-pub mod ToldTables
-pub mod LostReads
-pub mod Rearranged
-pub mod Joined
-pub mod SkippedCommands
-pub mod SkippedTables
-pub mod NotedAnswers
-pub mod PassedRuns
-pub mod WaitingAgain
-pub mod Scheduling
-pub mod KeptFronts
+mod ClosedSpans
+mod NumberedEvents
+mod ReadFacts
+mod PromisedWords
+mod StandingValues
+mod SettledOrders
+mod WindowEnds
+mod PromisedClauses
+mod Promises
+mod CleanValues
+mod Grips
+mod HistoryOrder
+mod EventHistory
+mod Runs
+mod Firsts
+mod Goes
+mod EventPlaces
+mod TurnedOrders
+mod ClearLines
+mod Steps
+mod Rollbacks
+mod AccessLists
+mod Representing
+mod GripWords
+mod TableFrames
+mod AnsweredTables
+mod PassedTables
+mod PassedAccesses
+mod AgainAccesses
+mod TableCalls
+mod GrippedTables
+mod PlacedTables
+mod CommittedTables
+mod AbortedTables
+mod TableSteps
+mod TouchedLines
+mod FewAccesses
+mod DeadAccesses
+mod AnsweredDowns
+mod ProbedOrders
+mod OutDevices
+mod TurnedLines
+mod TurnedTables
+mod ToldTables
+mod LostReads
+mod Rearranged
+mod Joined
+mod SkippedCommands
+mod SkippedTables
+mod NotedAnswers
+mod PassedRuns
+mod WaitingAgain
+mod Scheduling
+mod KeptFronts
+mod TakenItems
+pub mod Cited

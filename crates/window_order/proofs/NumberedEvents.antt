@@ -1,7 +1,6 @@
 -- The failures of a device in the line have numbers up to how often it failed, and its restarts up to how often it came back.
 use Rattle.command_rules.specs.Items.{is_ran}
-use Rattle.history_book.proofs.Lines.{any_insert, any_put_before}
-use Rattle.history_book.proofs.Splits.{split_any}
+use Rattle.history_book.proofs.Cited.{any_insert, any_put_before, split_any}
 use Rattle.history_book.specs.Histories.{entry, reading}
 use Rattle.history_book.specs.Gaps.{split_of}
 use Rattle.history_book.specs.Readings.{Reading, nothing_read, put}

@@ -1,7 +1,6 @@
 -- How a device is counted that is out: up for a command, by a run that does not see it down, and for an undo and where it is asked, and down where it is restored.
 use Rattle.command_rules.specs.Rosters.{touches}
-use Rattle.device_order.proofs.Effects.{held_end}
-use Rattle.device_order.proofs.Parts.{Cut, cut as use_cut}
+use Rattle.device_order.proofs.Cited.{Cut, cut as use_cut, held_end}
 use Rattle.device_order.specs.Invariant.{DeviceFits}
 use Rattle.device_order.specs.LineEntries.{entries, usage}
 use Rattle.device_order.specs.LineWords.{CutAt}

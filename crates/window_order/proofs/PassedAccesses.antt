@@ -1,9 +1,7 @@
 -- How the scheduled accesses before a run's are passed, one after another.
-use Rattle.history_book.proofs.Once.{count_insert}
+use Rattle.history_book.proofs.Cited.{count_insert}
 use Rattle.home_types.specs.declared.commands.View.TheVariants.{Down}
-use Rattle.lineage_table.proofs.Pairs.{Pairs, pairs_from_all, pairs_front}
-use Rattle.lineage_table.proofs.Splits.{before_at}
-use Rattle.lineage_table.proofs.Steps.{acquired_at, pass_at, status_at}
+use Rattle.lineage_table.proofs.Cited.{Pairs, acquired_at, before_at, pairs_from_all, pairs_front, pass_at, status_at}
 use Rattle.lineage_table.specs.Accesses.{AreOfTwoRuns, IsDisciplined, accesses_before, has_access, is_acquired, is_of, is_scheduled, some_acquired, some_scheduled, status_of}
 use Rattle.lineage_table.specs.Lineages.{LineageState, acquired, released}
 use Rattle.lineage_table.specs.declared.accesses.Access.{Access}

@@ -1,11 +1,11 @@
 -- How the accesses before a run's are passed by calls of a lineage table.
-use Rattle.history_book.proofs.Searches.{map_none, map_some}
+use Rattle.history_book.proofs.Cited.{map_none, map_some}
 use Rattle.home_types.specs.declared.commands.View.TheVariants.{Down}
 use Rattle.home_types.specs.declared.numbers.DeviceNo.{DeviceNo}
 use Rattle.home_types.specs.declared.numbers.RunNo.{RunNo}
 use Rattle.window_order.proofs.NotedAnswers.{length_set, lineage_set, with_same}
 use Rattle.lineage_table.specs.Accesses.{IsDisciplined, first_before, has_access, is_acquired, is_scheduled}
-use Rattle.lineage_table.proofs.Sweeps.{no_access}
+use Rattle.lineage_table.proofs.Cited.{no_access}
 use Rattle.lineage_table.specs.declared.accesses.Access.{Access}
 use Rattle.lineage_table.specs.Lineages.{LineageState, accesses_at, acquired, lineage_at, released, with_lineage}
 use Rattle.std.proofs.Common.{ap, refl, subst, sym, ◌∙◌}

@@ -3,10 +3,7 @@ use Rattle.command_rules.specs.Items.{is_ran, of_run}
 use Rattle.command_rules.specs.Rosters.{Run, commands_of, is_on, is_run, run_no, touches, touches_from}
 use Rattle.device_order.specs.LineChanges.{Lacks}
 use Rattle.device_order.specs.LineWords.{RunsAreDistinct}
-use Rattle.history_book.proofs.Searches.{some_is}
-use Rattle.history_book.proofs.Shapes.{IsShaped}
-use Rattle.history_book.proofs.Snoc.{put_other, put_same}
-use Rattle.history_book.proofs.Standing.{aborted}
+use Rattle.history_book.proofs.Cited.{IsShaped, aborted, put_other, put_same, some_is}
 use Rattle.history_book.specs.Histories.{entry, with_placed}
 use Rattle.history_book.specs.Lines.{split_at}
 use Rattle.history_book.specs.Plans.{planned_end, planned_start}

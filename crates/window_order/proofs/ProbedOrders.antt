@@ -1,15 +1,14 @@
 -- A probe keeps the order of a window, whether it works or dies, and an undo that dies.
 use Rattle.command_rules.specs.Items.{is_ran}
 use Rattle.command_rules.specs.Rosters.{device_no, run_no, touches}
-use Rattle.device_order.proofs.WindowGrips.{device_restarted, probe_died, probe_found_down, probe_found_up, probe_out, undo_died}
-use Rattle.device_order.proofs.WindowRuns.{probe_died_under_run}
+use Rattle.device_order.proofs.Cited.{device_restarted, probe_died, probe_died_under_run, probe_found_down, probe_found_up, probe_out, undo_died}
 use Rattle.device_order.specs.LineEntries.{usage}
 use Rattle.device_order.specs.LineWords.{CutAt, any_run, at_device, standing_value_on}
 use Rattle.device_order.specs.Usages.{spans_up}
 use Rattle.device_order.specs.WindowSteps.{KeepsRuns}
 use Rattle.device_order.specs.declared.records.HeldGrip.TheVariants.{Free}
 use Rattle.device_order.specs.declared.records.Probe.TheVariants.{Asks, Restores}
-use Rattle.history_book.proofs.Snoc.{put_keeps, put_other, put_same}
+use Rattle.history_book.proofs.Cited.{put_keeps, put_other, put_same}
 use Rattle.history_book.specs.Histories.{entry}
 use Rattle.history_book.specs.Readings.{OfRun, Reading, has_written, is_doomed, is_live, is_open, pends, put, sees_up}
 use Rattle.history_book.specs.Settings.{Setting, is_device, is_weak}

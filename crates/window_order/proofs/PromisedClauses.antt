@@ -1,12 +1,12 @@
 -- The promises on live writes and open runs, along the line.
 use Rattle.command_rules.specs.Rosters.{commands_of, is_on, run_no, touches}
-use Rattle.device_order.proofs.WindowClaims.{read_covered, untouched_after}
+use Rattle.device_order.proofs.Cited.{read_covered, untouched_after}
 use Rattle.device_order.specs.LineEntries.{usage}
 use Rattle.device_order.specs.RunStates.{remaining, uses_device}
 use Rattle.device_order.specs.Summaries.{AreHomed}
 use Rattle.device_order.specs.Usages.{has_used_device}
 use Rattle.device_order.specs.Windows.{HasLiveWriteAt, IsCovered, IsPendingAt}
-use Rattle.history_book.proofs.Shapes.{did_touches}
+use Rattle.history_book.proofs.Cited.{did_touches}
 use Rattle.history_book.specs.Readings.{Reading, did, has_written, is_committed, is_doomed, is_live, next_of, pends}
 use Rattle.history_book.specs.Settings.{Setting}
 use Rattle.home_types.specs.declared.commands.Answer.{Answer}

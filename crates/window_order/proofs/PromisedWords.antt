@@ -8,7 +8,7 @@ use Rattle.device_order.specs.declared.records.Event.TheVariants.{Failure, Resta
 use Rattle.device_order.specs.declared.records.HeldGrip.TheVariants.{Free, Reads, Writes}
 use Rattle.device_order.specs.declared.records.OrderEntry.TheVariants.{Occurred, Used}
 use Rattle.device_order.specs.declared.records.Usage.{Usage}
-use Rattle.history_book.proofs.Shapes.{did_touches}
+use Rattle.history_book.proofs.Cited.{did_touches}
 use Rattle.history_book.specs.Readings.{Reading, has_written}
 use Rattle.history_book.specs.Settings.{Setting, is_device}
 use Rattle.home_types.specs.declared.items.Item.TheVariants.{Back, Failed, Ran}

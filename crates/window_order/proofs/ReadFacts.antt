@@ -1,17 +1,12 @@
 -- What the reading of a well-formed history says of each run and of the line, together.
 use Rattle.command_rules.specs.Items.{is_ran}
 use Rattle.command_rules.specs.Rosters.{command_at, commands_of, no_command}
-use Rattle.device_order.proofs.NewAnswers.{pair_more}
-use Rattle.device_order.proofs.Runs.{summary_more}
+use Rattle.device_order.proofs.Cited.{pair_more, summary_more}
 use Rattle.device_order.specs.LineChanges.{Lacks}
 use Rattle.device_order.specs.LineWords.{RunsAreDistinct}
 use Rattle.device_order.specs.RunStates.{paired, remaining}
 use Rattle.device_order.specs.Summaries.{DeviceSummary, Summary, blank, device_summary_then, first_view, summary, summary_then}
-use Rattle.history_book.proofs.Logs.{Logged, logged}
-use Rattle.history_book.proofs.Once.{StandsOnce, stands_once}
-use Rattle.history_book.proofs.Shapes.{Shaped, put_all, shapes}
-use Rattle.history_book.proofs.Snoc.{put_keeps}
-use Rattle.history_book.proofs.Standing.{Standing, standing, stands_in}
+use Rattle.history_book.proofs.Cited.{Logged, Shaped, Standing, StandsOnce, logged, put_all, put_keeps, shapes, standing, stands_in, stands_once}
 use Rattle.history_book.specs.Histories.{answered, entry, reading}
 use Rattle.history_book.specs.Readings.{OfRun, OnDevice, Reading, nothing_read, put, unread}
 use Rattle.history_book.specs.Settings.{Setting}

@@ -7,8 +7,7 @@ use Rattle.device_order.specs.Invariant.{DeviceInvariant}
 use Rattle.device_order.specs.declared.records.Event.TheVariants.{Failure, Restart}
 use Rattle.device_order.specs.declared.records.OrderEntry.TheVariants.{Occurred, Used}
 use Rattle.device_order.specs.declared.records.OrderEntry.{OrderEntry}
-use Rattle.history_book.proofs.Shapes.{did_touches}
-use Rattle.history_book.proofs.Splits.{part}
+use Rattle.history_book.proofs.Cited.{did_touches, part}
 use Rattle.history_book.specs.Lines.{is_item_on}
 use Rattle.history_book.specs.Readings.{Reading, did, is_committed, is_doomed, is_live, passed_by, sees_up}
 use Rattle.history_book.specs.Settings.{Setting}
@@ -21,7 +20,7 @@ use Rattle.lock_leasing.specs.Configurations.{Grips, point}
 use Rattle.lock_leasing.specs.Order.{firsts_of_line, is_late, marks_of_line}
 use Rattle.lock_leasing.specs.Words.{committed_write, last_some}
 use Rattle.lock_leasing.specs.Places.{in_order}
-use Rattle.lock_leasing.proofs.Places.{last_filter}
+use Rattle.lock_leasing.proofs.Cited.{last_filter}
 use Rattle.std.proofs.Common.{ap, arith, cond, refl, subst, sym, ◌∙◌}
 use Rattle.std.proofs.lemmas.Grind.{common_steps}
 use Rattle.std.specs.List.{list_any}

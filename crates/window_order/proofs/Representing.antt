@@ -1,13 +1,13 @@
 -- A lineage table that is kept so, each lineage of which is disciplined, represents the configuration of its window.
 use Rattle.command_rules.specs.Rosters.{commands_of, is_on}
-use Rattle.history_book.proofs.Asking.{asks_next}
+use Rattle.history_book.proofs.Cited.{asks_next}
 use Rattle.history_book.specs.Readings.{Reading, asks_on, did, is_doomed, is_live, next_of, pends, view_of}
 use Rattle.history_book.specs.Settings.{Setting}
 use Rattle.home_types.specs.declared.commands.Command.{Command}
 use Rattle.home_types.specs.declared.commands.View.TheVariants.{Down}
 use Rattle.home_types.specs.declared.items.Item.TheVariants.{Back, Failed, Ran}
 use Rattle.home_types.specs.declared.items.Item.{Item}
-use Rattle.lineage_table.proofs.Pairs.{Pairs, pairs_from_all}
+use Rattle.lineage_table.proofs.Cited.{Pairs, pairs_from_all}
 use Rattle.lineage_table.specs.Accesses.{AreInTurn, IsDisciplined, is_acquired, is_released, is_scheduled}
 use Rattle.lineage_table.specs.Lineages.{LineageState, accesses_at}
 use Rattle.lineage_table.specs.declared.accesses.Access.{Access}

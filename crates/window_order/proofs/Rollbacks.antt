@@ -1,14 +1,11 @@
 -- Each kind of change of a doomed run keeps the order of a window: it is doomed, undone device by device, and leaves.
 use Rattle.command_rules.specs.Rosters.{command_at, commands_of, device_no, run_no, touches}
-use Rattle.device_order.proofs.WindowAnswers.{read_answered}
-use Rattle.device_order.proofs.WindowGrips.{undo_answered, undo_dropped, undo_out}
-use Rattle.device_order.proofs.WindowRuns.{run_doomed, run_leaves_line}
+use Rattle.device_order.proofs.Cited.{read_answered, run_doomed, run_leaves_line, undo_answered, undo_dropped, undo_out}
 use Rattle.device_order.specs.LineChanges.{Lacks}
 use Rattle.device_order.specs.LineWords.{CutAt, last_in_effect, standing_value_on}
 use Rattle.device_order.specs.WindowSteps.{GetsAnswer, KeepsElsewhere, MayUndo}
 use Rattle.device_order.specs.declared.records.HeldGrip.TheVariants.{Reads, Undoes as HeldToUndo, Writes}
-use Rattle.history_book.proofs.Searches.{each_found, own_devices}
-use Rattle.history_book.proofs.Snoc.{put_keeps, put_other, put_same}
+use Rattle.history_book.proofs.Cited.{each_found, own_devices, put_keeps, put_other, put_same}
 use Rattle.history_book.specs.Histories.{entry}
 use Rattle.history_book.specs.Lines.{without}
 use Rattle.history_book.specs.Readings.{OfRun, OnDevice, Reading, has_written, is_doomed, is_live, next_of, put}
@@ -25,7 +22,7 @@ use Rattle.home_types.specs.declared.commands.Answer.{Answer}
 use Rattle.home_types.specs.declared.commands.Command.{Command}
 use Rattle.home_types.specs.declared.items.Item.TheVariants.{Back, Failed, Ran}
 use Rattle.home_types.specs.declared.items.Item.{Item}
-use Rattle.lock_leasing.proofs.Effects.{effect_is}
+use Rattle.lock_leasing.proofs.Cited.{effect_is}
 use Rattle.lock_leasing.specs.Configurations.{Grip, Grips, is_out, point}
 use Rattle.lock_leasing.specs.declared.purposes.Purpose.TheVariants.{Commands, Probes, Undoes}
 use Rattle.lock_leasing.specs.declared.purposes.Purpose.{Purpose}

@@ -1,13 +1,12 @@
 -- What the reading says of the runs of the line.
 use Rattle.command_rules.specs.Items.{is_ran}
 use Rattle.command_rules.specs.Rosters.{commands_of, is_on, is_run}
-use Rattle.device_order.proofs.LineWords.{cut_at}
+use Rattle.device_order.proofs.Cited.{cut_at}
 use Rattle.device_order.specs.LineChanges.{Lacks}
 use Rattle.device_order.specs.LineWords.{CutAt, any_run}
 use Rattle.device_order.specs.RunStates.{RunState}
 use Rattle.device_order.specs.Summaries.{AreHomed}
-use Rattle.history_book.proofs.Once.{count_append}
-use Rattle.history_book.proofs.Standing.{is_abort}
+use Rattle.history_book.proofs.Cited.{count_append, is_abort}
 use Rattle.history_book.specs.Readings.{OfRun, Reading, is_committed, is_committing, is_live}
 use Rattle.history_book.specs.Settings.{Setting}
 use Rattle.history_book.specs.declared.entries.End.{End}

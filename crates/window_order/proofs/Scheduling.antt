@@ -1,10 +1,11 @@
 -- The accesses of a run that is placed, command after command.
 use Rattle.command_rules.specs.Rosters.{device_no, is_on, run_no}
+use Rattle.history_book.proofs.Cited.{among_more, differ, is_among}
+use Rattle.history_book.specs.declared.planned_uses.PlannedUse.{PlannedUse}
 use Rattle.home_types.specs.declared.commands.Command.{Command}
 use Rattle.home_types.specs.declared.items.Item.TheVariants.{Back, Failed, Ran}
 use Rattle.home_types.specs.declared.items.Item.{Item}
 use Rattle.home_types.specs.declared.numbers.RunNo.{RunNo}
-use Rattle.window_order.specs.declared.planned_uses.PlannedUse.{PlannedUse}
 use Rattle.lineage_table.specs.Accesses.{has_access, status_of}
 use Rattle.lineage_table.specs.Lineages.{LineageState, accesses_at, lineage_at, no_lineage, scheduled, with_lineage}
 use Rattle.lineage_table.specs.declared.accesses.Access.{Access}
@@ -14,39 +15,22 @@ use Rattle.std.proofs.Math.Bool.{or-false, or-true}
 use Rattle.std.proofs.lemmas.Bool.{eqb-true, or_left}
 use Rattle.std.proofs.lemmas.Grind.{common_steps}
 use Rattle.std.proofs.lemmas.List.Folds.{list_any-append}
-use Rattle.std.proofs.lemmas.List.{drop_all, drop_more, get_or-set_other, get_or-set_same, length-set, take-append-drop, take_more}
+use Rattle.std.proofs.lemmas.List.{drop_all, drop_more, get_or-set_other, get_or-set_same, length-set, take-append-drop}
 use Rattle.std.proofs.lemmas.Option.{same_Some, slice_get-get_or, slice_get_within}
 use Rattle.std.specs.List.{list_any}
 use Rattle.std.specs.Option.{ForSome, option_or}
-use Rattle.std.specs.Prelude.{Bool, List, None, Option, Some, [], drop, false, get_or, if◌then◌else◌, is_some, length, nat_lt, option_to_list, slice_get, suc, take, true, zero, ℕ, ◌+◌, ◌<◌, ◌==◌, ◌||◌, ◌∷◌, ◌≡◌, ◌≢◌, ◌≤◌}
+use Rattle.std.specs.Prelude.{Bool, List, None, Option, Some, [], drop, false, get_or, if◌then◌else◌, is_some, length, nat_lt, option_to_list, slice_get, suc, take, true, zero, ℕ, ◌+◌, ◌<◌, ◌==◌, ◌||◌, ◌∷◌, ◌≡◌, ◌≤◌}
 use Rattle.window_order.proofs.AgainAccesses.{MayStand, may_stand}
 use Rattle.window_order.proofs.NotedAnswers.{lineage_set}
 use Rattle.window_order.proofs.TableSteps.{with_both}
 use Rattle.window_order.specs.KeptOrders.{scheduled_so}
 use Rattle.window_order.specs.TableChanges.{IsNewOn, first_with_access, rescheduled}
 
--- one of the first so many commands is on the device
-abbrev pub is_among : ℕ → ℕ → List Command → Bool
-is_among d k commands = list_any (is_on d) (take k commands)
-
 -- after so many commands the uses of their devices are taken, and the run has its access there
 pub record IsScheduledTo (k : ℕ) (commands : List Command) (given : List (Option PlannedUse)) (r : ℕ) (back : List Item) (uses : List (Option PlannedUse)) (old new : List LineageState) : Type 0 where
   pub devices : length new ≡ length old
   pub left : (d : ℕ) → d < 256 → get_or uses d None ≡ (if is_among d k commands then None else get_or given d None)
   pub each : (d : ℕ) → lineage_at new d ≡ (if is_among d k commands then scheduled_so r back (get_or given d None) (lineage_at old d) else lineage_at old d)
-
-pub differ : (a b : ℕ) → (a == b) ≡ false → b ≢ a
-differ a b h e = grind (arith, common_steps)
-
--- one command more
-pub among_more : (d k : ℕ) (commands : List Command) (e : Command) → k < length commands → is_among d (k + 1) commands ≡ (is_among d k commands || ((get_or commands k e).device.0 == d))
-among_more d k commands e within =
-    ap (list_any (is_on d)) (take_more commands k e within)
-    ∙ list_any-append (is_on d) (take k commands) (get_or commands k e ∷ [])
-    ∙ last (is_among d k commands) ((get_or commands k e).device.0 == d)
-  where
-    last : (x y : Bool) → (x || (y || false)) ≡ (x || y)
-    last x y = grind (arith, common_steps)
 
 -- a command is one on its device
 pub on_command : (k : ℕ) (commands : List Command) (e : Command) → k < length commands → list_any (is_on (get_or commands k e).device.0) commands ≡ true

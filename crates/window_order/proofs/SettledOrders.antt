@@ -1,6 +1,6 @@
 -- The committed runs and the events of the line are a serial execution.
 use Rattle.command_rules.specs.Rosters.{touches}
-use Rattle.device_order.proofs.WindowClaims.{order_serial}
+use Rattle.device_order.proofs.Cited.{order_serial}
 use Rattle.device_order.specs.LineEntries.{entries, entry_if, stage_of, usage, with_order_entry}
 use Rattle.device_order.specs.LineOrders.{serial_order, served}
 use Rattle.device_order.specs.Records.{walk_start}

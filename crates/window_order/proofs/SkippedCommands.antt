@@ -1,9 +1,9 @@
 -- A command is skipped by its guard. The order of the window is kept, and the line's marks.
 use Rattle.command_rules.specs.Rosters.{command_at, commands_of, run_no, touches_from}
-use Rattle.device_order.proofs.WindowAnswers.{skip_answered}
+use Rattle.device_order.proofs.Cited.{skip_answered, two_places}
 use Rattle.device_order.specs.LineWords.{CutAt}
 use Rattle.device_order.specs.WindowSteps.{GetsAnswer}
-use Rattle.history_book.proofs.Snoc.{put_keeps, put_other, put_same}
+use Rattle.history_book.proofs.Cited.{put_keeps, put_other, put_same}
 use Rattle.history_book.specs.Histories.{answered, entry, more_if}
 use Rattle.history_book.specs.Readings.{Last, OnDevice, Reading, is_doomed, is_live, next_command, next_of, put}
 use Rattle.history_book.specs.Settings.{Setting, is_device}
@@ -21,7 +21,6 @@ use Rattle.std.proofs.Common.{ap, arith, refl, subst, sym, ◌∙◌}
 use Rattle.std.proofs.lemmas.Grind.{common_steps}
 use Rattle.std.specs.Option.{option_or}
 use Rattle.std.specs.Prelude.{Bool, List, None, Option, Some, drop, false, is_none, is_some, not, true, ℕ, ◌&&◌, ◌+◌, ◌||◌, ◌≡◌, ◌≢◌}
-use Rattle.device_order.proofs.InPlace.{two_places}
 use Rattle.window_order.proofs.AnsweredTables.{answered_run}
 use Rattle.window_order.proofs.Grips.{HoldsNone, fits_other, held_none, holds_none, in_place}
 use Rattle.window_order.proofs.HistoryOrder.{SeesSame, last_history, same_history}

@@ -1,12 +1,12 @@
 -- The lineage table is kept where a command is skipped by its guard.
 use Rattle.command_rules.specs.Items.{of_run}
 use Rattle.command_rules.specs.Rosters.{command_at, commands_of, run_no, touches, touches_from}
-use Rattle.device_order.proofs.InPlace.{next_used, two_places}
+use Rattle.device_order.proofs.Cited.{next_used, two_places}
 use Rattle.device_order.specs.LineEntries.{stage_of, usage}
 use Rattle.device_order.specs.LineWords.{CutAt}
 use Rattle.device_order.specs.RunStates.{rest, uses_device}
 use Rattle.device_order.specs.Usages.{stage_is_open}
-use Rattle.history_book.proofs.Snoc.{put_other, put_same}
+use Rattle.history_book.proofs.Cited.{put_other, put_same}
 use Rattle.history_book.specs.Histories.{entry}
 use Rattle.history_book.specs.Plans.{planned_end, planned_start}
 use Rattle.history_book.specs.Readings.{OfRun, OnDevice, Reading, did, is_committing, is_doomed, next_of, pends}
@@ -16,8 +16,7 @@ use Rattle.home_types.specs.HomeStates.{stand_at}
 use Rattle.home_types.specs.declared.commands.Answer.TheVariants.{Skipped}
 use Rattle.home_types.specs.declared.commands.Command.{Command}
 use Rattle.home_types.specs.declared.commands.View.TheVariants.{Down}
-use Rattle.lineage_table.proofs.Splits.{without_at}
-use Rattle.lineage_table.proofs.Steps.{status_at}
+use Rattle.lineage_table.proofs.Cited.{status_at, without_at}
 use Rattle.lineage_table.specs.Accesses.{accesses_without, is_of, status_of}
 use Rattle.lineage_table.specs.Lineages.{LineageState, released, removed}
 use Rattle.lineage_table.specs.declared.accesses.Access.{Access}

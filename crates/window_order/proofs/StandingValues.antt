@@ -1,11 +1,9 @@
 -- Where a device stands: at its standing value, where it is home and up, and where a command's grip of it is out.
 use Rattle.command_rules.specs.Items.{is_ran}
 use Rattle.command_rules.specs.Rosters.{commands_of, is_on, touches}
-use Rattle.device_order.proofs.Claims.{effect}
-use Rattle.device_order.proofs.LineWords.{stand_line}
+use Rattle.device_order.proofs.Cited.{effect, stand_line, stands}
 use Rattle.device_order.specs.LineWords.{at_device, last_in_effect, standing_value_on}
 use Rattle.device_order.specs.Records.{walk_start}
-use Rattle.device_order.proofs.Standing.{stands}
 use Rattle.device_order.specs.Claims.{StandsAt, value_in_effect}
 use Rattle.device_order.specs.LineEntries.{entries, entry_if, usage, with_order_entry}
 use Rattle.device_order.specs.Usages.{holds_grip, is_free, is_in_effect}
@@ -14,8 +12,7 @@ use Rattle.device_order.specs.Windows.{device_record}
 use Rattle.device_order.specs.declared.records.Event.TheVariants.{Failure, Restart}
 use Rattle.device_order.specs.declared.records.OrderEntry.TheVariants.{Occurred, Used}
 use Rattle.device_order.specs.declared.records.Usage.{Usage}
-use Rattle.history_book.proofs.Asking.{asks_next}
-use Rattle.history_book.proofs.Standing.{stands_in}
+use Rattle.history_book.proofs.Cited.{asks_next, stands_in}
 use Rattle.history_book.specs.Readings.{OfRun, Reading, asks_on, has_written, is_live, next_of}
 use Rattle.history_book.specs.Settings.{Setting, is_device, is_weak}
 use Rattle.home_types.specs.HomeStates.{stand_at}

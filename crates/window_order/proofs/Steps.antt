@@ -1,10 +1,7 @@
 -- Each kind of change keeps the order of a window.
 use Rattle.command_rules.specs.Items.{is_ran}
 use Rattle.command_rules.specs.Rosters.{command_at, commands_of, is_on, is_run, no_command, run_no, touches}
-use Rattle.device_order.proofs.InPlace.{next_used}
-use Rattle.device_order.proofs.WindowAnswers.{read_answered, write_answered}
-use Rattle.device_order.proofs.WindowGrips.{command_out}
-use Rattle.device_order.proofs.WindowRuns.{run_commits, run_placed, window_begins}
+use Rattle.device_order.proofs.Cited.{command_out, next_used, read_answered, run_commits, run_placed, window_begins, write_answered}
 use Rattle.device_order.specs.LineChanges.{Lacks}
 use Rattle.device_order.specs.LineEntries.{command_grip, stage_of, usage}
 use Rattle.device_order.specs.LineWords.{CutAt, is_calm_line}
@@ -14,11 +11,7 @@ use Rattle.device_order.specs.Usages.{awaits_first, holds_command, is_seen_down,
 use Rattle.device_order.specs.WindowSteps.{ChangesInPlace, GetsAnswer}
 use Rattle.device_order.specs.Windows.{WindowInvariant}
 use Rattle.device_order.specs.declared.records.HeldGrip.TheVariants.{Reads, Writes}
-use Rattle.history_book.proofs.Asking.{asks_guard, asks_next}
-use Rattle.history_book.proofs.Searches.{some_is}
-use Rattle.history_book.proofs.Shapes.{IsShaped}
-use Rattle.history_book.proofs.Snoc.{put_keeps, put_other, put_same}
-use Rattle.history_book.proofs.Standing.{aborted}
+use Rattle.history_book.proofs.Cited.{IsShaped, aborted, asks_guard, asks_next, put_keeps, put_other, put_same, some_is}
 use Rattle.history_book.specs.Histories.{answered, entry, with_placed}
 use Rattle.history_book.specs.Lines.{split_at}
 use Rattle.history_book.specs.Readings.{OfRun, OnDevice, PlacedAt, Planned, Reading, asks_on, did, is_committed, is_committing, is_doomed, is_live, next_command, next_of, nothing_read, put, sees_down, view_of}

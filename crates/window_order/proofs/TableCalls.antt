@@ -1,7 +1,7 @@
 -- What the calls of a lineage table ask for, where a command that was out is answered.
 use Rattle.command_rules.specs.Items.{is_ran, of_run}
 use Rattle.command_rules.specs.Rosters.{commands_of, run_no, touches}
-use Rattle.device_order.proofs.Parts.{cut as use_cut}
+use Rattle.device_order.proofs.Cited.{cut as use_cut}
 use Rattle.device_order.specs.LineEntries.{entries, usage}
 use Rattle.device_order.specs.LineWords.{CutAt}
 use Rattle.device_order.specs.Records.{walk_start}
@@ -15,7 +15,7 @@ use Rattle.history_book.specs.Settings.{Setting, is_device}
 use Rattle.home_types.specs.HomeStates.{stand_at}
 use Rattle.home_types.specs.declared.items.Item.TheVariants.{Back, Failed, Ran}
 use Rattle.home_types.specs.declared.items.Item.{Item}
-use Rattle.lineage_table.proofs.Steps.{status_at}
+use Rattle.lineage_table.proofs.Cited.{status_at}
 use Rattle.lineage_table.specs.Accesses.{is_acquired, some_acquired, status_of}
 use Rattle.lineage_table.specs.Lineages.{LineageState}
 use Rattle.lineage_table.specs.declared.accesses.Access.{Access}

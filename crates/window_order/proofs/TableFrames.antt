@@ -1,7 +1,7 @@
 -- What an entry or a grip leaves of a lineage: where it changes the access of one run at most.
 use Rattle.command_rules.specs.Rosters.{Run, is_on, touches, touches_from, run_no}
 use Rattle.device_order.specs.LineWords.{RunsAreDistinct}
-use Rattle.history_book.proofs.Shapes.{put_all}
+use Rattle.history_book.proofs.Cited.{put_all}
 use Rattle.history_book.specs.Plans.{planned_end, planned_start}
 use Rattle.history_book.specs.Readings.{OfRun, Reading, is_committing, put}
 use Rattle.history_book.specs.Settings.{Setting}

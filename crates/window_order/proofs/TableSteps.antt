@@ -1,8 +1,8 @@
 -- Each step keeps the lineage table of a window.
 use Rattle.command_rules.specs.Rosters.{command_at, commands_of, device_no, run_no}
-use Rattle.device_order.proofs.InPlace.{two_places}
+use Rattle.device_order.proofs.Cited.{two_places}
 use Rattle.device_order.specs.LineWords.{CutAt}
-use Rattle.history_book.proofs.Snoc.{put_same}
+use Rattle.history_book.proofs.Cited.{put_same}
 use Rattle.history_book.specs.Histories.{entry, with_placed}
 use Rattle.history_book.specs.Lines.{split_at}
 use Rattle.history_book.specs.Readings.{Planned, Reading, did, is_access, is_doomed, next_of, pends, put}

@@ -1,8 +1,7 @@
 -- The items of a line with what each has touched, step by step.
 use Rattle.command_rules.specs.Items.{is_ran}
 use Rattle.command_rules.specs.Rosters.{command_at, device_no, is_run, run_no}
-use Rattle.history_book.proofs.Snoc.{put_keeps, put_other, put_same}
-use Rattle.history_book.proofs.Standing.{aborted, is_abort}
+use Rattle.history_book.proofs.Cited.{aborted, is_abort, put_keeps, put_other, put_same}
 use Rattle.history_book.specs.Histories.{answered, entry, with_placed}
 use Rattle.history_book.specs.Lines.{split_at}
 use Rattle.history_book.specs.Readings.{OfRun, OnDevice, PlacedAt, Planned, Reading, did, is_access, is_live, nothing_read, put, view_by}
@@ -22,7 +21,7 @@ use Rattle.lock_leasing.specs.declared.purposes.Purpose.TheVariants.{Commands, U
 use Rattle.lock_leasing.specs.Places.{GripsFit}
 use Rattle.lock_leasing.specs.Standings.{has_ended, item_has_touched}
 use Rattle.lock_leasing.specs.Words.{has_touched}
-use Rattle.serial_line.proofs.Ties.{line_empty, line_inserted, line_removed, line_retold, line_settling, line_touching, run_comes}
+use Rattle.serial_line.proofs.Cited.{line_empty, line_inserted, line_removed, line_retold, line_settling, line_touching, run_comes}
 use Rattle.serial_line.specs.Marks.{Mark, marks_without, settling, stands, touching, with_item}
 use Rattle.serial_line.specs.Ties.{IsLineOf}
 use Rattle.std.proofs.Common.{ap, ap₂, arith, cond, refl, subst, sym, ◌∙◌}

@@ -1,25 +1,25 @@
 -- The items of a line with what each has touched, where a device fails or comes back, is answered for with no call, or is probed.
 use Rattle.command_rules.specs.Items.{is_ran, of_run}
 use Rattle.command_rules.specs.Rosters.{command_at, run_no}
-use Rattle.history_book.proofs.Snoc.{put_keeps, put_other, put_same}
+use Rattle.history_book.proofs.Cited.{put_keeps, put_other, put_same}
 use Rattle.history_book.specs.Histories.{answered, entry}
 use Rattle.history_book.specs.Readings.{OfRun, OnDevice, Reading, did, is_access, is_doomed, is_live, pends, put, view_by}
 use Rattle.history_book.specs.Settings.{Setting, is_weak}
 use Rattle.history_book.specs.declared.entries.Entry.TheVariants.{Did, Fell, Rose}
-use Rattle.home_types.proofs.DeviceBits.{contains_insert}
+use Rattle.home_types.proofs.Cited.{contains_insert}
 use Rattle.home_types.specs.Kinds.{kind_at}
 use Rattle.home_types.specs.declared.commands.Answer.{Answer}
 use Rattle.home_types.specs.declared.commands.Command.{Command}
 use Rattle.home_types.specs.declared.items.Item.TheVariants.{Back, Failed, Ran}
 use Rattle.home_types.specs.declared.items.Item.{Item}
 use Rattle.home_types.specs.declared.numbers.DeviceNo.{DeviceNo}
-use Rattle.lock_leasing.proofs.EventRuns.{before_first, before_none, put_at}
+use Rattle.lock_leasing.proofs.Cited.{before_first, before_none, put_at}
 use Rattle.lock_leasing.specs.Configurations.{Grips, grips_command}
 use Rattle.lock_leasing.specs.declared.purposes.Purpose.TheVariants.{Commands, Probes}
 use Rattle.lock_leasing.specs.Places.{up_to_first}
 use Rattle.lock_leasing.specs.Standings.{has_ended, item_has_touched}
 use Rattle.lock_leasing.specs.Words.{live_runs}
-use Rattle.serial_line.proofs.Ties.{line_inserted, line_retold, line_touching}
+use Rattle.serial_line.proofs.Cited.{line_inserted, line_retold, line_touching}
 use Rattle.serial_line.specs.Marks.{Mark, is_item, stands, touching, untouched, with_item}
 use Rattle.serial_line.specs.Ties.{IsLineOf, TouchesAs}
 use Rattle.std.proofs.Common.{ap, arith, refl, subst, sym, ◌∙◌}

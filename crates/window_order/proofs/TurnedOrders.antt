@@ -1,16 +1,13 @@
 -- A device fails or comes back, and no run that counts is left that sees it up and has more to do there: first accesses and events stay in history order.
 use Rattle.command_rules.specs.Items.{is_ran, of_run}
 use Rattle.command_rules.specs.Rosters.{commands_of, device_no, is_on, run_no, touches}
-use Rattle.device_order.proofs.InPlace.{two_places}
-use Rattle.device_order.proofs.LineWords.{has_entries}
-use Rattle.device_order.proofs.Losses.{one_spans, restart_loses_none, undo_loses_none}
-use Rattle.device_order.proofs.EventCuts.{EventCut, event_cut}
+use Rattle.device_order.proofs.Cited.{EventCut, event_cut, has_entries, one_spans, restart_loses_none, two_places, undo_loses_none}
 use Rattle.device_order.specs.LineEntries.{entries, usage}
 use Rattle.device_order.specs.LineWords.{CutAt, any_run, at_device}
 use Rattle.device_order.specs.Usages.{holds_command, spans_up}
 use Rattle.device_order.specs.Walks.{has}
 use Rattle.device_order.specs.Windows.{device_record}
-use Rattle.history_book.proofs.Searches.{some_is}
+use Rattle.history_book.proofs.Cited.{some_is}
 use Rattle.history_book.specs.Histories.{with_event}
 use Rattle.history_book.specs.Lines.{is_event_on}
 use Rattle.history_book.specs.Readings.{Event, Reading, is_committed, is_doomed, is_live, is_open, pends, sees_up, view_of}

@@ -1,7 +1,7 @@
 -- A device fails or comes back, and the lineage table is kept: it is counted so, and the accesses stay.
 use Rattle.command_rules.specs.Items.{of_run}
 use Rattle.command_rules.specs.Rosters.{device_no, run_no}
-use Rattle.history_book.proofs.Lines.{any_put_before}
+use Rattle.history_book.proofs.Cited.{any_put_before}
 use Rattle.history_book.specs.Histories.{entry}
 use Rattle.history_book.specs.Lines.{put_before}
 use Rattle.history_book.specs.Readings.{Reading, is_access, put}

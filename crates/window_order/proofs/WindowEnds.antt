@@ -1,8 +1,7 @@
 -- The end of a window, where no run is live: its line is a serial order for its history, and its last state agrees with the serial execution of the line.
 use Rattle.command_rules.specs.Items.{is_ran, of_run}
 use Rattle.command_rules.specs.Rosters.{command_at, is_run, touches_from}
-use Rattle.history_book.proofs.Shapes.{put_all}
-use Rattle.history_book.proofs.Standing.{is_abort, stands_in}
+use Rattle.history_book.proofs.Cited.{is_abort, put_all, stands_in}
 use Rattle.history_book.specs.Histories.{answers_in, entry, executed, more_if, reading}
 use Rattle.history_book.specs.Lines.{is_event_on}
 use Rattle.history_book.specs.Readings.{Event, First, Last, LogMark, OfRun, PlacedAt, Reading, did, events_of, is_access, nothing_read, is_committed, is_committing, is_live}

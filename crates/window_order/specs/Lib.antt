@@ -5,3 +5,4 @@ pub mod TableChanges
 pub mod MarksKept
 pub mod LostRuns
 pub mod KeptOrders
+pub mod Leavings

@@ -17,12 +17,12 @@ ghost use Rattle.serial_line.specs.Labels.{is_sealed};
 ghost use Rattle.serial_line.specs.Marks.{front_of, items_of, marks_without, settling, stands, touching, with_item};
 ghost use Rattle.window_order.specs.TableChanges.{ChangesEach, IsNewOn, doomed_unless, first_with_access};
 
-use crate::planned_uses::PlannedUse;
 use crate::releases::{pass_before, release_all};
 use crate::reschedules::wait_again;
 use abort_rollback::{Undo, withdraw};
 use command_rules::Roster;
 use commit_compaction::commit;
+use history_book::PlannedUse;
 use home_types::{Answer, DeviceNo, Item, NoMemory, RunNo, Scheduler, Value, View, World};
 use lineage_table::{Access, Status, Table};
 use lock_leasing::Purpose;

@@ -4,9 +4,9 @@
 #![tactic(auto)]
 
 mod kept_orders;
-mod planned_uses;
+mod leavings;
 mod releases;
 mod reschedules;
 
 pub use kept_orders::{KeptOrder, Noted, note_of, seal};
-pub use planned_uses::PlannedUse;
+pub use leavings::{items_in, stands_in};

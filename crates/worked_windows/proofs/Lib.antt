@@ -1,103 +1,103 @@
-pub mod Points
-pub mod Tables
-pub mod Words
-pub mod SameClauses
-pub mod Edits
-pub mod OneLight
-pub mod BehindOnFan
-pub mod ReleasedLampOverwritten
-pub mod AbortAfterOverwrite
-pub mod UndoDrivesLiveWriter
-pub mod NoDirtyRead
-pub mod SkippedAndMustDown
-pub mod FailureAfterLastAccess
-pub mod LostBetweenAccesses
-pub mod RestartKeepsDownView
-pub mod DiesAfterFirstAccess
-pub mod UndoDies
-pub mod SkippedUnderLiveUndo
-pub mod JitPatienceOver
-pub mod JitPatienceJustUnder
-pub mod LeaseAtDeadline
-pub mod LeaseOverdue
-pub mod TimelineGapFits
-pub mod TimelineGapTooShort
-pub mod FourModelsWv
-pub mod FourModelsPsv
-pub mod FourModelsGsv
-pub mod DownAtEnd
-pub mod Follows
-pub mod StoreAndLoad
-pub mod StrictReadWaits
-pub mod ProbePassed
-pub mod AMorning
-pub mod FollowsBehindLiveRun
-pub mod SeesDownThenProbeDies
-pub mod LeaseRoundsUp
-pub mod ReaderPlansBehindWriter
-pub mod WholeEndWithoutOverwritten
-pub mod FailurePassesDoomedRun
-pub mod WeakReadsLiveWriter
-pub mod StrictWhileProbed
-pub mod DirtyThoughDown
-pub mod BusyBeforeDown
-pub mod JitDeniesDirtyRead
-pub mod WeakDiesAgain
-pub mod SkippedAndDownAtEnd
-pub mod JitDeniedByTheFloorItself
-pub mod WriterFirstDoesNotWait
-pub mod JitPatiencePutsAtTheEnd
-pub mod FirstHolderIsNotOverdue
-pub mod SmallestDeviceDownAtEnd
-pub mod WeakEventAtTheEnd
-pub mod DoomedRunIsNotWaitedFor
-pub mod ReleasedDeviceIsFree
-pub mod DoomedWriterIsWaitedFor
-pub mod JitFirstHolderDenies
-pub mod DoomedRunBoundsTheFloor
-pub mod EventsElsewhereDoNotBind
-pub mod FirstLiveRunBoundsTheFloor
-pub mod UndoWaitsForTheDevice
-pub mod SkippedWriteThenRead
-pub mod GapsOfTwoLineages
-pub mod BaseIsClosed
-pub mod TimelineEachRunBehindIsLookedAt
-pub mod TimelineFailurePassesLiveRuns
-pub mod TimelineLeaderComesWithItsFollower
-pub mod TimelineBehindADoomedRunWhoseCommandIsNext
-pub mod TimelineFailureComesWithTheRunBehindIt
-pub mod TimelineClosedThroughARunBetween
-pub mod TimelineBehindAllBeforeTheFirstLiveRun
-pub mod TimelineSecondRoundTakesOneMore
-pub mod GuardedCommands
-pub mod SkippedAccessThenFailure
-pub mod SkipWithMoreToCome
-pub mod SkipReleasesWhatWasTouched
-pub mod SkipWhereNothingWasTouched
-pub mod SkipBehindADoomedRun
-pub mod DoomedBeforeItsSkip
-pub mod LeaseEndsWithASkip
-pub mod SkipRevokesNoOverdueLease
-pub mod SkipWaitsStrictGsv
-pub mod SkipWaitsUnderPsvForWhoShares
-pub mod OnlyWhoTouchedIsDownAtEnd
-pub mod DirtyBehindASkippedWrite
-pub mod FailureBeforeWhoHasMoreToCome
-pub mod BaseWithoutWhoSkippedThere
-pub mod BaseWithWhoIsToSkipNext
-pub mod FitsInFrontOfARunThatSkipped
-pub mod ReaderPlansWithoutWhatWasSkipped
-pub mod PlanDoesNotWaitForWhoHasSkipped
-pub mod SkipInTheWeakModel
-pub mod GuardBelowTheRegisterItself
-pub mod CheckLeavesTheRegister
-pub mod FollowerBehindARunThatSkipped
-pub mod LostBehindASkip
-pub mod SlipsAndStrangers
-pub mod AlteredHistories
-pub mod OtherRecords
-pub mod CappedTimes
-pub mod LegalWindow
-pub mod LegalDay
-pub mod OtherDays
-pub mod WorkedTables
+mod Points
+mod Tables
+mod Words
+mod SameClauses
+mod Edits
+mod OneLight
+mod BehindOnFan
+mod ReleasedLampOverwritten
+mod AbortAfterOverwrite
+mod UndoDrivesLiveWriter
+mod NoDirtyRead
+mod SkippedAndMustDown
+mod FailureAfterLastAccess
+mod LostBetweenAccesses
+mod RestartKeepsDownView
+mod DiesAfterFirstAccess
+mod UndoDies
+mod SkippedUnderLiveUndo
+mod JitPatienceOver
+mod JitPatienceJustUnder
+mod LeaseAtDeadline
+mod LeaseOverdue
+mod TimelineGapFits
+mod TimelineGapTooShort
+mod FourModelsWv
+mod FourModelsPsv
+mod FourModelsGsv
+mod DownAtEnd
+mod Follows
+mod StoreAndLoad
+mod StrictReadWaits
+mod ProbePassed
+mod AMorning
+mod FollowsBehindLiveRun
+mod SeesDownThenProbeDies
+mod LeaseRoundsUp
+mod ReaderPlansBehindWriter
+mod WholeEndWithoutOverwritten
+mod FailurePassesDoomedRun
+mod WeakReadsLiveWriter
+mod StrictWhileProbed
+mod DirtyThoughDown
+mod BusyBeforeDown
+mod JitDeniesDirtyRead
+mod WeakDiesAgain
+mod SkippedAndDownAtEnd
+mod JitDeniedByTheFloorItself
+mod WriterFirstDoesNotWait
+mod JitPatiencePutsAtTheEnd
+mod FirstHolderIsNotOverdue
+mod SmallestDeviceDownAtEnd
+mod WeakEventAtTheEnd
+mod DoomedRunIsNotWaitedFor
+mod ReleasedDeviceIsFree
+mod DoomedWriterIsWaitedFor
+mod JitFirstHolderDenies
+mod DoomedRunBoundsTheFloor
+mod EventsElsewhereDoNotBind
+mod FirstLiveRunBoundsTheFloor
+mod UndoWaitsForTheDevice
+mod SkippedWriteThenRead
+mod GapsOfTwoLineages
+mod BaseIsClosed
+mod TimelineEachRunBehindIsLookedAt
+mod TimelineFailurePassesLiveRuns
+mod TimelineLeaderComesWithItsFollower
+mod TimelineBehindADoomedRunWhoseCommandIsNext
+mod TimelineFailureComesWithTheRunBehindIt
+mod TimelineClosedThroughARunBetween
+mod TimelineBehindAllBeforeTheFirstLiveRun
+mod TimelineSecondRoundTakesOneMore
+mod GuardedCommands
+mod SkippedAccessThenFailure
+mod SkipWithMoreToCome
+mod SkipReleasesWhatWasTouched
+mod SkipWhereNothingWasTouched
+mod SkipBehindADoomedRun
+mod DoomedBeforeItsSkip
+mod LeaseEndsWithASkip
+mod SkipRevokesNoOverdueLease
+mod SkipWaitsStrictGsv
+mod SkipWaitsUnderPsvForWhoShares
+mod OnlyWhoTouchedIsDownAtEnd
+mod DirtyBehindASkippedWrite
+mod FailureBeforeWhoHasMoreToCome
+mod BaseWithoutWhoSkippedThere
+mod BaseWithWhoIsToSkipNext
+mod FitsInFrontOfARunThatSkipped
+mod ReaderPlansWithoutWhatWasSkipped
+mod PlanDoesNotWaitForWhoHasSkipped
+mod SkipInTheWeakModel
+mod GuardBelowTheRegisterItself
+mod CheckLeavesTheRegister
+mod FollowerBehindARunThatSkipped
+mod LostBehindASkip
+mod SlipsAndStrangers
+mod AlteredHistories
+mod OtherRecords
+mod CappedTimes
+mod LegalWindow
+mod LegalDay
+mod OtherDays
+mod WorkedTables

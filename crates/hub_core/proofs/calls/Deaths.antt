@@ -7,9 +7,8 @@ use Rattle.device_gate.specs.declared.slips.Slip.{Slip}
 use Rattle.device_gate.specs.declared.slips.Told.TheVariants.{Died, Sensed, Worked}
 use Rattle.device_gate.specs.declared.slips.Told.{Told}
 use Rattle.device_states.specs.Devices.{Shown}
-use Rattle.history_book.proofs.HistoryReads.{MayTake, takes_first, takes_rest}
-use Rattle.history_book.proofs.Snoc.{put_other}
-use Rattle.history_book.specs.Histories.{entries_made, entries_of, entry, kept_by}
+use Rattle.history_book.proofs.Cited.{MayTake, put_other, takes_first, takes_rest}
+use Rattle.history_book.specs.Histories.{entries_of, entry, kept_by}
 use Rattle.history_book.specs.ReadHistories.{HistoryState, read_in, with_doom, with_entry, with_more}
 use Rattle.history_book.specs.Readings.{Reading, did, is_doomed, next_of, pends, put}
 use Rattle.history_book.specs.Settings.{Setting, is_weak}
@@ -28,14 +27,14 @@ use Rattle.home_types.specs.declared.numbers.RunNo.{RunNo}
 use Rattle.hub_core.proofs.calls.Homecomings.{CameHome, IsHome, IsReturned, came_whole, returned_entries, returned_for, returned_places, takes_back}
 use Rattle.hub_core.proofs.calls.HubChanges.{answer_entries, answered_more}
 use Rattle.hub_core.proofs.calls.HubOrders.{read_whole}
-use Rattle.window_order.proofs.NotedAnswers.{length_set, lineage_set}
+use Rattle.window_order.proofs.Cited.{home_fits, length_set, lineage_set}
 use Rattle.hub_core.proofs.calls.OutFor.{IsForCommand, for_command}
 use Rattle.hub_core.proofs.calls.Turning.{Falls, TellsTurn, fallen_number, may_fall}
 use Rattle.hub_core.proofs.kept.FallenOrders.{order_died, order_died_weakly, order_undo_died}
 use Rattle.hub_core.proofs.kept.KeptByModel.{undo_ordered}
 use Rattle.hub_core.proofs.kept.OrderSteps.{done_after, may_note, none_out, order_doomed_if, read_more}
 use Rattle.hub_core.proofs.kept.TableFits.{either_model}
-use Rattle.hub_core.specs.Decisions.{died_by}
+use Rattle.history_book.specs.Causes.{died_by}
 use Rattle.hub_core.specs.HubsKept.{IsWhole, open_of}
 use Rattle.hub_core.specs.KeptOrders.{HasFallen, MayTurn, OrderIsBeside}
 use Rattle.window_order.specs.KeptOrders.{MayNote, is_first, noted_first}
@@ -51,9 +50,9 @@ use Rattle.std.proofs.Common.{ap, append_assoc, ap₂, arith, refl, subst, sym, 
 use Rattle.std.proofs.Math.Bool.{or-true}
 use Rattle.std.specs.Bool.{then_some}
 use Rattle.std.specs.Prelude.{Bool, IsSome, IsTrue, List, None, Option, Some, [], false, fold, if◌then◌else◌, is_some, length, not, option_map, option_to_list, suc, true, ℕ, ◌&&◌, ◌+◌, ◌-◌, ◌<◌, ◌||◌, ◌∷◌, ◌≡◌, ◌≤◌}
-use Rattle.window_order.proofs.Steps.{home_fits}
 use Rattle.window_order.specs.TableChanges.{ChangesEach, IsWaiting, doomed_lineage}
 use Rattle.lock_leasing.specs.declared.purposes.Purpose.TheVariants.{Commands, Undoes}
+use Rattle.history_book.specs.Packed.{entries_made}
 
 died_told : (told : Told) → has_died told ≡ true → told ≡ Died
 died_told Worked died = absurd (cc)

@@ -1,5 +1,5 @@
 -- A device that goes out keeps what the type of a hub keeps, for whom it goes.
-use Rattle.legal_days.proofs.Lists.{count_cons}
+use Rattle.legal_days.proofs.Cited.{count_cons}
 use Rattle.std.specs.Option.{option_copied}
 use Rattle.device_gate.specs.Calls.{probed}
 use Rattle.device_gate.specs.Grips.{Gripped}

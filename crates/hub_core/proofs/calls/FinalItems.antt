@@ -7,8 +7,7 @@ use Rattle.device_gate.specs.declared.slips.Told.TheVariants.{Died, Sensed, Work
 use Rattle.device_gate.specs.declared.slips.Told.{Told}
 use Rattle.device_gate.specs.declared.strangers.Stranger.{Stranger}
 use Rattle.device_states.specs.Devices.{Shown}
-use Rattle.history_book.proofs.Sealed.{begins_with_sealed, sealed_on, stays_itself}
-use Rattle.history_book.proofs.Snoc.{entries_on}
+use Rattle.history_book.proofs.Cited.{begins_with_sealed, entries_on, sealed_on, stays_itself}
 use Rattle.history_book.specs.Histories.{entries_of, entry, kept_by, line_of, reading}
 use Rattle.history_book.specs.Gaps.{split_of}
 use Rattle.history_book.specs.Readings.{Reading, did, is_doomed, next_of, nothing_read, put}
@@ -18,7 +17,6 @@ use Rattle.history_book.specs.WellFormed.{Along, IsWellFormed}
 use Rattle.history_book.specs.declared.entries.Cause.TheVariants.{Lost, MustDown, Refuted}
 use Rattle.history_book.specs.declared.entries.Entry.TheVariants.{Arrived, Did, Doomed, Ended, Fell, Placed, Rose, Undid}
 use Rattle.history_book.specs.declared.entries.Entry.{Entry}
-use Rattle.history_book.specs.declared.entries.Made.{Made}
 use Rattle.history_book.specs.declared.records.WindowRecord.{WindowRecord}
 use Rattle.home_types.specs.Commands.{fails}
 use Rattle.home_types.specs.declared.commands.Answer.TheVariants.{Found}
@@ -39,7 +37,7 @@ use Rattle.hub_core.specs.Steps.{Absent, Choice, HandsOut, Moves, Over, Waits, a
 use Rattle.hub_core.specs.declared.open_windows.OpenWindow.TheInside.{Inside}
 use Rattle.hub_core.specs.declared.turns.Turn.TheVariants.{Absent as NoRun, Go, Moved, Over as Ending, Wait}
 use Rattle.hub_core.specs.declared.turns.Turn.{Turn}
-use Rattle.lock_leasing.proofs.ClearPlaces.{scheduled_stands}
+use Rattle.lock_leasing.proofs.Cited.{scheduled_stands}
 use Rattle.lock_leasing.specs.Configurations.{Configuration, Grip, Grips, point, read_of}
 use Rattle.lock_leasing.specs.declared.purposes.Purpose.TheVariants.{Commands, Probes, Undoes}
 use Rattle.lock_leasing.specs.declared.purposes.Purpose.{Purpose}
@@ -184,9 +182,9 @@ formed_hub shows t kept = kept.configuration.history.well_formed
 -- the final items stay
 pub turn_sealed : {D : Type 0} (shows : D → Shown) (s t : OpenHub D) (r m : ℕ) (turn : Turn D) → IsTurn s r m turn t → HubIsKept shows t → StaysSealed (read_of (configuration_of s)) (read_of (configuration_of t))
 turn_sealed shows s t r m (Go grip) is kept = took_sealed (configuration_of s) (configuration_of t) r m (took_after (hub_state_of s) (hub_state_of t) r m grip.slip _ is.step) (formed_hub shows t kept)
-turn_sealed shows s t r m (Moved made) is kept = took_sealed (configuration_of s) (configuration_of t) r m (after s t r m _ is.0) (formed_hub shows t kept)
+turn_sealed shows s t r m (Moved made) is kept = took_sealed (configuration_of s) (configuration_of t) r m (after s t r m _ is) (formed_hub shows t kept)
 turn_sealed shows s t r m (Wait why) is kept = took_sealed (configuration_of s) (configuration_of t) r m (after s t r m _ is.0) (formed_hub shows t kept)
-turn_sealed shows s t r m (Ending end made) is kept = took_sealed (configuration_of s) (configuration_of t) r m (after s t r m _ is.0) (formed_hub shows t kept)
+turn_sealed shows s t r m (Ending end made) is kept = took_sealed (configuration_of s) (configuration_of t) r m (after s t r m _ is) (formed_hub shows t kept)
 turn_sealed shows s t r m NoRun is kept = took_sealed (configuration_of s) (configuration_of t) r m (after s t r m _ is.0) (formed_hub shows t kept)
 
 -- A device comes home
@@ -220,13 +218,13 @@ seen_so {D = D} {s = s} {t = t} {u = u} {v = v} before after stays =
     subst (λ (x : OpenHub D). StaysSealed (read_of (configuration_of u)) (read_of (configuration_of x))) (sym after) (subst (λ (x : OpenHub D). StaysSealed (read_of (configuration_of x)) (read_of (configuration_of t))) before stays)
 
 pub given_sealed : {D : Type 0} (shows : D → Shown) (s t : OpenHub D) (grip : Gripped D Done) (m : ℕ)
-    (result : Result Made (Gripped D Done × Stranger)) → IsGiven s grip m result t → HubIsKept shows t
+    (result : Result (List Entry) (Gripped D Done × Stranger)) → IsGiven s grip m result t → HubIsKept shows t
     → StaysSealed (read_of (configuration_of s)) (read_of (configuration_of t))
 given_sealed shows s t grip m (Ok made) is kept = back_sealed _ (hub_state_of s) (hub_state_of t) (at_moment (configuration_of s) m) (carried_by grip) grip.stage.told _ is.0.0 is.0.1 (formed_hub shows t kept)
 given_sealed shows s t grip m (Err refused) is kept = same_hub s t is.2
 
 pub probe_given_sealed : {D : Type 0} (shows : D → Shown) (s t : OpenHub D) (grip : Gripped D Done)
-    (result : Result Made (Gripped D Done × Stranger)) → IsProbeGiven s grip result t → HubIsKept shows t
+    (result : Result (List Entry) (Gripped D Done × Stranger)) → IsProbeGiven s grip result t → HubIsKept shows t
     → StaysSealed (read_of (configuration_of s)) (read_of (configuration_of t))
 probe_given_sealed shows s t grip (Ok made) is kept = back_sealed _ (hub_state_of s) (hub_state_of t) (configuration_of s) (carried_by grip) grip.stage.told _ is.0.0 is.0.1 (formed_hub shows t kept)
 probe_given_sealed shows s t grip (Err refused) is kept = same_hub s t is.2

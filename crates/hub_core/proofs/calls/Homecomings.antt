@@ -9,15 +9,13 @@ use Rattle.device_gate.specs.declared.slips.Slip.{Slip}
 use Rattle.device_gate.specs.declared.slips.Task.{Task}
 use Rattle.device_gate.specs.declared.slips.Told.{Told}
 use Rattle.device_states.specs.Devices.{Shown}
-use Rattle.history_book.proofs.Counts.{fell_is}
-use Rattle.history_book.proofs.HistoryReads.{MayTake, run_place}
-use Rattle.history_book.specs.Histories.{entries_made, entries_of, kept_by}
+use Rattle.history_book.proofs.Cited.{MayTake, fell_is, run_place}
+use Rattle.history_book.specs.Histories.{entries_of, kept_by}
 use Rattle.history_book.specs.ReadHistories.{HistoryState, read_in, with_more}
 use Rattle.history_book.specs.Readings.{Reading, put}
 use Rattle.history_book.specs.Settings.{Setting}
 use Rattle.history_book.specs.WellFormed.{IsWellFormed}
 use Rattle.history_book.specs.declared.entries.Entry.{Entry}
-use Rattle.history_book.specs.declared.entries.Made.{Made}
 use Rattle.home_types.specs.Kinds.{has_value, kind_at}
 use Rattle.hub_core.proofs.calls.Departures.{one_for, other_home, other_out, taken_same}
 use Rattle.hub_core.proofs.calls.HubChanges.{events_same, length_with}
@@ -31,7 +29,7 @@ use Rattle.hub_core.proofs.steps.Calls.{calls_told, falls_of, give_calls, give_c
 use Rattle.hub_core.specs.Away.{IsHomeAgain, MayComeHome, events_after, known_after, turned, with_hand}
 use Rattle.hub_core.specs.Bounds.{most_entries}
 use Rattle.hub_core.specs.Homes.{CountsAreLow}
-use Rattle.hub_core.specs.HubCalls.{IsGiven, IsPacked, IsProbeGiven, SameWindow, carried_by}
+use Rattle.hub_core.specs.HubCalls.{IsGiven, IsProbeGiven, SameWindow, carried_by}
 use Rattle.hub_core.specs.HubKept.{is_of_run}
 use Rattle.hub_core.specs.HubSteps.{Carried, Gave, HubState, Returned, RunGiven, give, give_if, give_probe, task_of}
 use Rattle.hub_core.specs.HubsKept.{FitsAtHome, HandsAre, HasRoomLeft, HubIsKept, IsWhole, all_probes_taken, is_away, open_of}
@@ -44,7 +42,7 @@ use Rattle.hub_core.specs.Steps.{after_give, at_moment, give_entries, with_entri
 use Rattle.hub_core.specs.declared.known.DeviceProgress.{DeviceProgress}
 use Rattle.hub_core.specs.declared.known.Events.{Events}
 use Rattle.hub_core.specs.declared.open_windows.OpenWindow.TheInside.{Inside}
-use Rattle.legal_days.proofs.Lists.{count_cons}
+use Rattle.legal_days.proofs.Cited.{count_cons}
 use Rattle.legal_days.specs.AccountedCalls.{told_calls, told_falls}
 use Rattle.lock_leasing.specs.Configurations.{Configuration, Grip, Grips, read_of}
 use Rattle.std.proofs.Common.{ap, arith, inl, inr, refl, subst, sym, ◌∙◌}
@@ -510,21 +508,20 @@ came_window {D = D} h t why grip entries came k =
     })
 
 -- the grip of a run is given
-pub record CameBack {D : Type 0} (s t : OpenHub D) (grip : Gripped D Done) (m : ℕ) (made : Made) : Type 0 where
+pub record CameBack {D : Type 0} (s t : OpenHub D) (grip : Gripped D Done) (m : ℕ) (made : List Entry) : Type 0 where
   pub given : IsGiven s grip m (Ok made) t
   pub window : SameWindow s t
 
 pub back_given : {D : Type 0} {shows : D → Shown} (h t : Inside D) (s₀ : OpenHub D) (m : ℕ) (why : Purpose)
-    (grip : Gripped D Done) (entries : List Entry) (made : Made) → open_of h ≡ s₀ → 0 < grip.slip.maker → t.moment ≡ max h.moment m
-    → CameHome shows h t why grip entries → entries_made made ≡ entries → IsPacked made
+    (grip : Gripped D Done) (entries : List Entry) (made : List Entry) → open_of h ≡ s₀ → 0 < grip.slip.maker → t.moment ≡ max h.moment m
+    → CameHome shows h t why grip entries → made ≡ entries
     → IsWhole shows h → CameBack s₀ (open_of t) grip m made
-back_given {D = D} h t s₀ m why grip entries made seen maker moment_is came made_is packed k =
+back_given {D = D} h t s₀ m why grip entries made seen maker moment_is came made_is k =
     subst (λ (x : OpenHub D). CameBack x (open_of t) grip m made) seen (record {
       given = (
         (ap (λ x. Returned (Gave x)) made_is ∙ ap (λ (x : RunGiven). Returned x.answer) (sym gives), ap (λ (x : RunGiven). x.next) (sym gives)),
         came.parts.home.places,
         came.parts.home.tickets,
-        packed,
       );
       window = came_window h t why grip entries came k;
     })
@@ -540,21 +537,20 @@ back_given {D = D} h t s₀ m why grip entries made seen maker moment_is came ma
         ∙ came_gives h t why grip entries came k
 
 -- the grip of the detector is given
-pub record ProbeBack {D : Type 0} (s t : OpenHub D) (grip : Gripped D Done) (made : Made) : Type 0 where
+pub record ProbeBack {D : Type 0} (s t : OpenHub D) (grip : Gripped D Done) (made : List Entry) : Type 0 where
   pub given : IsProbeGiven s grip (Ok made) t
   pub window : SameWindow s t
 
 pub probe_given : {D : Type 0} {shows : D → Shown} (h t : Inside D) (s₀ : OpenHub D) (why : Purpose) (grip : Gripped D Done)
-    (entries : List Entry) (made : Made) → open_of h ≡ s₀ → grip.slip.maker ≡ 0 → t.moment ≡ h.moment
-    → CameHome shows h t why grip entries → entries_made made ≡ entries → IsPacked made
+    (entries : List Entry) (made : List Entry) → open_of h ≡ s₀ → grip.slip.maker ≡ 0 → t.moment ≡ h.moment
+    → CameHome shows h t why grip entries → made ≡ entries
     → IsWhole shows h → ProbeBack s₀ (open_of t) grip made
-probe_given {D = D} h t s₀ why grip entries made seen maker moment_is came made_is packed k =
+probe_given {D = D} h t s₀ why grip entries made seen maker moment_is came made_is k =
     subst (λ (x : OpenHub D). ProbeBack x (open_of t) grip made) seen (record {
       given = (
         (ap (λ x. Returned (Gave x)) made_is ∙ ap (λ (x : RunGiven). Returned x.answer) (sym gives), ap (λ (x : RunGiven). x.next) (sym gives)),
         came.parts.home.places,
         came.parts.home.tickets,
-        packed,
       );
       window = came_window h t why grip entries came k;
     })

@@ -1,9 +1,8 @@
 -- A step of a run in which no device goes out keeps what the type of a hub keeps, and is the step that it says.
 use Rattle.device_states.specs.Devices.{Shown}
 use Rattle.hub_core.proofs.kept.KeptByModel.{later_kept, taken_kept}
-use Rattle.history_book.proofs.Counts.{fell_is}
-use Rattle.history_book.proofs.HistoryReads.{MayTake, takes_first, takes_rest}
-use Rattle.history_book.specs.Histories.{entries_made, entries_of, kept_by, reading}
+use Rattle.history_book.proofs.Cited.{MayTake, fell_is, takes_first, takes_rest}
+use Rattle.history_book.specs.Histories.{entries_of, kept_by, reading}
 use Rattle.history_book.specs.Settings.{Setting, is_weak}
 use Rattle.history_book.specs.WellFormed.{IsWellFormed, may_follow}
 use Rattle.history_book.specs.declared.entries.Cause.{Cause}
@@ -11,7 +10,6 @@ use Rattle.history_book.specs.declared.entries.End.{End}
 use Rattle.history_book.specs.declared.entries.Entry.TheVariants.{Did, Doomed}
 use Rattle.history_book.specs.declared.entries.Entry.{Entry}
 use Rattle.history_book.specs.declared.entries.Kept.{Kept}
-use Rattle.history_book.specs.declared.entries.Made.{Made}
 use Rattle.device_gate.specs.declared.slips.Slip.{Slip}
 use Rattle.home_types.specs.Commands.{driven, reads}
 use Rattle.home_types.specs.Kinds.{kind_at}
@@ -242,7 +240,7 @@ step_is s t r m c slip is next fits = (
 )
 
 -- a run that moves on with these entries
-pub entered_answers : {D : Type 0} (h t : Inside D) (s : OpenHub D) (r m : ℕ) (es : List Entry) (made : Made) → open_of h ≡ s → IsEntered h t r m es Going → entries_made made ≡ es → Answers s r m (Moves (entries_made made)) (open_of t)
+pub entered_answers : {D : Type 0} (h t : Inside D) (s : OpenHub D) (r m : ℕ) (es : List Entry) (made : List Entry) → open_of h ≡ s → IsEntered h t r m es Going → made ≡ es → Answers s r m (Moves made) (open_of t)
 entered_answers {D = D} h t s r m es made seen enters is =
     subst (λ x. Answers s r m (Moves x) (open_of t)) (sym is)
     (subst (λ (x : OpenHub D). Answers x r m (Moves es) (open_of t)) seen

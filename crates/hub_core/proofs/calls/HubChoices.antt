@@ -53,10 +53,7 @@ use Rattle.std.proofs.Common.{ap, arith, refl, subst, sym, ◌∙◌}
 use Rattle.std.proofs.lemmas.Grind.{common_steps}
 use Rattle.std.specs.Prelude.{Bool, IsTrue, List, None, Option, Some, [], false, if◌then◌else◌, is_none, is_some, length, max, not, option_map, true, unwrap_or, ℕ, ◌&&◌, ◌<◌, ◌||◌, ◌∷◌, ◌≡◌}
 use Rattle.visibility_models.specs.Models.{IsDownAtEndOf, IsStrictWaitOf, IsUnderWay, under}
-use Rattle.window_order.proofs.AnsweredDowns.{IsToldDown}
-use Rattle.window_order.proofs.ReadFacts.{read_facts}
-use Rattle.window_order.proofs.SkippedCommands.{IsSkipped}
-use Rattle.window_order.proofs.Steps.{next_is}
+use Rattle.window_order.proofs.Cited.{IsSkipped, IsToldDown, next_is, read_facts}
 
 -- The grip and the slip of a place
 

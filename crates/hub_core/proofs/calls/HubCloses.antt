@@ -1,19 +1,12 @@
 -- A window that closes: its devices are home, its record is legal, and the home that is left is as every home is kept.
-use Rattle.device_states.specs.Devices.{Shown}
-use Rattle.legal_days.proofs.Lists.{at_place}
-use Rattle.lock_leasing.specs.Words.{standing_value}
-use Rattle.history_book.specs.ReadHistories.{read_in}
-use Rattle.history_book.specs.declared.entries.End.TheVariants.{Committed}
-use Rattle.hub_core.specs.KeptByModel.{IsKeptByModel}
-use Rattle.hub_core.proofs.weak.WeakClosings.{weak_ends, weak_legal_window, weak_none_out}
-use Rattle.hub_core.proofs.weak.WeakProbes.{weak_standing}
-use Rattle.hub_core.proofs.kept.TableFits.{counted_told, either_model}
-use Rattle.hub_core.proofs.kept.KeptByModel.{by_model, stands_at_home}
 use Rattle.device_gate.specs.Places.{AllHome, AreNumbered, all_home}
 use Rattle.device_gate.specs.declared.gates.Place.TheVariants.{Home, Out}
 use Rattle.device_gate.specs.declared.gates.Place.{Place}
+use Rattle.device_states.specs.Devices.{Shown}
 use Rattle.history_book.specs.Histories.{entries_of, is_fall_of, reading}
+use Rattle.history_book.specs.ReadHistories.{read_in}
 use Rattle.history_book.specs.Settings.{is_device, is_weak}
+use Rattle.history_book.specs.declared.entries.End.TheVariants.{Committed}
 use Rattle.history_book.specs.declared.entries.Entry.{Entry}
 use Rattle.history_book.specs.declared.records.WindowRecord.{WindowRecord}
 use Rattle.home_types.specs.HomeStates.{stand_at}
@@ -22,29 +15,37 @@ use Rattle.home_types.specs.declared.kinds.Kind.{Kind}
 use Rattle.home_types.specs.declared.worlds.Stand.{Stand}
 use Rattle.hub_core.proofs.calls.EndedRuns.{each_has_ended}
 use Rattle.hub_core.proofs.calls.HubChanges.{few_entries}
+use Rattle.hub_core.proofs.kept.Kept.{values_fit}
+use Rattle.hub_core.proofs.kept.KeptByModel.{by_model, stands_at_home}
+use Rattle.hub_core.proofs.kept.Sizes.{line_fits, stays_up}
+use Rattle.hub_core.proofs.kept.TableFits.{counted_told, either_model}
+use Rattle.hub_core.proofs.kept.WrittenValues.{standing_fits, writes_fit}
+use Rattle.hub_core.proofs.weak.WeakClosings.{weak_ends, weak_legal_window, weak_none_out}
+use Rattle.hub_core.proofs.weak.WeakProbes.{weak_standing}
 use Rattle.hub_core.proofs.windows.CalmHistories.{NoneFailed}
 use Rattle.hub_core.proofs.windows.Closings.{IsLastState, IsQuiet, ended_committed, legal_window, none_out, quiet_is, table_leaves}
-use Rattle.hub_core.proofs.kept.Kept.{values_fit}
-use Rattle.hub_core.proofs.kept.Sizes.{line_fits, stays_up}
-use Rattle.hub_core.proofs.kept.WrittenValues.{standing_fits, writes_fit}
-use Rattle.legal_days.specs.AccountedCalls.{CallsAreAccounted, tells_call, told_calls, told_falls}
-use Rattle.legal_days.specs.Agreement.{UpDevicesStand}
-use Rattle.hub_core.specs.ClosedHomes.{HaveRisen, NoneFell, all_known_left, known_left, stand_left}
+use Rattle.hub_core.specs.ClosedHomes.{HaveRisen, NoneFell, all_known_left, known_left}
 use Rattle.hub_core.specs.Homes.{CountsAreLow, HomeIsKept}
 use Rattle.hub_core.specs.HubCalls.{NoneFails, WindowIsClosed, probes_taken}
-use Rattle.hub_core.specs.HubsKept.{FitsAtHome, HubIsKept, IsEmptyFor, IsWhole, open_of}
+use Rattle.hub_core.specs.HubsKept.{FitsAtHome, HubIsKept, IsWhole, open_of}
+use Rattle.hub_core.specs.KeptByModel.{IsKeptByModel}
 use Rattle.hub_core.specs.OpenHubs.{OpenHub, configuration_of, grip_in, held_in, progress_at}
-use Rattle.legal_days.specs.LegalWindows.{IsLegalWindow}
 use Rattle.hub_core.specs.Steps.{not_quiet}
 use Rattle.hub_core.specs.declared.open_windows.OpenWindow.TheInside.{Inside}
+use Rattle.legal_days.proofs.Cited.{at_place}
+use Rattle.legal_days.specs.AccountedCalls.{CallsAreAccounted, tells_call, told_calls, told_falls}
+use Rattle.legal_days.specs.Agreement.{UpDevicesStand}
+use Rattle.legal_days.specs.LegalWindows.{IsLegalWindow}
 use Rattle.lock_leasing.specs.Configurations.{Configuration, point, point_of, read_of}
+use Rattle.lock_leasing.specs.Words.{standing_value}
 use Rattle.serial_line.specs.Marks.{Mark}
 use Rattle.std.proofs.Common.{ap, arith, length-append, refl, subst, sym, ◌∙◌}
 use Rattle.std.proofs.lemmas.Grind.{common_steps}
-use Rattle.std.proofs.lemmas.List.{length-map}
 use Rattle.std.proofs.lemmas.List.Sums.{count_by-le-length}
+use Rattle.std.proofs.lemmas.List.{length-map}
 use Rattle.std.proofs.lemmas.Option.{slice_get-map, slice_get_within}
-use Rattle.std.specs.Prelude.{Bool, IsTrue, List, None, Some, [], count_by, false, length, map, nat_lt, option_map, slice_get, slice_index_or, suc, take, true, zero, ℕ, ◌*◌, ◌++◌, ◌+◌, ◌<◌, ◌^◌, ◌∷◌, ◌≡◌, ◌≤◌}
+use Rattle.std.specs.Prelude.{Bool, IsTrue, List, None, Some, [], count_by, false, length, map, nat_lt, option_map, slice_get, slice_index_or, suc, true, zero, ℕ, ◌*◌, ◌++◌, ◌+◌, ◌<◌, ◌^◌, ◌∷◌, ◌≡◌, ◌≤◌}
+use Rattle.window_order.specs.Leavings.{IsEmptyFor, stand_left}
 
 -- where nothing is left to do, no device is out
 home_when_quiet : (s : Configuration) (rounds opened : ℕ) (held : ℕ → ℕ) (d : ℕ) → IsKeptByModel s rounds opened held → IsQuiet s → s.grips d ≡ None
@@ -285,12 +286,6 @@ window_closed {D = D} shows s devices kinds world closed c tells kinds_are world
 
     known : (d : ℕ) (device : D) → slice_get devices d ≡ Some device → d < length s.devices
     known d device at = (let there = slice_get_within devices d device at in let same = sizes shows s devices c in let all = c.kept.devices_size in omega (arith, there, same, all))
-
--- one item more of a list
-pub took_next : {A : Type 0} (xs : List A) (i : ℕ) (x : A) → slice_get xs i ≡ Some x → take (i + 1) xs ≡ take i xs ++ x ∷ []
-took_next [] i x at = absurd (cc)
-took_next (y ∷ xs) zero x at = let same : y ≡ x = cc in ap (λ z. z ∷ []) same
-took_next (y ∷ xs) (suc i) x at = let more : suc i + 1 ≡ suc (i + 1) = omega arith in ap (λ k. take k (y ∷ xs)) more ∙ ap (λ zs. y ∷ zs) (took_next xs i x at)
 
 -- the line of a window that closes has a place in the record's list for each item
 pub items_fit : {D : Type 0} {shows : D → Shown} (h : Inside D) → IsWhole shows h → IsEmptyFor h.closing.order (length h.order.line.marks)

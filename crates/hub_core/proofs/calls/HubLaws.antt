@@ -8,7 +8,7 @@ use Rattle.device_gate.specs.declared.gates.Place.TheVariants.{Home, Out}
 use Rattle.device_gate.specs.declared.gates.Place.{Place}
 use Rattle.device_gate.specs.declared.slips.Slip.{Slip}
 use Rattle.device_gate.specs.declared.slips.Task.{Task}
-use Rattle.history_book.proofs.Shapes.{shapes}
+use Rattle.history_book.proofs.Cited.{shapes}
 use Rattle.history_book.specs.Histories.{entries_of}
 use Rattle.history_book.specs.Readings.{next_of}
 use Rattle.history_book.specs.Settings.{device_numbers, is_device, run_numbers}
@@ -36,8 +36,7 @@ use Rattle.std.proofs.lemmas.Grind.{common_steps}
 use Rattle.std.proofs.lemmas.Option.{same_Some, slice_get_within}
 use Rattle.std.specs.Option.{option_or}
 use Rattle.std.specs.Prelude.{Bool, IfNone, IfSome, IsTrue, List, None, Option, Some, [], false, find, if◌then◌else◌, is_none, is_some, length, nat_lt, option_map, slice_get, suc, true, zero, ℕ, ◌+◌, ◌<◌, ◌↔◌, ◌∷◌, ◌≡◌, ◌≤◌}
-use Rattle.window_order.proofs.Promises.{order_stands}
-use Rattle.window_order.proofs.ReadFacts.{read_facts}
+use Rattle.window_order.proofs.Cited.{order_stands, read_facts}
 
 pub kept_at : {D : Type 0} (shows : D → Shown) (s t : OpenHub D) → s ≡ t → HubIsKept shows s → HubIsKept shows t
 kept_at {D = D} shows s t same k = subst (λ (x : OpenHub D). HubIsKept shows x) same k

@@ -12,8 +12,6 @@ use Rattle.device_gate.specs.declared.slips.Task.{Task}
 use Rattle.device_gate.specs.declared.slips.Told.{Told}
 use Rattle.device_gate.specs.declared.gates.Place.TheVariants.{Home, Out}
 use Rattle.device_gate.specs.declared.gates.Place.{Place}
-use Rattle.history_book.specs.Histories.{entries_made}
-use Rattle.history_book.specs.declared.entries.Made.{Made}
 use Rattle.history_book.specs.declared.entries.End.{End}
 use Rattle.history_book.specs.declared.entries.Entry.{Entry}
 use Rattle.history_book.specs.Readings.{put}
@@ -66,20 +64,20 @@ made_marks s u r m entries b after was now is are left =
     subst (λ x. AreBlocked x after) (sym is) (moved s r m entries b after was (subst IsKept is now) are (subst (λ (x : Configuration). AreLeft b after (λ d. EndNoWait x.setting (read_of x) d entries)) is left))
 
 -- which makes entries
-pub marks_moved : {D : Type 0} (shows : D → Shown) (s t : OpenHub D) (r m : ℕ) (made : Made) (b after : BlockedState) → is_weak s.setting.mode
+pub marks_moved : {D : Type 0} (shows : D → Shown) (s t : OpenHub D) (r m : ℕ) (made : List Entry) (b after : BlockedState) → is_weak s.setting.mode
     ≡ false → is_weak t.setting.mode ≡ false → HubIsKept shows s → HubIsKept shows t
-    → Answers s r m (Moves (entries_made made)) t → AreBlocked (configuration_of s) b
-    → AreLeft b after (λ d. EndNoWait t.setting (read_of (configuration_of t)) d (entries_made made)) → AreBlocked (configuration_of t) after
+    → Answers s r m (Moves made) t → AreBlocked (configuration_of s) b
+    → AreLeft b after (λ d. EndNoWait t.setting (read_of (configuration_of t)) d made) → AreBlocked (configuration_of t) after
 marks_moved shows s t r m made b after before then' was now answers are left =
-    made_marks (configuration_of s) (configuration_of t) r m (entries_made made) b after (is_kept shows s before was) (is_kept shows t then' now) (after_answer s t r m (Moves (entries_made made)) answers) are left
+    made_marks (configuration_of s) (configuration_of t) r m made b after (is_kept shows s before was) (is_kept shows t then' now) (after_answer s t r m (Moves made) answers) are left
 
 -- or ends its run
-pub marks_over : {D : Type 0} (shows : D → Shown) (s t : OpenHub D) (r m : ℕ) (end : End) (made : Made) (b after : BlockedState)
+pub marks_over : {D : Type 0} (shows : D → Shown) (s t : OpenHub D) (r m : ℕ) (end : End) (made : List Entry) (b after : BlockedState)
     → is_weak s.setting.mode ≡ false → is_weak t.setting.mode ≡ false → HubIsKept shows s → HubIsKept shows t
-    → Answers s r m (Over end (entries_made made)) t → AreBlocked (configuration_of s) b
-    → AreLeft b after (λ d. EndNoWait t.setting (read_of (configuration_of t)) d (entries_made made)) → AreBlocked (configuration_of t) after
+    → Answers s r m (Over end made) t → AreBlocked (configuration_of s) b
+    → AreLeft b after (λ d. EndNoWait t.setting (read_of (configuration_of t)) d made) → AreBlocked (configuration_of t) after
 marks_over shows s t r m end made b after before then' was now answers are left =
-    made_marks (configuration_of s) (configuration_of t) r m (entries_made made) b after (is_kept shows s before was) (is_kept shows t then' now) (after_answer s t r m (Over end (entries_made made)) answers) are left
+    made_marks (configuration_of s) (configuration_of t) r m made b after (is_kept shows s before was) (is_kept shows t then' now) (after_answer s t r m (Over end made) answers) are left
 
 -- or waits, and the run may be marked
 pub marks_wait : {D : Type 0} (shows : D → Shown) (s t : OpenHub D) (r m : ℕ) (why : Why) (b after : BlockedState) → is_weak s.setting.mode
@@ -146,39 +144,39 @@ never_taken s c told result entries more none answer = refused (is_kept_grip s t
     refused true e answer = absurd (cc)
     refused false e answer = absurd (cc)
 
-pub marks_given : {D : Type 0} (shows : D → Shown) (s t : OpenHub D) (m : ℕ) (grip : Gripped D Done) (made : Made) (b after : BlockedState)
+pub marks_given : {D : Type 0} (shows : D → Shown) (s t : OpenHub D) (m : ℕ) (grip : Gripped D Done) (made : List Entry) (b after : BlockedState)
     → is_weak s.setting.mode ≡ false → is_weak t.setting.mode ≡ false → HubIsKept shows s → HubIsKept shows t
     → IsGiven s grip m (Ok made) t → AreBlocked (configuration_of s) b
-    → AreLeft b after (λ e. IsAnsweredStill (configuration_of t) grip.slip.device.0 (entries_made made) ⊎ ((e ≢ grip.slip.device.0) × (list_all (is_quiet t.setting e) (entries_made made) ≡ true))) → AreBlocked (configuration_of t) after
+    → AreLeft b after (λ e. IsAnsweredStill (configuration_of t) grip.slip.device.0 made ⊎ ((e ≢ grip.slip.device.0) × (list_all (is_quiet t.setting e) made ≡ true))) → AreBlocked (configuration_of t) after
 marks_given {D} shows s t m grip made b after before then' was now given are left = by_place (slice_get s.places d) refl
   where
     d : ℕ
     d = grip.slip.device.0
 
     by_place : (o : Option (Place D)) → slice_get s.places d ≡ o → AreBlocked (configuration_of t) after
-    by_place None at = absurd (never_taken (hub_state_of s) (at_moment (configuration_of s) m) (carried_by grip) grip.stage.told (entries_made made) _ (ap carried_in at) given.0.0)
-    by_place (Some (Home device)) at = absurd (never_taken (hub_state_of s) (at_moment (configuration_of s) m) (carried_by grip) grip.stage.told (entries_made made) _ (ap carried_in at) given.0.0)
+    by_place None at = absurd (never_taken (hub_state_of s) (at_moment (configuration_of s) m) (carried_by grip) grip.stage.told made _ (ap carried_in at) given.0.0)
+    by_place (Some (Home device)) at = absurd (never_taken (hub_state_of s) (at_moment (configuration_of s) m) (carried_by grip) grip.stage.told made _ (ap carried_in at) given.0.0)
     by_place (Some (Out slip task)) at =
         let out = out_grip s d slip task at in
-        let told = gave_back (hub_state_of s) (hub_state_of t) (carried_by grip) grip.stage.told m _ (entries_made made) out given.0 in
-        back_marks (configuration_of s) (configuration_of t) (max s.moment m) d _ grip.stage.told (entries_made made) b after (is_kept shows s before was) (is_kept shows t then' now) (omega (arith)) out told.0 told.1 are left
+        let told = gave_back (hub_state_of s) (hub_state_of t) (carried_by grip) grip.stage.told m _ made out given.0 in
+        back_marks (configuration_of s) (configuration_of t) (max s.moment m) d _ grip.stage.told made b after (is_kept shows s before was) (is_kept shows t then' now) (omega (arith)) out told.0 told.1 are left
 
-pub marks_probe_given : {D : Type 0} (shows : D → Shown) (s t : OpenHub D) (grip : Gripped D Done) (made : Made) (b after : BlockedState)
+pub marks_probe_given : {D : Type 0} (shows : D → Shown) (s t : OpenHub D) (grip : Gripped D Done) (made : List Entry) (b after : BlockedState)
     → is_weak s.setting.mode ≡ false → is_weak t.setting.mode ≡ false → HubIsKept shows s → HubIsKept shows t
     → IsProbeGiven s grip (Ok made) t → AreBlocked (configuration_of s) b
-    → AreLeft b after (λ e. IsAnsweredStill (configuration_of t) grip.slip.device.0 (entries_made made) ⊎ ((e ≢ grip.slip.device.0) × (list_all (is_quiet t.setting e) (entries_made made) ≡ true))) → AreBlocked (configuration_of t) after
+    → AreLeft b after (λ e. IsAnsweredStill (configuration_of t) grip.slip.device.0 made ⊎ ((e ≢ grip.slip.device.0) × (list_all (is_quiet t.setting e) made ≡ true))) → AreBlocked (configuration_of t) after
 marks_probe_given {D} shows s t grip made b after before then' was now given are left = by_place (slice_get s.places d) refl
   where
     d : ℕ
     d = grip.slip.device.0
 
     by_place : (o : Option (Place D)) → slice_get s.places d ≡ o → AreBlocked (configuration_of t) after
-    by_place None at = absurd (never_taken (hub_state_of s) (configuration_of s) (carried_by grip) grip.stage.told (entries_made made) _ (ap carried_in at) given.0.0)
-    by_place (Some (Home device)) at = absurd (never_taken (hub_state_of s) (configuration_of s) (carried_by grip) grip.stage.told (entries_made made) _ (ap carried_in at) given.0.0)
+    by_place None at = absurd (never_taken (hub_state_of s) (configuration_of s) (carried_by grip) grip.stage.told made _ (ap carried_in at) given.0.0)
+    by_place (Some (Home device)) at = absurd (never_taken (hub_state_of s) (configuration_of s) (carried_by grip) grip.stage.told made _ (ap carried_in at) given.0.0)
     by_place (Some (Out slip task)) at =
         let out = out_grip s d slip task at in
-        let told = gave_probe_back (hub_state_of s) (hub_state_of t) (carried_by grip) grip.stage.told _ (entries_made made) out given.0 in
-        back_marks (configuration_of s) (configuration_of t) s.moment d _ grip.stage.told (entries_made made) b after (is_kept shows s before was) (is_kept shows t then' now) (omega (arith)) out told.0 told.1 are left
+        let told = gave_probe_back (hub_state_of s) (hub_state_of t) (carried_by grip) grip.stage.told _ made out given.0 in
+        back_marks (configuration_of s) (configuration_of t) s.moment d _ grip.stage.told made b after (is_kept shows s before was) (is_kept shows t then' now) (omega (arith)) out told.0 told.1 are left
 
 -- the model is the same before a call
 pub model_before : {D : Type 0} (s t : OpenHub D) (b : Bool) → SameWindow s t → is_weak t.setting.mode ≡ b → is_weak s.setting.mode ≡ b

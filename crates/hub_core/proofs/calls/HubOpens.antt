@@ -1,7 +1,7 @@
 -- A window that opens: what the hub knows, and that it is as every hub is kept.
 use Rattle.command_rules.specs.Rosters.{plain_run, runs_of}
 use Rattle.command_rules.specs.declared.rosters.Roster.{Roster}
-use Rattle.device_gate.proofs.Places.{device_at as home_there, none_out as not_out}
+use Rattle.device_gate.proofs.Cited.{device_at as home_there, none_out as not_out}
 use Rattle.device_gate.specs.Places.{all_home}
 use Rattle.device_gate.specs.declared.gates.Place.TheVariants.{Home}
 use Rattle.device_gate.specs.declared.gates.Place.{Place}
@@ -17,7 +17,7 @@ use Rattle.hub_core.proofs.kept.KeptByModel.{starts_kept}
 use Rattle.hub_core.specs.Bounds.{most_entries, most_items}
 use Rattle.hub_core.specs.HubCalls.{IsOpened}
 use Rattle.hub_core.specs.KeptByModel.{IsKeptByModel}
-use Rattle.hub_core.specs.HubsKept.{HandsAre, FitsAtHome, HasRoomLeft, HubIsKept}
+use Rattle.hub_core.specs.HubsKept.{FitsAtHome, HandsAre, HasRoomLeft, HubIsKept}
 use Rattle.hub_core.specs.OpenHubs.{OpenHub, configuration_of, grip_in, held_in, no_device, no_events, progress_at}
 use Rattle.hub_core.specs.Openings.{MayOpen}
 use Rattle.hub_core.specs.Steps.{opened}

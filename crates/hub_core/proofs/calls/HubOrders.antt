@@ -7,11 +7,9 @@ use Rattle.device_gate.specs.Grips.{Gripped}
 use Rattle.device_gate.specs.declared.grips.Ready.{Ready}
 use Rattle.device_gate.specs.declared.slips.Task.{Task}
 use Rattle.device_states.specs.Devices.{Shown}
-use Rattle.history_book.proofs.HistoryReads.{MayTake}
-use Rattle.history_book.proofs.Snoc.{put_other}
-use Rattle.history_book.proofs.Splits.{line_length}
+use Rattle.history_book.proofs.Cited.{MayTake, line_length, put_other}
 use Rattle.history_book.specs.Gaps.{front_for, gap_set, line_for, split_of}
-use Rattle.history_book.specs.Histories.{entries_made, entries_of, entry}
+use Rattle.history_book.specs.Histories.{entries_of, entry}
 use Rattle.history_book.specs.Plans.{planned_times}
 use Rattle.history_book.specs.Progress.{progress_of}
 use Rattle.history_book.specs.ReadHistories.{HistoryState, read_in, with_doom, with_entry, with_more}
@@ -40,7 +38,7 @@ use Rattle.hub_core.proofs.calls.HubChanges.{Ending, Going, IsEntered, answer_en
 use Rattle.hub_core.proofs.calls.HubChoices.{IsAborting, IsAnsweringDown, IsFailing, answering, dropping, failing, finished_is, rest_downs}
 use Rattle.hub_core.proofs.calls.HubOuts.{GoesFor, IsHanded, IsHandedOut, handed_gone, handed_kept, handed_out}
 use Rattle.hub_core.proofs.calls.NextUndos.{next_undo_is}
-use Rattle.hub_core.proofs.calls.PlannedUses.{planned_devices}
+use Rattle.timeline_scheduler.proofs.Cited.{planned_devices}
 use Rattle.hub_core.proofs.calls.Scheduling.{scheduled_as_planned}
 use Rattle.hub_core.proofs.kept.Arranged.{arranged_same, marks_arranged, marks_for, may_arrange}
 use Rattle.hub_core.proofs.kept.Finds.{none_found, none_there}
@@ -64,16 +62,17 @@ use Rattle.lock_leasing.specs.declared.purposes.Purpose.TheVariants.{Commands, P
 use Rattle.lock_leasing.specs.declared.purposes.Purpose.{Purpose}
 use Rattle.hub_core.specs.OpenHubs.{OpenHub, configuration_of, held_in, progress_at}
 use Rattle.hub_core.specs.Openings.{MayOpen, names_values_of}
-use Rattle.hub_core.specs.PlannedPlaces.{AreUsesOf, HoldsPlan, IsForHome}
+use Rattle.hub_core.specs.PlannedPlaces.{HoldsPlan, IsForHome}
+use Rattle.timeline_scheduler.specs.PlannedUses.{AreUsesOf}
 use Rattle.hub_core.specs.Steps.{HandsOut, Moves, choice_of}
 use Rattle.hub_core.specs.WeakSteps.{weak_rest}
 use Rattle.window_order.specs.declared.kept_orders.KeptOrder.{KeptOrder}
 use Rattle.hub_core.specs.declared.known.DeviceProgress.{DeviceProgress}
 use Rattle.hub_core.specs.declared.open_windows.OpenWindow.TheInside.{Inside}
-use Rattle.window_order.specs.declared.planned_uses.PlannedUse.{PlannedUse}
+use Rattle.history_book.specs.declared.planned_uses.PlannedUse.{PlannedUse}
 use Rattle.lineage_table.specs.Accesses.{IsDisciplined, effective_writer}
 use Rattle.lineage_table.specs.Lineages.{LineageState, accesses_at, committed_lineage, lineage_at, removed, undone, with_lineage}
-use Rattle.lock_leasing.proofs.Facts.{next_is_left}
+use Rattle.lock_leasing.proofs.Cited.{next_is_left}
 use Rattle.lock_leasing.specs.Configurations.{Configuration, Grips, is_command, is_out, is_undo, point, point_of, read_of}
 use Rattle.lock_leasing.specs.Places.{GripsFit, IsClear, MayBeOut, in_order}
 use Rattle.lock_leasing.specs.Standings.{IsRosterFor, IsStandingOf}
@@ -86,19 +85,11 @@ use Rattle.std.proofs.lemmas.Option.{slice_get-get_or}
 use Rattle.std.specs.List.{All, range_with_len}
 use Rattle.std.specs.Prelude.{Bool, IsSome, IsTrue, List, None, Option, Some, [], drop, false, get_or, if◌then◌else◌, is_none, length, max, nat_lt, not, option_map, suc, take, true, unwrap_or, zero, ℕ, ◌&&◌, ◌++◌, ◌+◌, ◌-◌, ◌<◌, ◌==◌, ◌||◌, ◌∷◌, ◌≡◌, ◌≤◌}
 use Rattle.timeline_scheduler.specs.Scratches.{HoldsTimes, ScratchRoom}
-use Rattle.window_order.proofs.FewAccesses.{few_accesses}
-use Rattle.window_order.proofs.Firsts.{below_home}
-use Rattle.window_order.proofs.Grips.{HoldsNone, fits_other, holds_none}
-use Rattle.window_order.proofs.Joined.{same_parts}
-use Rattle.window_order.proofs.PlacedTables.{new_on}
-use Rattle.window_order.proofs.Promises.{order_stands}
-use Rattle.window_order.proofs.ReadFacts.{IsRead, read_facts}
-use Rattle.window_order.proofs.Rearranged.{read_kept as read_rearranged, table_kept}
-use Rattle.window_order.proofs.Representing.{represents}
-use Rattle.window_order.proofs.TouchedLines.{live_stands, unplaced_absent}
+use Rattle.window_order.proofs.Cited.{HoldsNone, IsRead, below_home, few_accesses, fits_other, holds_none, live_stands, new_on, order_stands, read_facts, read_kept as read_rearranged, represents, same_parts, table_kept, unplaced_absent}
 use Rattle.window_order.specs.MarksKept.{MarksAreKept}
 use Rattle.window_order.specs.TableChanges.{ChangesEach, IsNewOn, doomed_lineage, is_done_there, scheduled_on}
 use Rattle.window_order.specs.TableKept.{TableIsKept}
+use Rattle.history_book.specs.Packed.{entries_made}
 
 -- What is kept of the hub's history
 

@@ -9,7 +9,7 @@ use Rattle.device_gate.specs.declared.slips.Slip.{Slip}
 use Rattle.device_gate.specs.declared.slips.Task.TheVariants.{Drive, Sense}
 use Rattle.device_gate.specs.declared.slips.Task.{Task}
 use Rattle.device_states.specs.Devices.{Shown}
-use Rattle.history_book.proofs.HistoryReads.{run_place}
+use Rattle.history_book.proofs.Cited.{run_place}
 use Rattle.history_book.specs.Readings.{is_doomed, is_live, next_command, next_of, put, sees_down}
 use Rattle.history_book.specs.Settings.{is_device, is_weak}
 use Rattle.home_types.specs.Commands.{driven, reads}
@@ -41,7 +41,7 @@ use Rattle.std.proofs.Common.{ap, ap₂, arith, refl, subst, sym, ◌∙◌}
 use Rattle.std.proofs.lemmas.Grind.{common_steps}
 use Rattle.std.proofs.lemmas.Option.{slice_get_within}
 use Rattle.std.specs.Prelude.{Bool, IsTrue, None, Some, false, if◌then◌else◌, is_some, length, max, nat_lt, not, slice_get, slice_set, true, ℕ, ◌&&◌, ◌<◌, ◌||◌, ◌≡◌}
-use Rattle.window_order.proofs.Firsts.{below_home}
+use Rattle.window_order.proofs.Cited.{below_home}
 
 -- Why it goes
 

@@ -9,8 +9,7 @@ use Rattle.device_gate.specs.declared.slips.Task.{Task}
 use Rattle.device_gate.specs.declared.slips.Told.TheVariants.{Died, Sensed, Worked}
 use Rattle.device_gate.specs.declared.slips.Told.{Told}
 use Rattle.device_states.specs.Devices.{Shown}
-use Rattle.history_book.proofs.HistoryReads.{MayTake, takes_first}
-use Rattle.history_book.specs.Histories.{entries_made}
+use Rattle.history_book.proofs.Cited.{MayTake, takes_first}
 use Rattle.history_book.specs.ReadHistories.{HistoryState, read_in, with_doom, with_entry, with_more}
 use Rattle.history_book.specs.Readings.{Reading, is_doomed}
 use Rattle.history_book.specs.Settings.{Setting}
@@ -25,7 +24,7 @@ use Rattle.home_types.specs.declared.commands.Answer.{Answer}
 use Rattle.hub_core.proofs.calls.Homecomings.{CameHome, IsHome, IsReturned, returned_entries, returned_for, returned_places, takes_back}
 use Rattle.hub_core.proofs.calls.HubChanges.{answer_entries, answered_more}
 use Rattle.hub_core.proofs.calls.OutFor.{IsForCommand, for_command, out_for}
-use Rattle.hub_core.specs.Decisions.{refuted_by}
+use Rattle.history_book.specs.Causes.{refuted_by}
 use Rattle.hub_core.specs.HubsKept.{IsWhole, open_of}
 use Rattle.hub_core.specs.OpenHubs.{OpenHub, progress_at}
 use Rattle.lock_leasing.specs.declared.purposes.Purpose.TheVariants.{Commands, Probes, Undoes}
@@ -36,6 +35,7 @@ use Rattle.lock_leasing.specs.Configurations.{is_undo}
 use Rattle.std.proofs.Common.{ap, ap₂, arith, refl, subst, sym, ◌∙◌}
 use Rattle.std.proofs.lemmas.Bool.{lt-ltb}
 use Rattle.std.specs.Prelude.{Bool, IsSome, IsTrue, List, None, Option, Some, [], false, if◌then◌else◌, length, not, option_map, slice_get, true, ℕ, ◌&&◌, ◌-◌, ◌<◌, ◌∷◌, ◌≡◌, ◌≤◌}
+use Rattle.history_book.specs.Packed.{entries_made}
 
 -- For what it was out
 

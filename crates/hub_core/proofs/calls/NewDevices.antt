@@ -1,6 +1,6 @@
 -- The devices that were built, and one more.
 use Rattle.device_states.specs.Devices.{Shown}
-use Rattle.home_types.proofs.Snocs.{snoc_get}
+use Rattle.home_types.proofs.Cited.{snoc_get}
 use Rattle.hub_core.specs.Homes.{AreNew, IsNew}
 use Rattle.routine_reader.specs.declared.scripts.DeviceText.{DeviceText}
 use Rattle.std.proofs.Common.{ap, arith, get_or, inl, inr, subst, sym, ◌∙◌}

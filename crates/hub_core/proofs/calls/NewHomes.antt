@@ -6,7 +6,7 @@ use Rattle.home_types.specs.declared.kinds.Kind.TheVariants.{States}
 use Rattle.home_types.specs.declared.kinds.Kind.{Kind}
 use Rattle.home_types.specs.declared.worlds.Stand.{Stand}
 use Rattle.hub_core.specs.Homes.{AreNew, HomeIsKept, IsNew}
-use Rattle.legal_days.proofs.Lists.{at_place}
+use Rattle.legal_days.proofs.Cited.{at_place}
 use Rattle.legal_days.specs.Agreement.{UpDevicesStand}
 use Rattle.routine_reader.specs.Rosters.{kinds_of, start_home, start_stand}
 use Rattle.routine_reader.specs.Scripts.{PlainDevice, plain_device, plain_script}
@@ -68,12 +68,3 @@ new_home {D = D} shows script kinds world devices sound new kinds_are world_is =
 
     value_at : (d : ℕ) → d < length world → IsTrue (has_value (kind_at kinds d) (stand_at world d).value)
     value_at d lt = (let text = at_place texts d (omega (arith, lt, size)) in rw (kind_of d text.0 text.1, stand_of d text.0 text.1) (starts_well d text.0 text.1))
-
--- a script that is sound has few devices
-pub few_kinds : (script : Script) (kinds : List Kind) → IsSound (plain_script script) → kinds ≡ kinds_of script → length kinds ≤ 256
-few_kinds script kinds sound is =
-    let texts = script.devices.items in
-    let said = sound.few_devices in
-    let same : length (map plain_device texts) ≡ length texts = length-map texts plain_device in
-    let made : length kinds ≡ length texts = ap (λ l. length l) is ∙ length-map texts (λ t. t.kind) in
-    omega (arith, said, same, made)

@@ -3,13 +3,12 @@ use Rattle.abort_rollback.specs.Undos.{first_effective, has_effective_write, nex
 use Rattle.abort_rollback.specs.declared.undos.Undo.TheVariants.{Drive, Drop, Finished}
 use Rattle.abort_rollback.specs.declared.undos.Undo.{Undo}
 use Rattle.command_rules.specs.Rosters.{Run, device_no, touches}
-use Rattle.history_book.proofs.Searches.{each_found, own_devices}
+use Rattle.history_book.proofs.Cited.{each_found, own_devices}
 use Rattle.history_book.specs.Readings.{is_live}
 use Rattle.history_book.specs.Settings.{devices_of, is_device}
 use Rattle.history_book.specs.declared.entries.Kept.{Kept}
 use Rattle.lineage_table.specs.Lineages.{LineageState, lineage_at}
-use Rattle.lock_leasing.proofs.Facts.{Facts, facts_of}
-use Rattle.lock_leasing.proofs.Undoing.{next_device, stands_without, writes_last}
+use Rattle.lock_leasing.proofs.Cited.{Facts, facts_of, next_device, stands_without, writes_last}
 use Rattle.lock_leasing.specs.Configurations.{Configuration, Point, point_of, read_of}
 use Rattle.lock_leasing.specs.Standings.{IsStandingOf}
 use Rattle.lock_leasing.specs.Tables.{IsLineageOf}

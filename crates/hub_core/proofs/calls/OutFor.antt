@@ -42,8 +42,7 @@ use Rattle.std.proofs.lemmas.Bool.{eqb-true}
 use Rattle.std.proofs.lemmas.Grind.{common_steps}
 use Rattle.std.proofs.lemmas.Option.{slice_get_within}
 use Rattle.std.specs.Prelude.{Bool, IsTrue, List, None, Option, Some, false, if◌then◌else◌, is_none, length, nat_lt, not, true, ℕ, ◌&&◌, ◌<◌, ◌≡◌, ◌≤◌}
-use Rattle.window_order.proofs.Firsts.{below_home}
-use Rattle.window_order.proofs.ReadFacts.{IsRead, read_facts}
+use Rattle.window_order.proofs.Cited.{IsRead, below_home, read_facts}
 
 -- For what it is out
 

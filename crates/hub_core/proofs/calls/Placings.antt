@@ -1,7 +1,7 @@
 -- Where the code places a run is where the scheduler does.
 use Rattle.command_rules.specs.ClosedSets.{chosen}
 use Rattle.command_rules.specs.Rosters.{followed_by, is_run, run_no}
-use Rattle.history_book.proofs.Searches.{none_is}
+use Rattle.history_book.proofs.Cited.{none_is}
 use Rattle.history_book.specs.Gaps.{front_for, gap_set}
 use Rattle.history_book.specs.Lines.{Split, split_at}
 use Rattle.history_book.specs.Plans.{planned_times}
@@ -21,7 +21,7 @@ use Rattle.hub_core.specs.PlannedPlaces.{HasSameRoom, HoldsGap, IsForHome}
 use Rattle.hub_core.specs.Steps.{Moves, choice_of, place_choice}
 use Rattle.hub_core.specs.declared.turns.Turn.TheVariants.{Absent, Go, Moved, Over, Wait}
 use Rattle.hub_core.specs.declared.turns.Turn.{Turn}
-use Rattle.lock_leasing.proofs.EarliestPlaces.{gap_is_earliest, gap_least}
+use Rattle.lock_leasing.proofs.Cited.{gap_is_earliest, gap_least}
 use Rattle.lock_leasing.specs.Configurations.{Configuration, point_of, read_of}
 use Rattle.lock_leasing.specs.Places.{At, IsEarliestSet, IsFittingSet, Placing, scheduled_place, timeline}
 use Rattle.std.proofs.Common.{ap, arith, refl, subst, sym, ◌∙◌}

@@ -9,10 +9,8 @@ use Rattle.device_gate.specs.declared.slips.Told.TheVariants.{Died, Sensed, Work
 use Rattle.device_gate.specs.declared.slips.Told.{Told}
 use Rattle.device_states.specs.Devices.{Shown}
 use Rattle.failure_serialization.specs.Events.{event_place, lost_run}
-use Rattle.history_book.proofs.HistoryReads.{MayTake, run_place, takes_first, takes_rest}
-use Rattle.history_book.proofs.Searches.{each_found}
-use Rattle.history_book.proofs.Snoc.{each_more, entries_on}
-use Rattle.history_book.specs.Histories.{entries_made, entries_of, entry}
+use Rattle.history_book.proofs.Cited.{MayTake, each_found, each_more, entries_on, run_place, takes_first, takes_rest}
+use Rattle.history_book.specs.Histories.{entries_of, entry}
 use Rattle.history_book.specs.ReadHistories.{HistoryState, read_in, with_entry, with_lost, with_more}
 use Rattle.history_book.specs.Readings.{Reading, has_written, is_doomed, is_live, is_open, pends, sees_up}
 use Rattle.history_book.specs.Settings.{Setting, is_device}
@@ -20,7 +18,6 @@ use Rattle.history_book.specs.WellFormed.{IsWellFormed, may_follow}
 use Rattle.history_book.specs.declared.entries.Cause.TheVariants.{Lost}
 use Rattle.history_book.specs.declared.entries.Entry.TheVariants.{Doomed, Fell, Rose}
 use Rattle.history_book.specs.declared.entries.Entry.{Entry}
-use Rattle.history_book.specs.declared.entries.Made.{Made}
 use Rattle.home_types.specs.declared.items.Item.TheVariants.{Back, Failed}
 use Rattle.home_types.specs.declared.numbers.DeviceNo.{DeviceNo}
 use Rattle.home_types.specs.declared.numbers.RunNo.{RunNo}
@@ -38,7 +35,6 @@ use Rattle.hub_core.proofs.kept.ProbeSteps.{order_fell, order_lost, order_probe_
 use Rattle.hub_core.proofs.kept.TableFits.{either_model}
 use Rattle.hub_core.proofs.steps.Calls.{back_entries, dead_entries}
 use Rattle.hub_core.specs.Away.{IsHomeAgain, events_after, with_hand}
-use Rattle.hub_core.specs.HubCalls.{IsPacked}
 use Rattle.hub_core.specs.HubsKept.{HandsAre, IsWhole, open_of}
 use Rattle.hub_core.specs.KeptOrders.{HasFallen, HasRisen, IsLostTo, MayTurn, OrderIsBeside, hand_of}
 use Rattle.hub_core.specs.OpenHubs.{OpenHub, configuration_of, held_in, progress_at}
@@ -50,7 +46,7 @@ use Rattle.hub_core.specs.declared.open_windows.OpenWindow.TheInside.{Inside}
 use Rattle.lock_leasing.specs.declared.purposes.Purpose.TheVariants.{Commands, Probes, Undoes}
 use Rattle.lock_leasing.specs.declared.purposes.Purpose.{Purpose}
 use Rattle.lineage_table.specs.Lineages.{LineageState, accesses_at, lineage_at}
-use Rattle.lock_leasing.proofs.Effects.{live_runs_live}
+use Rattle.lock_leasing.proofs.Cited.{live_runs_live}
 use Rattle.lock_leasing.specs.Configurations.{Grip, Grips, grips_command, has_grip, is_command, point, read_of}
 use Rattle.lock_leasing.specs.Places.{GripsFit}
 use Rattle.lock_leasing.specs.Waits.{grip_wait, lost_by}
@@ -62,11 +58,9 @@ use Rattle.std.proofs.lemmas.Bool.{eq-eqb, eqb-true, lt-ltb}
 use Rattle.std.proofs.lemmas.Grind.{common_steps}
 use Rattle.std.proofs.lemmas.Option.{same_Some}
 use Rattle.std.specs.Prelude.{Bool, IfSome, IsSome, IsTrue, List, None, Option, Some, [], false, find, fold, if◌then◌else◌, length, not, option_map, option_to_list, slice_get, slice_index_or, suc, true, unwrap_or, zero, ℕ, ◌&&◌, ◌++◌, ◌+◌, ◌-◌, ◌<◌, ◌==◌, ◌∷◌, ◌≡◌, ◌≤◌}
-use Rattle.window_order.proofs.Grips.{fits_same}
-use Rattle.window_order.proofs.ReadFacts.{IsRead, read_facts}
-use Rattle.window_order.proofs.Runs.{live_run}
-use Rattle.window_order.proofs.TurnedLines.{event_place_of}
+use Rattle.window_order.proofs.Cited.{IsRead, event_place_of, fits_same, live_run, read_facts}
 use Rattle.window_order.specs.TableChanges.{is_named_device}
+use Rattle.history_book.specs.Packed.{entries_made}
 
 -- What the detector's grip brings home
 
@@ -148,12 +142,12 @@ same_whole h t s grip sl known same parts history order k =
     (subst (λ (x : KeptOrder). OrderIsBeside h.rounds h.history (configuration_of (open_of t)).grips x.line x.table) (sym order)
     (order_probe_home h.history.setting (read_in h.history) (configuration_of (open_of h)).grips (configuration_of (open_of t)).grips grip.slip.device.0 here.v h.order.line h.order.table (probe_grip here known.maker) home k.order))) k
 
-pub same_given : {D : Type 0} {shows : D → Shown} (h t : Inside D) (s : OpenHub D) (grip : Gripped D Done) (sl : Slip) (made : Made)
+pub same_given : {D : Type 0} {shows : D → Shown} (h t : Inside D) (s : OpenHub D) (grip : Gripped D Done) (sl : Slip) (made : List Entry)
     → ProbeKnown shows h s grip sl → (read_of (configuration_of s)).up grip.slip.device.0 ≡ not (has_died grip.stage.told)
-    → IsHome h t grip → t.moment ≡ h.moment → t.history ≡ h.history → entries_made made ≡ [] → IsPacked made → IsWhole shows h → ProbeBack s (open_of t) grip made
-same_given h t s grip sl made known same parts moment history made_is packed k =
+    → IsHome h t grip → t.moment ≡ h.moment → t.history ≡ h.history → made ≡ [] → IsWhole shows h → ProbeBack s (open_of t) grip made
+same_given h t s grip sl made known same parts moment history made_is k =
     let here = probe_here h s grip sl known k in
-    probe_given h t s (Probes here.v) grip [] made known.seen known.maker moment (same_back h t s grip sl known same parts history here) made_is packed k
+    probe_given h t s (Probes here.v) grip [] made known.seen known.maker moment (same_back h t s grip sl known same parts history here) made_is k
 
 -- The device is back
 
@@ -248,11 +242,11 @@ risen_whole {D = D} {shows = shows} h t s grip sl events known found parts risen
     own = subst (λ (z : Slip). IsRisen h t z events) known.same risen
 
 pub risen_given : {D : Type 0} {shows : D → Shown} (h t : Inside D) (s : OpenHub D) (grip : Gripped D Done) (sl : Slip)
-    (events : Events) (made : Made) → ProbeKnown shows h s grip sl → FoundBack h s grip events → IsHome h t grip → t.moment ≡ h.moment
-    → IsRisen h t sl events → entries_made made ≡ Rose sl.device ∷ [] → IsPacked made → IsWhole shows h → ProbeBack s (open_of t) grip made
-risen_given h t s grip sl events made known found parts moment risen made_is packed k =
+    (events : Events) (made : List Entry) → ProbeKnown shows h s grip sl → FoundBack h s grip events → IsHome h t grip → t.moment ≡ h.moment
+    → IsRisen h t sl events → made ≡ Rose sl.device ∷ [] → IsWhole shows h → ProbeBack s (open_of t) grip made
+risen_given h t s grip sl events made known found parts moment risen made_is k =
     let here = probe_here h s grip sl known k in
-    probe_given h t s (Probes here.v) grip (Rose grip.slip.device ∷ []) made known.seen known.maker moment (risen_back h t s grip sl events known found parts risen here) (made_is ∙ ap (λ (z : Slip). Rose z.device ∷ []) known.same) packed k
+    probe_given h t s (Probes here.v) grip (Rose grip.slip.device ∷ []) made known.seen known.maker moment (risen_back h t s grip sl events known found parts risen here) (made_is ∙ ap (λ (z : Slip). Rose z.device ∷ []) known.same) k
 
 -- The device has failed
 
@@ -611,12 +605,12 @@ fallen_made d lost e o fell_is doom_is = (λ i. entries_made (record { a = Some 
     by_lost (Some r) = refl
 
 pub fallen_given : {D : Type 0} {shows : D → Shown} (h t : Inside D) (s : OpenHub D) (grip : Gripped D Done) (sl : Slip)
-    (events : Events) (lost : Option RunNo) (fell : HistoryState) (fallen : KeptOrder) (made : Made) → ProbeKnown shows h s grip sl
+    (events : Events) (lost : Option RunNo) (fell : HistoryState) (fallen : KeptOrder) (made : List Entry) → ProbeKnown shows h s grip sl
     → FoundDead h s grip events → IsHome h t grip → t.moment ≡ h.moment
-    → IsFallen h t sl events lost fell fallen → entries_made made ≡ dead_entries sl.device.0 (option_map (λ (r : RunNo). r.0) lost) → IsPacked made → IsWhole shows h → ProbeBack s (open_of t) grip made
-fallen_given h t s grip sl events lost fell fallen made known found parts moment falls made_is packed k =
+    → IsFallen h t sl events lost fell fallen → made ≡ dead_entries sl.device.0 (option_map (λ (r : RunNo). r.0) lost) → IsWhole shows h → ProbeBack s (open_of t) grip made
+fallen_given h t s grip sl events lost fell fallen made known found parts moment falls made_is k =
     let here = probe_here h s grip sl known k in
     probe_given h t s (Probes here.v) grip _ made known.seen known.maker moment (fallen_back h t s grip sl events lost fell fallen known found parts falls here k)
     (made_is ∙ ap (λ o. dead_entries sl.device.0 (option_map (λ (r : RunNo). r.0) o)) falls.found
     ∙ ap (λ (z : Slip). dead_entries z.device.0 (option_map (λ (r : RunNo). r.0) (lost_run h.history.history (accesses_at h.order.table z.device.0)))) known.same
-    ∙ ap (dead_entries grip.slip.device.0) (lost_is h grip.slip.device.0 here.v (probe_grip here known.maker) here.for.below k)) packed k
+    ∙ ap (dead_entries grip.slip.device.0) (lost_is h grip.slip.device.0 here.v (probe_grip here known.maker) here.for.below k)) k

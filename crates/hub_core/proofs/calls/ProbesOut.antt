@@ -32,14 +32,13 @@ use Rattle.hub_core.specs.declared.known.DeviceProgress.{DeviceProgress}
 use Rattle.lock_leasing.specs.declared.purposes.Purpose.TheVariants.{Probes}
 use Rattle.lineage_table.specs.Accesses.{IsDisciplined, value_standing}
 use Rattle.lineage_table.specs.Lineages.{accesses_at, lineage_at}
-use Rattle.lock_leasing.proofs.Facts.{facts_of}
+use Rattle.lock_leasing.proofs.Cited.{facts_of}
 use Rattle.lock_leasing.specs.Configurations.{Configuration, is_out, point, point_of, read_of}
 use Rattle.lock_leasing.specs.Words.{standing_value}
 use Rattle.std.proofs.Common.{ap, arith, refl, subst, sym, ◌∙◌}
 use Rattle.std.proofs.lemmas.Grind.{common_steps}
 use Rattle.std.specs.Prelude.{Bool, IsTrue, None, Option, Some, false, if◌then◌else◌, length, nat_lt, not, slice_set, true, ℕ, ◌&&◌, ◌+◌, ◌-◌, ◌<◌, ◌≡◌}
-use Rattle.window_order.proofs.Firsts.{below_home}
-use Rattle.window_order.proofs.Rollbacks.{none_out}
+use Rattle.window_order.proofs.Cited.{below_home, none_out}
 use Rattle.window_order.specs.TableKept.{LineageIsKept}
 
 -- Whether one may go out

@@ -1,13 +1,13 @@
 -- A home that is resumed: its devices so far, one more, and what is true of all.
 use Rattle.device_states.specs.Devices.{Shown}
 use Rattle.home_journal.specs.Journals.{IsStateOf}
-use Rattle.home_types.proofs.Snocs.{snoc_get}
+use Rattle.home_types.proofs.Cited.{snoc_get}
 use Rattle.home_types.specs.HomeStates.{nowhere, stand_at}
 use Rattle.home_types.specs.Kinds.{has_value, kind_at}
 use Rattle.home_types.specs.declared.kinds.Kind.{Kind}
 use Rattle.home_types.specs.declared.worlds.Stand.{Stand}
 use Rattle.hub_core.specs.Homes.{HomeIsKept}
-use Rattle.legal_days.proofs.Lists.{at_place}
+use Rattle.legal_days.proofs.Cited.{at_place}
 use Rattle.legal_days.specs.LegalDays.{AreLeftFrom, IsDeviceOf, one_more_where}
 use Rattle.legal_days.specs.ResumedDays.{AreResumed, IsDeviceResumed, IsStateResumed, has_died_resuming, resumed_day}
 use Rattle.routine_reader.specs.Rosters.{kinds_of}

@@ -8,7 +8,7 @@ use Rattle.device_gate.specs.declared.grips.Done.{Done}
 use Rattle.device_gate.specs.declared.slips.Slip.{Slip}
 use Rattle.device_gate.specs.declared.slips.Task.TheVariants.{Drive, Sense}
 use Rattle.device_gate.specs.declared.slips.Task.{Task}
-use Rattle.history_book.proofs.Snoc.{each_at, entries_on, put_other}
+use Rattle.history_book.proofs.Cited.{each_at, entries_on, put_other}
 use Rattle.history_book.specs.Histories.{entries_of, entry, kept_by}
 use Rattle.history_book.specs.Readings.{Reading, is_access, is_doomed, is_fine, is_told, next_of, nothing_read, pends, put}
 use Rattle.history_book.specs.Settings.{Setting, is_weak}
@@ -49,7 +49,7 @@ use Rattle.history_book.specs.declared.entries.Cause.{Cause}
 use Rattle.history_book.specs.declared.entries.Entry.{Entry}
 use Rattle.lock_leasing.specs.Places.{GripsFit}
 use Rattle.std.proofs.lemmas.List.{append_assoc}
-use Rattle.window_order.proofs.Steps.{home_fits}
+use Rattle.window_order.proofs.Cited.{home_fits}
 
 -- What the answer tells
 

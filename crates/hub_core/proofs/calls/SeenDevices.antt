@@ -15,12 +15,11 @@ use Rattle.hub_core.specs.HubsKept.{IsWhole, open_of}
 use Rattle.hub_core.specs.OpenHubs.{OpenHub, configuration_of, held_in}
 use Rattle.history_book.specs.ReadHistories.{read_in}
 use Rattle.hub_core.specs.declared.open_windows.OpenWindow.TheInside.{Inside}
-use Rattle.lineage_table.proofs.Splits.{access_at}
+use Rattle.lineage_table.proofs.Cited.{access_at}
 use Rattle.lineage_table.specs.Accesses.{access_of}
 use Rattle.lineage_table.specs.Lineages.{LineageState, accesses_at, lineage_at}
 use Rattle.lineage_table.specs.declared.accesses.Access.{Access}
-use Rattle.lock_leasing.proofs.Facts.{next_is_left}
-use Rattle.lock_leasing.proofs.Meetings.{item_there}
+use Rattle.lock_leasing.proofs.Cited.{item_there, next_is_left}
 use Rattle.lock_leasing.specs.Configurations.{Grips, grips_command, point, read_of}
 use Rattle.lock_leasing.specs.Holders.{is_down_view, sees_it_down}
 use Rattle.lock_leasing.specs.Standings.{IsAtCommand}
@@ -30,11 +29,7 @@ use Rattle.std.proofs.lemmas.Bool.{eq-eqb}
 use Rattle.std.proofs.lemmas.Grind.{common_steps}
 use Rattle.std.specs.List.{list_any}
 use Rattle.std.specs.Prelude.{Bool, List, None, Option, Some, false, if◌then◌else◌, is_some, length, not, option_map, slice_get, true, unwrap_or, ℕ, ◌&&◌, ◌++◌, ◌<◌, ◌||◌, ◌∷◌, ◌≡◌}
-use Rattle.window_order.proofs.AccessLists.{along_there, front_accesses}
-use Rattle.window_order.proofs.AnsweredTables.{never_passed, none_commits, none_in_front, pending_touches, uses_now}
-use Rattle.window_order.proofs.Goes.{open_behind}
-use Rattle.window_order.proofs.ReadFacts.{IsRead, rest_drop}
-use Rattle.window_order.proofs.Runs.{cut_live, live_uncommitted}
+use Rattle.window_order.proofs.Cited.{IsRead, along_there, cut_live, front_accesses, live_uncommitted, never_passed, none_commits, none_in_front, open_behind, pending_touches, rest_drop, uses_now}
 use Rattle.window_order.specs.OrderKept.{OrderIsKept}
 use Rattle.window_order.specs.ReadWindows.{run_state}
 use Rattle.window_order.specs.TableKept.{LineageIsKept, access_read, accesses_along, accesses_read, commits_write}

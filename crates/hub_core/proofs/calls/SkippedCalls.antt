@@ -25,7 +25,7 @@ use Rattle.lineage_table.specs.Lineages.{lineage_at, with_lineage}
 use Rattle.lock_leasing.specs.Configurations.{Grips}
 use Rattle.std.proofs.Common.{ap, arith, refl, subst, sym, ◌∙◌}
 use Rattle.std.specs.Prelude.{Bool, false, if◌then◌else◌, length, not, true, ℕ, ◌<◌, ◌||◌, ◌≡◌, ◌≤◌}
-use Rattle.window_order.proofs.Firsts.{below_home}
+use Rattle.window_order.proofs.Cited.{below_home}
 use Rattle.window_order.specs.TableChanges.{is_done_there}
 
 -- what the code asks for before it

@@ -4,7 +4,7 @@ use Rattle.device_gate.specs.Grips.{Gripped}
 use Rattle.device_gate.specs.declared.grips.Done.{Done}
 use Rattle.device_gate.specs.declared.slips.Slip.{Slip}
 use Rattle.device_states.specs.Devices.{Shown}
-use Rattle.history_book.proofs.HistoryReads.{takes_first}
+use Rattle.history_book.proofs.Cited.{takes_first}
 use Rattle.history_book.specs.Histories.{entry}
 use Rattle.history_book.specs.ReadHistories.{read_in}
 use Rattle.history_book.specs.Readings.{Reading, put}
@@ -36,7 +36,7 @@ use Rattle.serial_line.specs.Marks.{Mark, stands as stands_item}
 use Rattle.std.proofs.Common.{ap, arith, subst, sym, ◌∙◌}
 use Rattle.std.proofs.lemmas.Grind.{common_steps}
 use Rattle.std.specs.Prelude.{Bool, List, false, fold, length, true, ℕ, ◌+◌, ◌<◌, ◌∷◌, ◌≡◌, ◌≤◌}
-use Rattle.window_order.proofs.TurnedLines.{event_place_of, failure_absent, marks_fell, marks_rose, restart_absent}
+use Rattle.window_order.proofs.Cited.{event_place_of, failure_absent, marks_fell, marks_rose, restart_absent}
 use Rattle.window_order.specs.MarksKept.{MarksAreKept}
 
 -- with an event the line is longer by one

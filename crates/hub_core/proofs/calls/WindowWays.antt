@@ -1,5 +1,5 @@
 -- A window that was closed was worked from its opening on.
-use Rattle.device_gate.proofs.Places.{home_at}
+use Rattle.device_gate.proofs.Cited.{home_at}
 use Rattle.device_gate.specs.declared.gates.Place.TheVariants.{Home, Out}
 use Rattle.device_gate.specs.declared.gates.Place.{Place}
 use Rattle.device_states.specs.Devices.{Shown}

@@ -1,10 +1,10 @@
 -- The line as it stands when a run is placed: by the timeline the items of a set are brought before the others.
-use Rattle.command_rules.proofs.ClosedLeasts.{grown_holds}
+use Rattle.command_rules.proofs.Cited.{grown_holds}
 use Rattle.command_rules.specs.Apart.{meet}
 use Rattle.command_rules.specs.ClosedSets.{HoldsFirst, IsClosed, IsPart, chosen, grown, others, rearranged}
 use Rattle.command_rules.specs.Items.{of_run}
 use Rattle.command_rules.specs.Rosters.{run_no}
-use Rattle.history_book.proofs.Splits.{base_length, gap_closed}
+use Rattle.history_book.proofs.Cited.{base_length, gap_closed}
 use Rattle.history_book.specs.Gaps.{bars, base_flags, base_of, front_for, gap_set, is_needed, line_for, split_of}
 use Rattle.history_book.specs.Histories.{entry}
 use Rattle.history_book.specs.Lines.{up_to_first}
@@ -25,17 +25,12 @@ use Rattle.hub_core.specs.KeptOrders.{IsOrderOf}
 use Rattle.lineage_table.specs.Lineages.{LineageState}
 use Rattle.lock_leasing.specs.Configurations.{Grips, point}
 use Rattle.lock_leasing.specs.Places.{GripsFit, in_order}
-use Rattle.serial_line.proofs.KeptRuns.{kept_meet}
-use Rattle.serial_line.proofs.Ties.{line_rearranged}
+use Rattle.serial_line.proofs.Cited.{kept_meet, line_rearranged}
 use Rattle.serial_line.specs.Marks.{Mark, Marked, items_of, with_item}
 use Rattle.std.proofs.Common.{ap, arith, refl, subst, sym, ◌∙◌}
 use Rattle.std.proofs.lemmas.List.{length-map}
 use Rattle.std.specs.Prelude.{Bool, List, Some, [], false, if◌then◌else◌, length, map, slice_get, suc, true, zero, ℕ, ◌++◌, ◌+◌, ◌<◌, ◌∷◌, ◌≡◌}
-use Rattle.window_order.proofs.Grips.{fits_same}
-use Rattle.window_order.proofs.Joined.{same_parts}
-use Rattle.window_order.proofs.ReadFacts.{IsRead}
-use Rattle.window_order.proofs.Rearranged.{read_kept}
-use Rattle.window_order.proofs.TouchedLines.{marks_placed}
+use Rattle.window_order.proofs.Cited.{IsRead, fits_same, marks_placed, read_kept, same_parts}
 use Rattle.window_order.specs.KeptOrders.{MayArrange, arranged}
 use Rattle.window_order.specs.MarksKept.{MarksAreKept}
 

@@ -1,5 +1,5 @@
 -- How many runs have ended, and how many are doomed: no more than there are.
-use Rattle.history_book.proofs.Snoc.{put_keeps, put_other, put_same}
+use Rattle.history_book.proofs.Cited.{put_keeps, put_other, put_same}
 use Rattle.history_book.specs.Histories.{entry}
 use Rattle.history_book.specs.Readings.{OfRun, Reading, nothing_read, put}
 use Rattle.history_book.specs.Settings.{Setting}
@@ -10,7 +10,7 @@ use Rattle.history_book.specs.declared.entries.Entry.TheVariants.{Arrived, Did, 
 use Rattle.history_book.specs.declared.entries.Entry.{Entry}
 use Rattle.hub_core.proofs.kept.Sizes.{at_most_one, one_if, run_within, sum_below, sum_fits, sum_more, sum_same}
 use Rattle.hub_core.specs.Bounds.{is_doom, is_end}
-use Rattle.legal_days.proofs.Lists.{count_cons}
+use Rattle.legal_days.proofs.Cited.{count_cons}
 use Rattle.std.proofs.Common.{ap, arith, cond, refl, ◌∙◌}
 use Rattle.std.proofs.lemmas.Grind.{common_steps}
 use Rattle.std.specs.Prelude.{Bool, IsTrue, List, None, Option, Some, [], count_by, false, fold, is_none, is_some, length, suc, true, zero, ℕ, ◌*◌, ◌+◌, ◌<◌, ◌∷◌, ◌≡◌, ◌≤◌}

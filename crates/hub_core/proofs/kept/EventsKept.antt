@@ -19,7 +19,7 @@ use Rattle.std.proofs.Common.{ap, cond, refl, sym, ◌∙◌}
 use Rattle.std.proofs.lemmas.List.Sums.{take_while-cons}
 use Rattle.std.specs.List.{cons_option, list_all}
 use Rattle.std.specs.Prelude.{Bool, IsTrue, List, None, Some, [], false, if◌then◌else◌, is_none, is_some, not, true, ℕ, ◌&&◌, ◌+◌, ◌∷◌, ◌≡◌, ◌≤◌}
-use Rattle.window_order.proofs.EventPlaces.{awaits_there}
+use Rattle.window_order.proofs.Cited.{awaits_there}
 
 -- The runs of a line with an event
 

@@ -1,9 +1,8 @@
 -- Where an event of a device stands, and which run a failure loses, as the code reads it off the line, the table and the dooms of the history.
 use Rattle.device_order.specs.Usages.{is_up}
-use Rattle.failure_serialization.proofs.ToldByTable.{lost_acquired}
+use Rattle.failure_serialization.proofs.Cited.{lost_acquired}
 use Rattle.failure_serialization.specs.Events.{event_place, is_sound, is_up_view, lost_run, waits as waits_by, place_or_end}
-use Rattle.history_book.proofs.Searches.{each_found}
-use Rattle.history_book.proofs.Told.{doom_is}
+use Rattle.history_book.proofs.Cited.{doom_is, each_found}
 use Rattle.history_book.specs.Books.{doom_of}
 use Rattle.history_book.specs.Histories.{entries_of, reading}
 use Rattle.history_book.specs.Readings.{Reading, did, is_doomed, is_live, pends}
@@ -18,8 +17,7 @@ use Rattle.lineage_table.specs.Accesses.{has_access, is_acquired, is_of, is_sche
 use Rattle.lineage_table.specs.Lineages.{LineageState}
 use Rattle.lineage_table.specs.declared.accesses.Access.{Access}
 use Rattle.lineage_table.specs.declared.accesses.Status.TheVariants.{Acquired, Released, Scheduled}
-use Rattle.lock_leasing.proofs.Effects.{live_runs_live}
-use Rattle.lock_leasing.proofs.EventRuns.{run_place}
+use Rattle.lock_leasing.proofs.Cited.{live_runs_live, run_place}
 use Rattle.lock_leasing.specs.Configurations.{Grip, Grips, Point, grips_command, is_command, point}
 use Rattle.lock_leasing.specs.declared.purposes.Purpose.TheVariants.{Probes}
 use Rattle.lock_leasing.specs.Tables.{status_by_answers, uses}
@@ -33,13 +31,7 @@ use Rattle.std.proofs.lemmas.Grind.{common_steps}
 use Rattle.std.proofs.lemmas.List.{length-map}
 use Rattle.std.specs.List.{list_any}
 use Rattle.std.specs.Prelude.{Bool, List, None, Option, Some, false, find, if◌then◌else◌, is_none, is_some, length, not, option_map, true, unwrap_or, ℕ, ◌&&◌, ◌==◌, ◌||◌, ◌≡◌}
-use Rattle.window_order.proofs.AccessLists.{along_none}
-use Rattle.window_order.proofs.EventPlaces.{awaits_there}
-use Rattle.window_order.proofs.LostReads.{lost_read, waiting_read}
-use Rattle.window_order.proofs.ReadFacts.{IsRead}
-use Rattle.window_order.proofs.Runs.{live_run, three}
-use Rattle.window_order.proofs.TouchedLines.{live_stands, run_stands}
-use Rattle.window_order.proofs.TurnedLines.{event_before, event_last, event_place_of}
+use Rattle.window_order.proofs.Cited.{IsRead, along_none, awaits_there, event_before, event_last, event_place_of, live_run, live_stands, lost_read, run_stands, three, waiting_read}
 use Rattle.window_order.specs.LostRuns.{first_waiting_run, is_access_waiting, is_lost_access}
 use Rattle.window_order.specs.MarksKept.{MarksAreKept}
 use Rattle.window_order.specs.OrderKept.{OrderIsKept}

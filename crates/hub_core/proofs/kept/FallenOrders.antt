@@ -1,13 +1,12 @@
 -- A device fails, and line and table are kept: where its failure stands, and with the entry that comes behind it.
-use Rattle.window_order.proofs.EventPlaces.{awaits_there}
+use Rattle.window_order.proofs.Cited.{IsOut, IsRead, awaits_there, changes_one, died_table, event_last, event_place_of, fits_same, marks_died, marks_fell, marks_undo_home, marks_undone, out_is, undo_died_table}
 use Rattle.lock_leasing.specs.Words.{live_runs}
 use Rattle.lineage_table.specs.Accesses.{is_scheduled, status_of}
 use Rattle.lineage_table.specs.declared.accesses.Access.{Access}
 use Rattle.lock_leasing.specs.Places.{GripsFit}
-use Rattle.window_order.proofs.Grips.{fits_same}
 use Rattle.hub_core.proofs.kept.ProbeSteps.{order_fell}
 use Rattle.command_rules.specs.Rosters.{command_at, run_no}
-use Rattle.failure_serialization.proofs.ToldByTable.{died_waits}
+use Rattle.failure_serialization.proofs.Cited.{died_waits}
 use Rattle.failure_serialization.specs.Events.{event_place, place_or_end}
 use Rattle.history_book.specs.Histories.{entries_of, entry}
 use Rattle.history_book.specs.Readings.{Reading, did, is_open, put}
@@ -33,14 +32,8 @@ use Rattle.serial_line.specs.KeptRuns.{AreKeptOf}
 use Rattle.serial_line.specs.Marks.{Mark, Marked, with_item}
 use Rattle.std.proofs.Common.{ap, arith, refl, subst, sym, ◌∙◌}
 use Rattle.std.specs.Prelude.{Bool, List, None, Some, [], false, if◌then◌else◌, length, not, option_map, true, unwrap_or, ℕ, ◌&&◌, ◌+◌, ◌<◌, ◌==◌, ◌≡◌}
-use Rattle.window_order.proofs.ReadFacts.{IsRead}
-use Rattle.window_order.proofs.Steps.{IsOut, out_is}
-use Rattle.window_order.proofs.TableSteps.{changes_one}
-use Rattle.window_order.proofs.TouchedLines.{marks_undo_home, marks_undone}
 use Rattle.hub_core.proofs.kept.TableFits.{fits_ordered}
 use Rattle.std.proofs.lemmas.Bool.{eq-eqb}
-use Rattle.window_order.proofs.TurnedLines.{event_last, event_place_of, marks_died, marks_fell}
-use Rattle.window_order.proofs.TurnedTables.{died_table, undo_died_table}
 use Rattle.window_order.specs.MarksKept.{MarksAreKept}
 use Rattle.window_order.specs.OrderKept.{OrderIsKept}
 use Rattle.window_order.specs.TableChanges.{ChangesEach, answered_change, answered_lineage, is_done_there, turned_change}

@@ -1,12 +1,7 @@
 -- A run that follows another is placed after the end of that one and stands behind it, with one entry more.
 use Rattle.command_rules.specs.Items.{is_ran}
 use Rattle.command_rules.specs.Rosters.{followed_by, follows, run_no}
-use Rattle.history_book.proofs.Followers.{line_follows}
-use Rattle.history_book.proofs.Lines.{any_insert, any_left, any_other, any_put_before, any_without}
-use Rattle.history_book.proofs.Shapes.{put_all}
-use Rattle.history_book.proofs.Snoc.{put_keeps, put_other}
-use Rattle.history_book.proofs.Splits.{line_any}
-use Rattle.history_book.proofs.Standing.{Standing, is_abort}
+use Rattle.history_book.proofs.Cited.{Standing, any_insert, any_left, any_other, any_put_before, any_without, is_abort, line_any, line_follows, put_all, put_keeps, put_other}
 use Rattle.history_book.specs.Gaps.{front_for, line_for, split_of}
 use Rattle.history_book.specs.Histories.{entry}
 use Rattle.history_book.specs.Lines.{behind, put_before, without}

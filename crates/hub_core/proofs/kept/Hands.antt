@@ -1,7 +1,6 @@
 -- Of each run of the window, the device whose grip it holds.
 use Rattle.command_rules.specs.Rosters.{Run, is_run}
-use Rattle.history_book.proofs.HistoryReads.{run_place}
-use Rattle.history_book.proofs.Snoc.{put_other, put_same}
+use Rattle.history_book.proofs.Cited.{put_other, put_same, run_place}
 use Rattle.history_book.specs.Readings.{Reading, put}
 use Rattle.history_book.specs.Settings.{Setting}
 use Rattle.home_types.specs.declared.numbers.DeviceNo.{DeviceNo}
@@ -19,7 +18,7 @@ use Rattle.std.proofs.lemmas.Grind.{common_steps}
 use Rattle.std.proofs.lemmas.List.{length-replicate, length-set}
 use Rattle.std.proofs.lemmas.Option.{same_Some}
 use Rattle.std.specs.Prelude.{List, None, Option, Some, false, if◌then◌else◌, length, nat_lt, option_map, replicate, slice_get, slice_set, suc, true, unwrap_or, zero, ℕ, ⊤, ◌-◌, ◌<◌, ◌==◌, ◌≡◌, ◌≢◌}
-use Rattle.window_order.proofs.Grips.{HoldsNone, none_left}
+use Rattle.window_order.proofs.Cited.{HoldsNone, none_left}
 
 -- none is out
 pub no_hands : (w : Setting) (g : Grips) → ((d : ℕ) → g d ≡ None) → HandsAre w g (replicate (length w.runs) None)

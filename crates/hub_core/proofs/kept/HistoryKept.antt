@@ -1,11 +1,7 @@
 -- What is kept of a history and the grips, with one entry more.
 use Rattle.command_rules.specs.Items.{is_ran}
 use Rattle.command_rules.specs.Rosters.{device_no, run_no}
-use Rattle.history_book.proofs.Frames.{did_live, doomed_live}
-use Rattle.history_book.proofs.Lines.{any_taken}
-use Rattle.history_book.proofs.Shapes.{shapes}
-use Rattle.history_book.proofs.Snoc.{Along_more, each_more, entries_on, put_keeps, put_other, put_same}
-use Rattle.history_book.proofs.Standing.{Standing, standing, stands_in}
+use Rattle.history_book.proofs.Cited.{Along_more, Standing, any_taken, did_live, doomed_live, each_more, entries_on, put_keeps, put_other, put_same, shapes, standing, stands_in}
 use Rattle.history_book.specs.Histories.{entries_of, entry, kept_by, moment_of, reading}
 use Rattle.history_book.specs.Lines.{before, without}
 use Rattle.history_book.specs.Gaps.{front_for}
@@ -45,7 +41,7 @@ use Rattle.std.proofs.lemmas.Grind.{common_steps}
 use Rattle.std.proofs.lemmas.List.Folds.{list_all-append}
 use Rattle.std.specs.List.{list_all, list_any}
 use Rattle.std.specs.Prelude.{Bool, IsTrue, List, None, Option, Some, [], false, find, if◌then◌else◌, is_none, is_some, length, nat_lt, not, option_map, true, unwrap_or, ℕ, ◌&&◌, ◌++◌, ◌==◌, ◌||◌, ◌∷◌, ◌≡◌, ◌≢◌, ◌≤◌}
-use Rattle.window_order.proofs.Grips.{HoldsNone}
+use Rattle.window_order.proofs.Cited.{HoldsNone}
 
 -- what an entry has to be that comes at this moment, and leaves these grips out
 pub record MayAdd (s : Configuration) (e : Entry) (m : ℕ) (g : Grips) : Type 0 where

@@ -1,6 +1,6 @@
 -- What is kept of a hub's configuration is so at the start, and stays so with each step of a run.
 use Rattle.command_rules.specs.Rosters.{device_no, is_run, run_no}
-use Rattle.history_book.proofs.Searches.{some_is}
+use Rattle.history_book.proofs.Cited.{some_is}
 use Rattle.history_book.specs.Histories.{entries_of, entry, kept_by, reading}
 use Rattle.history_book.specs.Lines.{Split}
 use Rattle.history_book.specs.Gaps.{split_of}
@@ -32,8 +32,7 @@ use Rattle.hub_core.specs.HubKept.{ActsInTurn, ConfigurationIsKept, EachOut, His
 use Rattle.legal_days.specs.JustifiedAborts.{abort_is_justified, shows}
 use Rattle.hub_core.specs.Openings.{MayOpen, names_values_of}
 use Rattle.hub_core.specs.Steps.{HandsOut, Moves, after_choice, after_take, answers_down, at_moment, down_entries, opened}
-use Rattle.lock_leasing.proofs.ClearPlaces.{scheduled_is_clear, scheduled_stands}
-use Rattle.lock_leasing.proofs.Effects.{effect_is}
+use Rattle.lock_leasing.proofs.Cited.{effect_is, scheduled_is_clear, scheduled_stands}
 use Rattle.lock_leasing.specs.Configurations.{Configuration, Grip, Grips, Point, has_grip, is_command, is_out, point, read_of}
 use Rattle.lock_leasing.specs.declared.purposes.Purpose.TheVariants.{Commands, Probes, Undoes}
 use Rattle.lock_leasing.specs.declared.purposes.Purpose.{Purpose}
@@ -43,13 +42,7 @@ use Rattle.lock_leasing.specs.Words.{lease_deadline, overdue_for, value_without}
 use Rattle.std.proofs.Common.{ap, append-nil, append_assoc, arith, refl, subst, sym, ◌∙◌}
 use Rattle.std.proofs.lemmas.Grind.{common_steps}
 use Rattle.std.specs.Prelude.{Bool, IsTrue, List, None, Option, Some, [], false, fold, if◌then◌else◌, is_none, is_some, length, max, nat_lt, not, option_map, true, unwrap_or, ℕ, ◌&&◌, ◌++◌, ◌+◌, ◌<◌, ◌==◌, ◌||◌, ◌∷◌, ◌≡◌, ◌≤◌}
-use Rattle.window_order.proofs.AnsweredDowns.{IsToldDown, down_doomed_kept, down_kept, told_holds}
-use Rattle.window_order.proofs.ReadFacts.{IsRead, read_facts}
-use Rattle.window_order.proofs.Rollbacks.{aborts_kept, doomed_kept, dropped_kept, undo_goes_kept}
-use Rattle.window_order.proofs.Runs.{both}
-use Rattle.window_order.proofs.Joined.{joined_order}
-use Rattle.window_order.proofs.SkippedCommands.{IsSkipped, skipped_holds, skipped_kept}
-use Rattle.window_order.proofs.Steps.{arrives_kept, commits_kept, goes_kept, starts_kept}
+use Rattle.window_order.proofs.Cited.{IsRead, IsSkipped, IsToldDown, aborts_kept, arrives_kept, both, commits_kept, doomed_kept, down_doomed_kept, down_kept, dropped_kept, goes_kept, joined_order, read_facts, skipped_holds, skipped_kept, starts_kept, told_holds, undo_goes_kept}
 use Rattle.window_order.specs.OrderKept.{OrderIsKept}
 
 -- Restarts and probes

@@ -1,5 +1,5 @@
 -- What is kept of a configuration in each model, from what is kept by its own.
-use Rattle.window_order.proofs.StandingValues.{stands_home}
+use Rattle.window_order.proofs.Cited.{IsRead, asked_up, read_facts, restored_down, stands_home}
 use Rattle.lock_leasing.specs.Words.{standing_value}
 use Rattle.history_book.specs.Histories.{entries_of}
 use Rattle.history_book.specs.Readings.{put}
@@ -27,8 +27,6 @@ use Rattle.std.proofs.Common.{arith, refl, subst, sym, ◌∙◌}
 use Rattle.std.proofs.lemmas.Bool.{ltb-true}
 use Rattle.std.proofs.lemmas.Grind.{common_steps}
 use Rattle.std.specs.Prelude.{Bool, IsTrue, None, Option, Some, false, is_none, length, max, not, true, ℕ, ◌&&◌, ◌<◌, ◌==◌, ◌≡◌, ◌≤◌}
-use Rattle.window_order.proofs.OutDevices.{asked_up, restored_down}
-use Rattle.window_order.proofs.ReadFacts.{IsRead, read_facts}
 
 -- From the one and the other
 

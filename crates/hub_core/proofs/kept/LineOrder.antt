@@ -2,7 +2,7 @@
 use Rattle.command_rules.specs.ClosedSets.{rearranged}
 use Rattle.command_rules.specs.Items.{is_ran}
 use Rattle.command_rules.specs.Rosters.{Run, run_no, shares}
-use Rattle.history_book.proofs.Shapes.{put_all}
+use Rattle.history_book.proofs.Cited.{put_all}
 use Rattle.history_book.specs.Gaps.{gap_set, split_of}
 use Rattle.history_book.specs.Histories.{entry, reading}
 use Rattle.history_book.specs.Lines.{before, without}

@@ -3,8 +3,7 @@ use Rattle.command_rules.specs.Items.{is_ran}
 use Rattle.command_rules.specs.Rosters.{command_at, device_no, is_run, run_no, touches_from}
 use Rattle.device_order.specs.LineWords.{CutAt}
 use Rattle.device_order.specs.Usages.{holds_command}
-use Rattle.history_book.proofs.Snoc.{along_on, each_at, entries_on, put_same, reading_more}
-use Rattle.history_book.proofs.Standing.{stands_in}
+use Rattle.history_book.proofs.Cited.{along_on, each_at, entries_on, put_same, reading_more, stands_in}
 use Rattle.history_book.specs.Gaps.{front_for, gap_set, line_for}
 use Rattle.history_book.specs.Histories.{entries_of, entry, kept_by, reading}
 use Rattle.history_book.specs.Plans.{planned_times}
@@ -32,7 +31,7 @@ use Rattle.hub_core.proofs.kept.TableFits.{committed_bare, doomed_bare, fits_cha
 use Rattle.hub_core.specs.Bounds.{most_items}
 use Rattle.hub_core.specs.KeptOrders.{IsOrderOf, OrderIsBeside, TableFits}
 use Rattle.window_order.specs.KeptOrders.{IsSealed, IsUnreleased, MayNote, is_first, noted_first}
-use Rattle.legal_days.proofs.Lists.{count_cons}
+use Rattle.legal_days.proofs.Cited.{count_cons}
 use Rattle.lineage_table.specs.Accesses.{is_scheduled, status_of}
 use Rattle.lineage_table.specs.Lineages.{LineageState, TableIsOpened, committed_lineage, lineage_at, removed, undone, with_lineage}
 use Rattle.lineage_table.specs.declared.accesses.Status.TheVariants.{Acquired, Scheduled}
@@ -48,20 +47,7 @@ use Rattle.std.proofs.lemmas.Bool.{and_parts, eqb-true, not-true}
 use Rattle.std.proofs.lemmas.Grind.{common_steps}
 use Rattle.std.proofs.lemmas.List.{length-map, take-append-drop}
 use Rattle.std.specs.Prelude.{Bool, IsSome, IsTrue, List, None, Option, Some, [], count_by, drop, false, if◌then◌else◌, is_some, length, not, option_map, suc, take, true, unwrap_or, ℕ, ◌&&◌, ◌++◌, ◌+◌, ◌<◌, ◌==◌, ◌||◌, ◌∷◌, ◌≡◌, ◌≤◌}
-use Rattle.window_order.proofs.AnsweredDowns.{IsToldDown}
-use Rattle.window_order.proofs.AnsweredTables.{TouchesNow, answered_run, left_after}
-use Rattle.window_order.proofs.Grips.{HoldsNone, held_none, none_left}
-use Rattle.window_order.proofs.Joined.{joined_table}
-use Rattle.window_order.proofs.PlacedTables.{arrived_table, opened_table}
-use Rattle.window_order.proofs.PromisedWords.{command_held}
-use Rattle.window_order.proofs.ReadFacts.{IsRead, read_facts}
-use Rattle.window_order.proofs.Runs.{cut_live, run_positive}
-use Rattle.window_order.proofs.Steps.{IsOut, out_is}
-use Rattle.window_order.proofs.TableCalls.{status_there, touches_now, waits_there}
-use Rattle.window_order.proofs.TableSteps.{aborted_table, answered_table, changes_one, command_out_table, committed_table, doomed_each, doomed_table, undid_table, undo_dropped_table, undo_out_table}
-use Rattle.window_order.proofs.ToldTables.{told_table, told_touches_now}
-use Rattle.window_order.proofs.TouchedLines.{marks_aborted, marks_answered, marks_arrived, marks_begin, marks_committed, marks_doomed, marks_out, marks_undo_home, marks_undo_out, marks_undone}
-use Rattle.window_order.proofs.TurnedLines.{marks_told}
+use Rattle.window_order.proofs.Cited.{HoldsNone, IsOut, IsRead, IsToldDown, TouchesNow, aborted_table, answered_run, answered_table, arrived_table, changes_one, command_held, command_out_table, committed_table, cut_live, doomed_each, doomed_table, held_none, joined_table, left_after, marks_aborted, marks_answered, marks_arrived, marks_begin, marks_committed, marks_doomed, marks_out, marks_told, marks_undo_home, marks_undo_out, marks_undone, none_left, opened_table, out_is, read_facts, run_positive, status_there, told_table, told_touches_now, touches_now, undid_table, undo_dropped_table, undo_out_table, waits_there}
 use Rattle.window_order.specs.MarksKept.{MarksAreKept}
 use Rattle.window_order.specs.OrderKept.{OrderIsKept}
 use Rattle.window_order.specs.TableChanges.{ChangesEach, answered_change, answered_lineage, doomed_lineage, is_done_there, placed_change, scheduled_on, told_write, undone_change}

@@ -21,11 +21,7 @@ use Rattle.serial_line.specs.KeptRuns.{AreKeptOf}
 use Rattle.serial_line.specs.Marks.{Mark, Marked, with_item}
 use Rattle.std.proofs.Common.{ap, arith, refl, subst, sym, ◌∙◌}
 use Rattle.std.specs.Prelude.{Bool, List, None, Option, Some, false, if◌then◌else◌, length, true, ℕ, ◌+◌, ◌<◌, ◌==◌, ◌≡◌, ◌≤◌}
-use Rattle.window_order.proofs.ReadFacts.{IsRead}
-use Rattle.window_order.proofs.TableSteps.{changes_one, doomed_unless_table}
-use Rattle.window_order.proofs.TouchedLines.{marks_doomed}
-use Rattle.window_order.proofs.TurnedLines.{event_place_of, marks_fell, marks_probe_home, marks_probe_out, marks_rose}
-use Rattle.window_order.proofs.TurnedTables.{fell_table, probe_home_table, probe_out_table, rose_table}
+use Rattle.window_order.proofs.Cited.{IsRead, changes_one, doomed_unless_table, event_place_of, fell_table, marks_doomed, marks_fell, marks_probe_home, marks_probe_out, marks_rose, probe_home_table, probe_out_table, rose_table}
 use Rattle.window_order.specs.MarksKept.{MarksAreKept}
 use Rattle.window_order.specs.TableChanges.{ChangesEach, doomed_unless, is_named_device, turned_change}
 

@@ -1,6 +1,6 @@
 -- What is kept of a hub's configuration stays so with each probe that goes out.
 use Rattle.command_rules.specs.Rosters.{is_run}
-use Rattle.history_book.proofs.Shapes.{shapes}
+use Rattle.history_book.proofs.Cited.{shapes}
 use Rattle.history_book.specs.Histories.{entries_of}
 use Rattle.history_book.specs.Readings.{Reading, is_live, put}
 use Rattle.history_book.specs.Settings.{Setting, is_device}
@@ -17,8 +17,7 @@ use Rattle.lock_leasing.specs.Words.{standing_value}
 use Rattle.std.proofs.Common.{ap, arith, refl, sym}
 use Rattle.std.proofs.lemmas.Grind.{common_steps}
 use Rattle.std.specs.Prelude.{Bool, None, Some, false, if◌then◌else◌, nat_lt, not, option_map, true, unwrap_or, ℕ, ◌&&◌, ◌+◌, ◌-◌, ◌==◌, ◌≡◌, ◌≤◌}
-use Rattle.window_order.proofs.ProbedOrders.{probe_goes_kept}
-use Rattle.window_order.proofs.ReadFacts.{read_facts}
+use Rattle.window_order.proofs.Cited.{probe_goes_kept, read_facts}
 
 may_parts : (a b c : Bool) → (a && not b && c) ≡ true → (a ≡ true) × (b ≡ false) × (c ≡ true)
 may_parts a b c h = (grind (arith, common_steps), grind (arith, common_steps), grind (arith, common_steps))

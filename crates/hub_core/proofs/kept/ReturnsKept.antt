@@ -3,8 +3,7 @@ use Rattle.command_rules.specs.Rosters.{command_at, device_no, is_on, is_run, ru
 use Rattle.device_gate.specs.Calls.{answer_told}
 use Rattle.device_gate.specs.declared.slips.Told.TheVariants.{Died, Sensed, Worked}
 use Rattle.device_gate.specs.declared.slips.Told.{Told}
-use Rattle.history_book.proofs.Shapes.{shapes}
-use Rattle.history_book.proofs.Snoc.{put_keeps, put_other, put_same}
+use Rattle.history_book.proofs.Cited.{put_keeps, put_other, put_same, shapes}
 use Rattle.history_book.specs.Histories.{entries_of, entry, kept_by, moment_of}
 use Rattle.history_book.specs.Readings.{Reading, asks_on, did, has_written, is_doomed, is_live, next_command, next_of, put, sees_down}
 use Rattle.history_book.specs.Settings.{Setting, is_device, is_weak}
@@ -40,14 +39,7 @@ use Rattle.std.proofs.lemmas.Bool.{and_parts, both_ways, not-true}
 use Rattle.std.proofs.lemmas.Grind.{common_steps}
 use Rattle.std.specs.List.{list_any}
 use Rattle.std.specs.Prelude.{Bool, IsTrue, List, None, Option, Some, [], false, fold, if◌then◌else◌, is_some, not, option_map, option_to_list, suc, true, unwrap_or, ℕ, ⊤, ◌&&◌, ◌++◌, ◌+◌, ◌==◌, ◌||◌, ◌∷◌, ◌≡◌, ◌≢◌, ◌≤◌}
-use Rattle.window_order.proofs.CleanValues.{ReadIsOut, finds_clean, none_dirty}
-use Rattle.window_order.proofs.DeadAccesses.{died_doomed_kept, died_kept}
-use Rattle.window_order.proofs.OutDevices.{asked_up, called_unseen, called_up, restored_down, undo_up}
-use Rattle.window_order.proofs.ProbedOrders.{probe_died_doomed_kept, probe_died_kept, probe_missed_kept, probe_worked_kept, restarted_kept, undo_died_kept}
-use Rattle.window_order.proofs.ReadFacts.{IsRead, read_facts}
-use Rattle.window_order.proofs.Rollbacks.{refuted_kept, undone_kept}
-use Rattle.window_order.proofs.Runs.{both, run_positive}
-use Rattle.window_order.proofs.Steps.{found_kept, wrote_kept}
+use Rattle.window_order.proofs.Cited.{IsRead, ReadIsOut, asked_up, both, called_unseen, called_up, died_doomed_kept, died_kept, finds_clean, found_kept, none_dirty, probe_died_doomed_kept, probe_died_kept, probe_missed_kept, probe_worked_kept, read_facts, refuted_kept, restarted_kept, restored_down, run_positive, undo_died_kept, undo_up, undone_kept, wrote_kept}
 use Rattle.window_order.specs.OrderKept.{OrderIsKept}
 
 -- A device comes home

@@ -1,12 +1,7 @@
 -- How long a history and its line can grow.
 use Rattle.command_rules.specs.Items.{is_ran, of_run}
 use Rattle.command_rules.specs.Rosters.{Run, command_at, commands_of, is_on, is_run, touches}
-use Rattle.history_book.proofs.Counts.{fell_is, size_is}
-use Rattle.history_book.proofs.Once.{count_insert, count_put_before}
-use Rattle.history_book.proofs.Shapes.{Shaped, did_touches, shapes}
-use Rattle.history_book.proofs.Snoc.{put_keeps, put_other, put_same}
-use Rattle.history_book.proofs.Splits.{split_count}
-use Rattle.history_book.proofs.Standing.{stands_in}
+use Rattle.history_book.proofs.Cited.{Shaped, count_insert, count_put_before, did_touches, fell_is, put_keeps, put_other, put_same, shapes, size_is, split_count, stands_in}
 use Rattle.history_book.specs.Histories.{answered, entries_of, entry, reading}
 use Rattle.history_book.specs.Lines.{without}
 use Rattle.history_book.specs.Gaps.{split_of}
@@ -24,7 +19,7 @@ use Rattle.home_types.specs.declared.commands.Command.{Command}
 use Rattle.home_types.specs.declared.items.Item.TheVariants.{Back, Failed, Ran}
 use Rattle.home_types.specs.declared.items.Item.{Item}
 use Rattle.home_types.specs.declared.numbers.DeviceNo.{DeviceNo}
-use Rattle.legal_days.proofs.Lists.{count_cons}
+use Rattle.legal_days.proofs.Cited.{count_cons}
 use Rattle.legal_days.specs.AccountedCalls.{told_falls}
 use Rattle.hub_core.specs.Bounds.{most_entries, most_events, most_items}
 use Rattle.hub_core.specs.HubKept.{probes_of}
@@ -34,7 +29,7 @@ use Rattle.std.proofs.Common.{ap, arith, cond, length-append, refl, subst, sym, 
 use Rattle.std.proofs.lemmas.Bool.{eq-eqb, ltb-true, or_right}
 use Rattle.std.proofs.lemmas.Grind.{common_steps}
 use Rattle.std.proofs.lemmas.Option.{slice_get_within}
-use Rattle.window_order.proofs.ReadFacts.{IsRead, read_facts}
+use Rattle.window_order.proofs.Cited.{IsRead, read_facts}
 use Rattle.std.specs.List.{list_any}
 use Rattle.std.specs.Prelude.{Bool, IsTrue, List, None, Option, Some, [], count_by, false, fold, if◌then◌else◌, is_none, is_some, length, map, not, slice_get, suc, true, zero, ℕ, ◌*◌, ◌+◌, ◌<◌, ◌==◌, ◌||◌, ◌∷◌, ◌≡◌, ◌≢◌, ◌≤◌}
 

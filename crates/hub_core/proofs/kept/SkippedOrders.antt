@@ -15,9 +15,7 @@ use Rattle.lock_leasing.specs.Configurations.{Grips, point}
 use Rattle.serial_line.specs.Marks.{Marked}
 use Rattle.std.proofs.Common.{ap, refl, subst, sym, ◌∙◌}
 use Rattle.std.specs.Prelude.{Bool, List, false, if◌then◌else◌, is_some, length, not, true, ℕ, ◌+◌, ◌<◌, ◌==◌, ◌||◌, ◌≡◌}
-use Rattle.window_order.proofs.SkippedCommands.{IsSkipped, marks_skipped}
-use Rattle.window_order.proofs.SkippedTables.{skipped_status, skipped_table}
-use Rattle.window_order.proofs.TableSteps.{changes_one}
+use Rattle.window_order.proofs.Cited.{IsSkipped, changes_one, marks_skipped, skipped_status, skipped_table}
 use Rattle.window_order.specs.TableChanges.{ChangesEach, is_done_there, skipped_change}
 use Rattle.window_order.specs.TableKept.{TableIsKept}
 

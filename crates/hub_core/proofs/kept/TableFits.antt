@@ -1,5 +1,5 @@
 -- A table stays that of its window, by the model, with what each step makes of it.
-use Rattle.window_order.proofs.ReadFacts.{IsRead}
+use Rattle.window_order.proofs.Cited.{IsRead}
 use Rattle.lineage_table.specs.Accesses.{has_access}
 use Rattle.hub_core.proofs.kept.EventsTold.{none_of_detector}
 use Rattle.history_book.specs.Readings.{Reading}

@@ -10,9 +10,7 @@ use Rattle.home_types.specs.declared.numbers.RunNo.{RunNo}
 use Rattle.lineage_table.specs.Accesses.{value_standing}
 use Rattle.lineage_table.specs.Lineages.{LineageState}
 use Rattle.lineage_table.specs.declared.accesses.Access.{Access}
-use Rattle.lock_leasing.proofs.AccessRuns.{EachTail}
-use Rattle.lock_leasing.proofs.Facts.{Facts, committed_stays, live_uncommitted}
-use Rattle.lock_leasing.proofs.Writers.{Stays, all_stay, no_write}
+use Rattle.lock_leasing.proofs.Cited.{EachTail, Facts, Stays, all_stay, committed_stays, live_uncommitted, no_write}
 use Rattle.lock_leasing.specs.Configurations.{Grips, point}
 use Rattle.lock_leasing.specs.Tables.{uses}
 use Rattle.lock_leasing.specs.Words.{Write, committed_write, effective_write, is_undone, standing_value, write_of}
@@ -21,7 +19,7 @@ use Rattle.std.proofs.lemmas.Bool.{and_parts, both_ways, eq-eqb, or_from, or_lef
 use Rattle.std.specs.List.{list_any}
 use Rattle.std.specs.Option.{option_or}
 use Rattle.std.specs.Prelude.{Bool, List, None, Option, Some, [], false, fold, if◌then◌else◌, is_some, not, option_map, true, unwrap_or, ℕ, ◌&&◌, ◌||◌, ◌∷◌, ◌≡◌}
-use Rattle.window_order.proofs.Runs.{three}
+use Rattle.window_order.proofs.Cited.{three}
 use Rattle.window_order.specs.TableKept.{LineageIsKept, access_read, accesses_along, commits_write}
 
 module _ (w : Setting) (n : Reading) (g : Grips) (f : Facts w n g) (d : ℕ) (passed : ℕ → Bool) where

@@ -1,7 +1,6 @@
 -- What runs write, and what an undo drives: values of their devices' kinds.
 use Rattle.command_rules.specs.Rosters.{command_at, commands_of, no_command, run_no}
-use Rattle.history_book.proofs.Searches.{map_some}
-use Rattle.history_book.proofs.Shapes.{put_all}
+use Rattle.history_book.proofs.Cited.{map_some, put_all}
 use Rattle.history_book.specs.Histories.{answered, entry, reading}
 use Rattle.history_book.specs.Lines.{without}
 use Rattle.history_book.specs.Readings.{OfRun, OnDevice, Reading, nothing_read, put}
@@ -22,13 +21,13 @@ use Rattle.home_types.specs.declared.items.Item.TheVariants.{Back, Failed, Ran}
 use Rattle.home_types.specs.declared.kinds.Kind.TheVariants.{Range, States}
 use Rattle.home_types.specs.declared.kinds.Kind.{Kind}
 use Rattle.hub_core.specs.Openings.{names_values_of}
-use Rattle.lock_leasing.proofs.Effects.{last_some_of}
+use Rattle.lock_leasing.proofs.Cited.{last_some_of}
 use Rattle.lock_leasing.specs.Configurations.{Grips, Point}
 use Rattle.lock_leasing.specs.Words.{Write, is_undone, last_some, standing_value, value_without, write_of}
 use Rattle.std.proofs.Common.{ap, arith, refl, subst, sym, ◌∙◌}
 use Rattle.std.proofs.lemmas.Grind.{common_steps}
 use Rattle.std.specs.Prelude.{Bool, IsTrue, List, None, Option, Some, [], false, fold, if◌then◌else◌, is_some, length, nat_lt, option_map, slice_get, slice_index_or, suc, true, unwrap_or, zero, ℕ, ◌&&◌, ◌∷◌, ◌≡◌}
-use Rattle.window_order.proofs.Runs.{both}
+use Rattle.window_order.proofs.Cited.{both}
 
 -- a kind that has some value has the nearest one to any
 pub nearest_has : (kind : Kind) (held v : ℕ) → IsTrue (has_value kind held) → IsTrue (has_value kind (nearest kind v))

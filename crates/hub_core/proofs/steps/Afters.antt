@@ -1,5 +1,5 @@
 -- The reading after a step.
-use Rattle.history_book.proofs.Snoc.{each_on, entries_on, reading_on}
+use Rattle.history_book.proofs.Cited.{each_on, entries_on, reading_on}
 use Rattle.history_book.specs.Histories.{entries_of, entry, reading}
 use Rattle.history_book.specs.Readings.{Reading}
 use Rattle.history_book.specs.WellFormed.{along, each_entry}

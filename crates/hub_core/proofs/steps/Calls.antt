@@ -3,8 +3,7 @@ use Rattle.command_rules.specs.Rosters.{Run, command_at, device_no, run_no}
 use Rattle.device_gate.specs.Calls.{has_died}
 use Rattle.device_gate.specs.declared.slips.Told.TheVariants.{Died, Sensed, Worked}
 use Rattle.device_gate.specs.declared.slips.Told.{Told}
-use Rattle.history_book.proofs.Once.{count_append}
-use Rattle.history_book.proofs.Snoc.{entries_on, put_keeps, put_other, put_same}
+use Rattle.history_book.proofs.Cited.{count_append, entries_on, put_keeps, put_other, put_same}
 use Rattle.history_book.specs.Histories.{entries_of, entry, is_fall_of, reading}
 use Rattle.history_book.specs.Readings.{OfRun, Reading, did, is_doomed, next_of, put}
 use Rattle.history_book.specs.Settings.{Setting, is_weak}

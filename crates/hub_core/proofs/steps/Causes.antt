@@ -1,7 +1,6 @@
 -- The answers of a run's step are clean, and its dooms show their causes.
 use Rattle.command_rules.specs.Rosters.{command_at, commands_of, device_no, run_no, shares, touches}
-use Rattle.history_book.proofs.Searches.{Each, each_filter}
-use Rattle.history_book.proofs.Snoc.{put_same}
+use Rattle.history_book.proofs.Cited.{Each, each_filter, put_same}
 use Rattle.history_book.specs.Histories.{entry}
 use Rattle.history_book.specs.Plans.{free}
 use Rattle.history_book.specs.Readings.{Reading, did, next_command, next_of, same_answer, sees_down}

@@ -1,7 +1,7 @@
 -- What holds of each thing that a run's step may do holds of the step.
 use Rattle.home_types.specs.Commands.{holds}
 use Rattle.command_rules.specs.Rosters.{device_no, is_run, run_no, touches}
-use Rattle.history_book.proofs.Searches.{each_found, own_devices, some_is}
+use Rattle.history_book.proofs.Cited.{each_found, own_devices, some_is}
 use Rattle.history_book.specs.Lines.{Split}
 use Rattle.history_book.specs.Plans.{free}
 use Rattle.history_book.specs.Readings.{PlacedAt, Reading, is_live, next_command, next_of}

@@ -1,8 +1,6 @@
 -- The dooms of a step back show their causes.
 use Rattle.command_rules.specs.Rosters.{command_at, commands_of, device_no, is_on, run_no, touches_from}
-use Rattle.history_book.proofs.Logs.{Logged, span_more}
-use Rattle.history_book.proofs.Searches.{some_is}
-use Rattle.history_book.proofs.Snoc.{put_same}
+use Rattle.history_book.proofs.Cited.{Logged, put_same, some_is, span_more}
 use Rattle.history_book.specs.Histories.{entry, more_if}
 use Rattle.history_book.specs.Readings.{Event, First, Last, LogMark, Reading, did, is_access, is_doomed, is_fall, is_first_mark, is_last_mark, next_command, next_of, pends, sees_down, sees_up, span_of, view_of}
 use Rattle.history_book.specs.Settings.{Setting, is_weak}

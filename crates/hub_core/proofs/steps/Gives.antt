@@ -1,9 +1,6 @@
 -- The entries of a step back may follow what was read.
 use Rattle.command_rules.specs.Rosters.{command_at, device_no, is_run, run_no}
-use Rattle.history_book.proofs.Frames.{did_live}
-use Rattle.history_book.proofs.Searches.{each_found}
-use Rattle.history_book.proofs.Shapes.{Shaped}
-use Rattle.history_book.proofs.Snoc.{put_keeps}
+use Rattle.history_book.proofs.Cited.{Shaped, did_live, each_found, put_keeps}
 use Rattle.history_book.specs.Histories.{entry}
 use Rattle.history_book.specs.Readings.{Reading, did, has_written, is_access, is_doomed, is_live, is_open, next_command, next_of, sees_up}
 use Rattle.history_book.specs.Settings.{Setting, is_device, is_weak}
@@ -22,7 +19,7 @@ use Rattle.hub_core.specs.Steps.{command_entries, probe_entries, undo_entries}
 use Rattle.device_gate.specs.Calls.{answer_told}
 use Rattle.device_gate.specs.declared.slips.Told.{Told}
 use Rattle.device_gate.specs.declared.slips.Told.TheVariants.{Died, Sensed, Worked}
-use Rattle.lock_leasing.proofs.Effects.{live_runs_live}
+use Rattle.lock_leasing.proofs.Cited.{live_runs_live}
 use Rattle.lock_leasing.specs.Waits.{lost_by}
 use Rattle.lock_leasing.specs.Words.{live_runs}
 use Rattle.std.proofs.Common.{arith, refl, subst, sym, ◌∙◌}

@@ -1,6 +1,6 @@
 -- A run that has just answered its next command, and whether it is done with the device of that command.
 use Rattle.command_rules.specs.Rosters.{command_at, commands_of, is_run, run_no}
-use Rattle.history_book.proofs.Snoc.{entries_on, put_same, reading_more}
+use Rattle.history_book.proofs.Cited.{entries_on, put_same, reading_more}
 use Rattle.history_book.specs.Histories.{entries_of, reading}
 use Rattle.history_book.specs.Readings.{OfRun, Reading, next_of}
 use Rattle.history_book.specs.declared.entries.Entry.TheVariants.{Did}

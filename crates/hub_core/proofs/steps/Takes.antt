@@ -1,9 +1,6 @@
 -- The entries of a run's step may follow what was read.
 use Rattle.command_rules.specs.Rosters.{command_at, commands_of, device_no, is_run, no_command, run_no, touches}
-use Rattle.history_book.proofs.Frames.{did_live}
-use Rattle.history_book.proofs.Searches.{each_found, own_devices, some_is}
-use Rattle.history_book.proofs.Shapes.{Shaped}
-use Rattle.history_book.proofs.Snoc.{put_keeps}
+use Rattle.history_book.proofs.Cited.{Shaped, did_live, each_found, own_devices, put_keeps, some_is}
 use Rattle.history_book.specs.Histories.{entry}
 use Rattle.history_book.specs.Lines.{Split, before}
 use Rattle.history_book.specs.Readings.{Reading, is_doomed, is_live, next_command, next_of}
@@ -19,7 +16,7 @@ use Rattle.home_types.specs.declared.commands.Answer.{Answer}
 use Rattle.home_types.specs.declared.commands.Command.{Command}
 use Rattle.hub_core.proofs.steps.Choices.{Acts, Answered, Commanding, Enters, Skipping, Undoing, decide_is}
 use Rattle.hub_core.specs.Steps.{Absent, Choice, HandsOut, Moves, Over, Waits, aborts, decide, down_entries, skip_entries}
-use Rattle.lock_leasing.proofs.Effects.{effect_is, live_runs_live}
+use Rattle.lock_leasing.proofs.Cited.{effect_is, live_runs_live}
 use Rattle.lock_leasing.specs.Configurations.{Grips, point}
 use Rattle.lock_leasing.specs.Waits.{down_at_end}
 use Rattle.lock_leasing.specs.Words.{has_touched, is_overdue, lease_deadline, live_before, overdue_for}

@@ -1,7 +1,6 @@
 -- Runs at a command: what is known of them, and their step.
 use Rattle.command_rules.specs.Rosters.{is_on}
-use Rattle.history_book.proofs.Searches.{map_some, none_is}
-use Rattle.history_book.proofs.Shapes.{Shaped, shapes}
+use Rattle.history_book.proofs.Cited.{Shaped, map_some, none_is, shapes}
 use Rattle.history_book.specs.Histories.{entries_of}
 use Rattle.history_book.specs.Readings.{OfRun, PlacedAt, Reading, asks_on, is_live, is_open, next_command, next_of}
 use Rattle.history_book.specs.Settings.{Setting}

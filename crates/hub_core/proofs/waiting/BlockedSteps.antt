@@ -1,6 +1,6 @@
 -- The runs that are marked as blocked stay so in each step of a hub, but for those that the step may have freed.
 use Rattle.command_rules.specs.Rosters.{commands_of, device_no, is_on, is_run, run_no}
-use Rattle.history_book.proofs.Snoc.{entries_on, put_other, put_same}
+use Rattle.history_book.proofs.Cited.{entries_on, put_other, put_same, run_place}
 use Rattle.history_book.specs.Histories.{entries_of, entry, kept_by}
 use Rattle.history_book.specs.Readings.{OfRun, Reading, asks_on, did, is_access, is_doomed, is_live, pends, put}
 use Rattle.history_book.specs.Settings.{Setting}
@@ -15,9 +15,8 @@ use Rattle.home_types.specs.declared.commands.Command.{Command}
 use Rattle.home_types.specs.declared.numbers.RunNo.{RunNo}
 use Rattle.device_gate.specs.declared.slips.Told.{Told}
 use Rattle.device_gate.specs.declared.slips.Told.TheVariants.{Died, Sensed, Worked}
-use Rattle.blocked_runs.proofs.Marking.{all_left}
+use Rattle.blocked_runs.proofs.Cited.{all_left}
 use Rattle.hub_core.proofs.kept.Finds.{find_same}
-use Rattle.history_book.proofs.HistoryReads.{run_place}
 use Rattle.hub_core.proofs.kept.Hands.{IsOf, others_hold}
 use Rattle.hub_core.proofs.steps.Choices.{decide_is}
 use Rattle.hub_core.proofs.steps.GiveCauses.{next_pends}
@@ -43,8 +42,7 @@ use Rattle.std.proofs.lemmas.Grind.{common_steps}
 use Rattle.std.proofs.lemmas.List.{append-nil}
 use Rattle.std.specs.List.{list_all}
 use Rattle.std.specs.Prelude.{Bool, List, None, Option, Some, [], false, if◌then◌else◌, is_some, length, max, option_map, option_to_list, slice_get, true, unwrap_or, ℕ, ⊤, ◌&&◌, ◌++◌, ◌==◌, ◌||◌, ◌∷◌, ◌≡◌, ◌≢◌, ◌≤◌, ◌⊎◌}
-use Rattle.window_order.proofs.GripWords.{own_command}
-use Rattle.window_order.proofs.Grips.{holds_none}
+use Rattle.window_order.proofs.Cited.{holds_none, own_command}
 use Rattle.lock_leasing.specs.declared.purposes.Purpose.TheVariants.{Commands, Probes, Undoes}
 use Rattle.lock_leasing.specs.declared.purposes.Purpose.{Purpose}
 

@@ -1,6 +1,6 @@
 -- A run that follows one that has not ended waits, until that one ends.
 use Rattle.command_rules.specs.Rosters.{followed_by, is_run}
-use Rattle.history_book.proofs.Snoc.{along_on, reading_on}
+use Rattle.history_book.proofs.Cited.{along_on, reading_on}
 use Rattle.history_book.specs.Histories.{entries_of, entry, reading}
 use Rattle.history_book.specs.Readings.{OfRun, PlacedAt, Reading, nothing_read, put}
 use Rattle.history_book.specs.Settings.{Setting}
@@ -20,7 +20,7 @@ use Rattle.std.proofs.lemmas.Grind.{common_steps}
 use Rattle.std.proofs.lemmas.List.{map-append}
 use Rattle.std.specs.List.{list_all}
 use Rattle.std.specs.Prelude.{Bool, IsTrue, List, None, Option, Some, [], false, fold, if◌then◌else◌, is_none, is_some, not, true, ℕ, ◌&&◌, ◌++◌, ◌==◌, ◌∷◌, ◌≡◌}
-use Rattle.window_order.proofs.Runs.{both}
+use Rattle.window_order.proofs.Cited.{both}
 
 -- the run has arrived, and is not placed
 abbrev pub IsUnplaced : OfRun → Type 0

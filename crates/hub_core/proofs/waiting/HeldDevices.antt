@@ -1,9 +1,7 @@
 -- While a run holds a device, each other run at a command there waits; and the answer to a command that is not its run's last leaves the device held.
 use Rattle.command_rules.specs.Items.{is_ran}
 use Rattle.command_rules.specs.Rosters.{command_at, commands_of, run_no}
-use Rattle.history_book.proofs.Searches.{none_is}
-use Rattle.history_book.proofs.Snoc.{entries_on, put_other, put_same, reading_more}
-use Rattle.history_book.proofs.Standing.{standing}
+use Rattle.history_book.proofs.Cited.{entries_on, none_is, put_other, put_same, reading_more, standing}
 use Rattle.history_book.specs.Histories.{entries_of, entry, kept_by, reading}
 use Rattle.history_book.specs.Lines.{before}
 use Rattle.history_book.specs.Readings.{OfRun, OnDevice, Reading, asks_on, did, is_access, is_doomed, is_live, is_open, next_of, pends, view_by}
@@ -34,8 +32,7 @@ use Rattle.std.proofs.lemmas.List.Sums.{take_while-cons}
 use Rattle.std.specs.List.{cons_option, list_any}
 use Rattle.std.specs.Option.{option_or}
 use Rattle.std.specs.Prelude.{Bool, IsTrue, List, None, Option, Some, [], false, find, if◌then◌else◌, is_none, is_some, length, max, not, option_map, slice_get, true, ℕ, ◌&&◌, ◌++◌, ◌==◌, ◌||◌, ◌∷◌, ◌≡◌, ◌≢◌}
-use Rattle.window_order.proofs.Promises.{order_stands}
-use Rattle.window_order.proofs.ReadFacts.{read_facts}
+use Rattle.window_order.proofs.Cited.{order_stands, read_facts}
 
 -- The runs before a run that is open
 

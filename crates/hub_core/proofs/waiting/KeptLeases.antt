@@ -1,7 +1,6 @@
 -- A lease that may fall due is made by a placing alone: neither the clock, nor a device that goes out, nor an answer makes one.
 use Rattle.command_rules.specs.Rosters.{commands_of, estimate_to_last, is_on, touches, touches_from}
-use Rattle.history_book.proofs.Shapes.{put_all}
-use Rattle.history_book.proofs.Snoc.{put_keeps}
+use Rattle.history_book.proofs.Cited.{put_all, put_keeps}
 use Rattle.history_book.specs.Histories.{entry}
 use Rattle.history_book.specs.Lines.{before}
 use Rattle.history_book.specs.Plans.{greatest, planned_end}
@@ -19,7 +18,7 @@ use Rattle.std.proofs.Common.{ap, arith, length-append, refl, sym, ◌∙◌}
 use Rattle.std.proofs.lemmas.Grind.{common_steps}
 use Rattle.std.specs.List.{list_any}
 use Rattle.std.specs.Prelude.{Bool, List, None, Some, [], cond, drop, false, find, if◌then◌else◌, is_none, is_some, length, min, nat_lt, not, option_map, suc, true, unwrap_or, zero, ℕ, ◌&&◌, ◌+◌, ◌++◌, ◌∷◌, ◌≡◌, ◌≤◌}
-use Rattle.window_order.proofs.AnsweredTables.{answered_run}
+use Rattle.window_order.proofs.Cited.{answered_run}
 
 -- where none does, fewer do not
 find_fewer : {A : Type 0} (p q : A → Bool) (xs : List A) → ((x : A) → q x ≡ true → p x ≡ true) → find p xs ≡ None → find q xs ≡ None

@@ -1,14 +1,13 @@
 -- The live runs before a run that have a device in their footprint: no other run makes it wait for the device.
 use Rattle.command_rules.specs.Items.{is_ran}
 use Rattle.command_rules.specs.Rosters.{touches}
-use Rattle.history_book.proofs.Searches.{Each, each_filter}
-use Rattle.history_book.proofs.Splits.{part}
+use Rattle.history_book.proofs.Cited.{Each, each_filter, part}
 use Rattle.history_book.specs.Lines.{before}
 use Rattle.history_book.specs.Readings.{Reading, is_live}
 use Rattle.history_book.specs.Settings.{Setting}
 use Rattle.home_types.specs.declared.items.Item.{Item}
 use Rattle.home_types.specs.declared.items.Item.TheVariants.{Back, Failed, Ran}
-use Rattle.lock_leasing.proofs.Effects.{live_runs_live}
+use Rattle.lock_leasing.proofs.Cited.{live_runs_live}
 use Rattle.lock_leasing.specs.Words.{live_before, live_runs}
 use Rattle.std.proofs.Common.{ap, arith, cond, refl, sym, ◌∙◌}
 use Rattle.std.proofs.lemmas.Grind.{common_steps}

@@ -1,8 +1,6 @@
 -- A step that is elsewhere leaves what a run at a command does as it was, at every moment.
 use Rattle.command_rules.specs.Rosters.{commands_of, device_no, estimate_to_last, is_run, run_no, touches}
-use Rattle.history_book.proofs.Searches.{map_some, none_is}
-use Rattle.history_book.proofs.Shapes.{IsShaped, Shaped, did_touches, shapes}
-use Rattle.history_book.proofs.Snoc.{along_on, reading_on}
+use Rattle.history_book.proofs.Cited.{IsShaped, Shaped, along_on, did_touches, map_some, none_is, reading_on, shapes, standing}
 use Rattle.history_book.specs.Histories.{entries_of, entry, reading}
 use Rattle.history_book.specs.Plans.{greatest, planned_end}
 use Rattle.history_book.specs.Readings.{OfRun, PlacedAt, Reading, is_doomed, is_live, next_command, next_of, nothing_read, pends, sees_down}
@@ -27,11 +25,9 @@ use Rattle.std.proofs.Common.{ap, arith, inl, inr, refl, subst, sym, ◌∙◌}
 use Rattle.std.proofs.lemmas.Grind.{common_steps}
 use Rattle.std.proofs.lemmas.List.{map-append}
 use Rattle.std.specs.Prelude.{Bool, List, None, Option, Some, [], false, find, fold, if◌then◌else◌, is_none, is_some, length, max, min, nat_lt, not, option_map, slice_get, true, unwrap_or, ℕ, ◌&&◌, ◌++◌, ◌+◌, ◌==◌, ◌||◌, ◌∷◌, ◌≡◌}
-use Rattle.lock_leasing.proofs.Facts.{pends_touches}
-use Rattle.lock_leasing.proofs.Effects.{effect_is}
+use Rattle.lock_leasing.proofs.Cited.{effect_is, pends_touches}
 use Rattle.hub_core.proofs.waiting.NearRuns.{found_same, seen_same}
 use Rattle.hub_core.proofs.steps.GiveCauses.{next_pends}
-use Rattle.history_book.proofs.Standing.{standing}
 
 -- Words on the device
 

@@ -1,8 +1,6 @@
 -- What entries that end no wait leave of what the step of a run at a command looks at.
 use Rattle.command_rules.specs.Rosters.{Run, command_at, commands_of, is_on, no_command, shares, touches, touches_from}
-use Rattle.history_book.proofs.Shapes.{Shaped, did_touches, put_all, shapes_step}
-use Rattle.history_book.proofs.Searches.{map_some}
-use Rattle.history_book.proofs.Snoc.{put_keeps, put_other}
+use Rattle.history_book.proofs.Cited.{Shaped, Standing, aborted, did_touches, map_some, part, put_all, put_keeps, put_other, shapes_step, split_part}
 use Rattle.history_book.specs.Histories.{entry, line_after}
 use Rattle.history_book.specs.Lines.{Split, before, is_item_on, put_before}
 use Rattle.history_book.specs.Readings.{OfRun, OnDevice, PlacedAt, Reading, is_doomed, is_live, next_of, put}
@@ -27,11 +25,9 @@ use Rattle.std.proofs.lemmas.List.{append-nil, drop_more, length-append, length-
 use Rattle.std.specs.List.{cons_option, list_all, list_any}
 use Rattle.std.specs.Option.{option_or}
 use Rattle.std.specs.Prelude.{Bool, List, None, Option, Some, [], drop, false, filter, find, fold, if◌then◌else◌, is_none, is_some, length, not, option_map, slice_get, slice_index_or, take, true, unwrap_or, ℕ, ◌&&◌, ◌++◌, ◌+◌, ◌-◌, ◌<◌, ◌==◌, ◌||◌, ◌∷◌, ◌≡◌, ◌≢◌}
-use Rattle.window_order.proofs.AnsweredTables.{answered_run, left_after}
-use Rattle.window_order.proofs.Steps.{next_is}
+use Rattle.window_order.proofs.Cited.{answered_run, left_after, next_is}
 use Rattle.lock_leasing.specs.Waits.{strict_wait}
-use Rattle.lock_leasing.proofs.Places.{last_filter}
-use Rattle.lock_leasing.proofs.Facts.{live_stands}
+use Rattle.lock_leasing.proofs.Cited.{last_filter, live_stands}
 use Rattle.hub_core.proofs.waiting.NearRuns.{before_more, filter_insert, filter_twice, last_insert, near_part, near_same, none_left, runs_near, some_left}
 use Rattle.home_types.specs.declared.worlds.Stand.{Stand}
 use Rattle.home_types.specs.declared.modes.Visibility.TheVariants.{Eventual, Global, Partitioned, Weak}
@@ -43,8 +39,6 @@ use Rattle.history_book.specs.declared.entries.End.{End}
 use Rattle.history_book.specs.declared.entries.Cause.{Cause}
 use Rattle.history_book.specs.Plans.{planned_times}
 use Rattle.history_book.specs.Gaps.{front_for, line_for, split_of}
-use Rattle.history_book.proofs.Splits.{part, split_part}
-use Rattle.history_book.proofs.Standing.{Standing, aborted}
 use Rattle.command_rules.specs.Items.{is_ran}
 
 -- What is the same

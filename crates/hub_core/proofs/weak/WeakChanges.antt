@@ -1,6 +1,6 @@
 -- What is kept of a configuration of the weak model, where entries are made and grips go out and come home.
 use Rattle.command_rules.specs.Rosters.{commands_of, run_no}
-use Rattle.history_book.proofs.Snoc.{put_other, put_same}
+use Rattle.history_book.proofs.Cited.{put_other, put_same}
 use Rattle.history_book.specs.Histories.{entry, kept_by}
 use Rattle.history_book.specs.Readings.{OfRun, Reading, is_doomed, next_command}
 use Rattle.history_book.specs.Settings.{Setting}
@@ -23,7 +23,7 @@ use Rattle.std.proofs.Common.{ap, arith, refl, subst, sym, ◌∙◌}
 use Rattle.std.proofs.lemmas.Bool.{and_parts}
 use Rattle.std.proofs.lemmas.Grind.{common_steps}
 use Rattle.std.specs.Prelude.{IsTrue, List, None, Some, [], false, fold, is_some, length, not, slice_get, true, ℕ, ◌&&◌, ◌++◌, ◌<◌, ◌==◌, ◌∷◌, ◌≡◌, ◌≢◌, ◌≤◌}
-use Rattle.window_order.proofs.Grips.{HoldsNone}
+use Rattle.window_order.proofs.Cited.{HoldsNone}
 
 -- another moment, other grips, and other probes left, with the same history
 pub weak_same : (s : Configuration) (rounds opened m : ℕ) (held probes : ℕ → ℕ) (g : Grips) → (read_of s).moment ≤ m

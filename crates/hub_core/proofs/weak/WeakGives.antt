@@ -3,8 +3,7 @@ use Rattle.command_rules.specs.Rosters.{command_at, device_no, is_run, run_no}
 use Rattle.device_gate.specs.Calls.{answer_told, has_died}
 use Rattle.device_gate.specs.declared.slips.Told.TheVariants.{Died, Sensed, Worked}
 use Rattle.device_gate.specs.declared.slips.Told.{Told}
-use Rattle.history_book.proofs.Shapes.{Shaped, shapes}
-use Rattle.history_book.proofs.Snoc.{put_other, put_same}
+use Rattle.history_book.proofs.Cited.{Shaped, put_other, put_same, shapes}
 use Rattle.history_book.specs.Histories.{entries_of, entry}
 use Rattle.history_book.specs.Readings.{OfRun, Reading, did, is_doomed, is_open, next_command, put, sees_up}
 use Rattle.history_book.specs.Settings.{Setting, is_device, is_weak}
@@ -40,8 +39,7 @@ use Rattle.std.proofs.Math.Bool.{and-false, and-true}
 use Rattle.std.proofs.lemmas.Bool.{eq-eqb, ltb-true}
 use Rattle.std.proofs.lemmas.Grind.{common_steps}
 use Rattle.std.specs.Prelude.{Bool, IsTrue, List, None, Option, Some, [], false, find, fold, if◌then◌else◌, is_some, length, not, option_map, option_to_list, suc, true, ℕ, ◌&&◌, ◌<◌, ◌==◌, ◌∷◌, ◌≡◌, ◌≢◌, ◌≤◌}
-use Rattle.window_order.proofs.Grips.{HoldsNone, fits_other, fits_same, fits_without, none_left}
-use Rattle.window_order.proofs.Runs.{both, run_positive}
+use Rattle.window_order.proofs.Cited.{HoldsNone, both, fits_other, fits_same, fits_without, none_left, run_positive}
 
 -- The entries of a device that comes home
 

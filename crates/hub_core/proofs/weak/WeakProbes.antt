@@ -12,7 +12,7 @@ use Rattle.lock_leasing.specs.Words.{effective_write, standing_value}
 use Rattle.std.proofs.Common.{ap, arith, refl}
 use Rattle.std.proofs.lemmas.Bool.{eq-eqb}
 use Rattle.std.specs.Prelude.{Bool, None, Some, false, if◌then◌else◌, option_map, suc, true, unwrap_or, ℕ, ◌-◌, ◌≡◌}
-use Rattle.window_order.proofs.Grips.{HoldsNone, fits_with}
+use Rattle.window_order.proofs.Cited.{HoldsNone, fits_with}
 
 -- where a device stands is what was written last
 pub weak_standing : (s : Configuration) (rounds opened : ℕ) (held : ℕ → ℕ) (d : ℕ) → WeakIsKept s rounds opened held → standing_value (point_of s) d ≡ (read_of s).last d

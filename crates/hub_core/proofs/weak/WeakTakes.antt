@@ -1,7 +1,6 @@
 -- What is kept of a configuration of the weak model is so at the start, and stays so with each step of a run.
 use Rattle.command_rules.specs.Rosters.{commands_of, is_run, run_no}
-use Rattle.history_book.proofs.Shapes.{Shaped, shapes}
-use Rattle.history_book.proofs.Snoc.{put_keeps, put_other, put_same}
+use Rattle.history_book.proofs.Cited.{Shaped, put_keeps, put_other, put_same, shapes}
 use Rattle.history_book.specs.Histories.{entries_of, entry, kept_by}
 use Rattle.history_book.specs.Readings.{OfRun, PlacedAt, Reading, is_live, next_of, put, sees_down}
 use Rattle.history_book.specs.Settings.{Setting, is_device, is_weak}
@@ -32,7 +31,7 @@ use Rattle.std.proofs.Math.Bool.{and-false}
 use Rattle.std.proofs.lemmas.Grind.{common_steps}
 use Rattle.std.specs.Prelude.{Bool, IsTrue, List, None, Option, Some, [], false, fold, if◌then◌else◌, is_none, is_some, length, max, not, true, ℕ, ◌&&◌, ◌++◌, ◌+◌, ◌<◌, ◌||◌, ◌∷◌, ◌≡◌, ◌≢◌, ◌≤◌}
 use Rattle.lock_leasing.specs.Waits.{busy_wait}
-use Rattle.window_order.proofs.Grips.{HoldsNone, fits_other, fits_with, holds_none, may_command}
+use Rattle.window_order.proofs.Cited.{HoldsNone, fits_other, fits_with, holds_none, may_command}
 
 -- The start
 

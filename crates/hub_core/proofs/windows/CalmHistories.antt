@@ -1,8 +1,6 @@
 -- A window in which no device fails: no device is down, no run sees one down, no answer is Down, and a run is doomed by a must `check` alone.
 use Rattle.command_rules.specs.Rosters.{command_at, commands_of, no_command, run_no, touches, touches_from}
-use Rattle.history_book.proofs.Searches.{each_found, own_devices}
-use Rattle.history_book.proofs.Shapes.{put_all}
-use Rattle.history_book.proofs.Snoc.{put_keeps}
+use Rattle.history_book.proofs.Cited.{each_found, own_devices, put_all, put_keeps}
 use Rattle.history_book.specs.Histories.{answered, entries_of, entry, is_fall_of, more_if, reading}
 use Rattle.history_book.specs.Readings.{First, Last, Event, LogMark, OfRun, OnDevice, Reading, events_of, is_access, is_fall, is_last_mark, next_command, nothing_read, put, same_answer, sees_down, sees_up, span_of, view_by}
 use Rattle.history_book.specs.Settings.{Setting, devices_of, is_device, is_strict}
@@ -20,7 +18,7 @@ use Rattle.home_types.specs.declared.commands.Answer.TheVariants.{Down, Fine, Fo
 use Rattle.home_types.specs.declared.commands.Command.{Command}
 use Rattle.home_types.specs.declared.kinds.Kind.{Kind}
 use Rattle.home_types.specs.declared.modes.Scheduler.TheVariants.{Fcfs}
-use Rattle.legal_days.proofs.Lists.{count_cons}
+use Rattle.legal_days.proofs.Cited.{count_cons}
 use Rattle.legal_days.specs.AccountedCalls.{told_falls}
 use Rattle.legal_days.specs.CleanReads.{entry_is_clean}
 use Rattle.hub_core.specs.HubKept.{ConfigurationIsKept, keeps_leases}

@@ -1,8 +1,7 @@
 -- What a window has to be that is closed.
 use Rattle.command_rules.specs.Items.{of_run}
 use Rattle.command_rules.specs.Rosters.{command_at, commands_of, device_no, is_run, no_command, run_no, touches}
-use Rattle.history_book.proofs.Shapes.{shapes}
-use Rattle.history_book.proofs.Standing.{is_abort, standing}
+use Rattle.history_book.proofs.Cited.{is_abort, shapes, standing}
 use Rattle.history_book.specs.Histories.{entries_of, line_of}
 use Rattle.history_book.specs.Readings.{Reading, passed_by}
 use Rattle.history_book.specs.Settings.{Setting, device_numbers, is_device, run_numbers}
@@ -30,7 +29,7 @@ use Rattle.hub_core.proofs.windows.CalmHistories.{IsPlain, NoneFailed, dooms_are
 use Rattle.legal_days.specs.AccountedCalls.{CallsAreAccounted}
 use Rattle.legal_days.specs.Agreement.{AgreesWithSerial}
 use Rattle.legal_days.specs.CleanReads.{ReadsAreClean}
-use Rattle.hub_core.specs.ClosedHomes.{stand_left}
+use Rattle.window_order.specs.Leavings.{stand_left}
 use Rattle.hub_core.specs.HubKept.{ConfigurationIsKept}
 use Rattle.legal_days.specs.Isolation.{IsStrict}
 use Rattle.legal_days.specs.JustifiedAborts.{IsJustified}
@@ -53,8 +52,7 @@ use Rattle.std.proofs.lemmas.List.{get_or-map, length-map}
 use Rattle.std.specs.List.{list_all, list_any, range_with_len}
 use Rattle.std.specs.Option.{option_or}
 use Rattle.std.specs.Prelude.{Bool, IsTrue, List, None, Option, Some, [], false, find, if◌then◌else◌, is_none, is_some, length, map, nat_lt, not, option_map, slice_index_or, suc, true, unwrap_or, zero, ℕ, ◌&&◌, ◌+◌, ◌<◌, ◌||◌, ◌∷◌, ◌≡◌, ◌≤◌}
-use Rattle.window_order.proofs.ReadFacts.{read_facts}
-use Rattle.window_order.proofs.WindowEnds.{AgreesAtEnd, NoneIsLive, agrees_at_end, logs_own_events, none_is_live, order_events, order_runs, standing_committed}
+use Rattle.window_order.proofs.Cited.{AgreesAtEnd, NoneIsLive, agrees_at_end, logs_own_events, none_is_live, order_events, order_runs, read_facts, standing_committed}
 use Rattle.window_order.specs.TableKept.{TableIsKept, access_read, accesses_along, accesses_read, commits_write}
 
 -- What a quiet window is

@@ -1,8 +1,6 @@
 -- Where no device is out and a run has not ended, some run goes on.
 use Rattle.command_rules.specs.Rosters.{device_no, followed_by, is_run, reads_first, run_no}
-use Rattle.history_book.proofs.Searches.{none_is}
-use Rattle.history_book.proofs.Shapes.{Shaped, shapes}
-use Rattle.history_book.proofs.Standing.{standing}
+use Rattle.history_book.proofs.Cited.{Shaped, none_is, shapes, standing}
 use Rattle.history_book.specs.Histories.{entries_of}
 use Rattle.history_book.specs.Lines.{split_at}
 use Rattle.history_book.specs.Readings.{PlacedAt, Reading, is_live, next_command, next_of, sees_down}
@@ -30,7 +28,7 @@ use Rattle.hub_core.specs.BlockedRuns.{is_wait}
 use Rattle.hub_core.specs.HubKept.{ConfigurationIsKept}
 use Rattle.hub_core.specs.Steps.{Absent, Choice, HandsOut, Moves, Over, Waits, aborts, answers_down, busy_case, choice_of, command_cases, decide, decide_answered, decide_arrived, decide_command, decide_doomed, down_case, down_entries, first_case, only_if, place_choice, skip_entries, undo_cases, undo_choice}
 use Rattle.hub_core.specs.declared.waits.Why.TheVariants.{Behind, Busy, Dirty, Follow, Strict}
-use Rattle.lock_leasing.proofs.FirstRuns.{first_live, waits_for_none}
+use Rattle.lock_leasing.proofs.Cited.{first_live, waits_for_none}
 use Rattle.lock_leasing.specs.Configurations.{Configuration, Grips, has_grip, is_out, point, read_of}
 use Rattle.lock_leasing.specs.declared.purposes.Purpose.TheVariants.{Commands, Undoes}
 use Rattle.lock_leasing.specs.FirstRuns.{IsFirstLive, WaitsForNone}
@@ -44,7 +42,7 @@ use Rattle.std.proofs.lemmas.Grind.{common_steps}
 use Rattle.std.specs.List.{cons_option}
 use Rattle.std.specs.Option.{option_or}
 use Rattle.std.specs.Prelude.{Bool, IsTrue, List, None, Option, Some, [], false, find, if◌then◌else◌, is_none, is_some, length, max, nat_le, nat_lt, not, option_map, take, true, unwrap_or, ℕ, ◌&&◌, ◌+◌, ◌<◌, ◌==◌, ◌||◌, ◌∷◌, ◌≡◌, ◌≤◌}
-use Rattle.window_order.proofs.WindowEnds.{NoneIsLive}
+use Rattle.window_order.proofs.Cited.{NoneIsLive}
 
 -- Where no run is live
 

@@ -1,8 +1,7 @@
 -- The step of a run in a model with an order, and where no lease is overdue.
 use Rattle.command_rules.specs.Items.{is_ran}
 use Rattle.command_rules.specs.Rosters.{commands_of, run_no}
-use Rattle.history_book.proofs.Searches.{Each}
-use Rattle.history_book.proofs.Standing.{Standing, is_abort, standing}
+use Rattle.history_book.proofs.Cited.{Each, Standing, is_abort, standing}
 use Rattle.history_book.specs.Gaps.{line_for}
 use Rattle.history_book.specs.Histories.{entries_of}
 use Rattle.history_book.specs.Lines.{before}

@@ -1,8 +1,7 @@
 use Rattle.abort_rollback.proofs.NextUndos.{nothing_effective}
 use Rattle.abort_rollback.proofs.withdrawals.withdraw.Goals as goal
-use Rattle.lineage_table.proofs.Sweeps.{changed_all, changed_more, changed_none, removes_nothing}
+use Rattle.lineage_table.proofs.Cited.{changed_all, changed_more, changed_none, not_writer, removes_nothing, without_stands}
 use Rattle.lineage_table.specs.Lineages.{accesses_at, lineage_at, removed, stand_of_lineage}
-use Rattle.lineage_table.proofs.Standing.{not_writer, without_stands}
 use Rattle.lineage_table.specs.Accesses.{effective_writer}
 use Rattle.std.proofs.Common.{ap, ◌∙◌}
 

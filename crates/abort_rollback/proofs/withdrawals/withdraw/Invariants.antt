@@ -1,5 +1,5 @@
 use Rattle.abort_rollback.proofs.withdrawals.withdraw.Given as goal
-use Rattle.lineage_table.proofs.Sweeps.{ChangedUpTo}
+use Rattle.lineage_table.proofs.Cited.{ChangedUpTo}
 use Rattle.lineage_table.specs.Lineages.{removed}
 use Rattle.std.proofs.Common.{length, ◌-◌}
 

@@ -1,6 +1,6 @@
 use Rattle.commit_compaction.proofs.Keeping.{commit_stands}
 use Rattle.commit_compaction.proofs.commits.commit.Goals as goal
-use Rattle.lineage_table.proofs.Sweeps.{changed_all, changed_more, changed_none, commits_nothing}
+use Rattle.lineage_table.proofs.Cited.{changed_all, changed_more, changed_none, commits_nothing}
 use Rattle.lineage_table.specs.Lineages.{committed_lineage, lineage_at, stand_of_lineage}
 use Rattle.std.proofs.Common.{ap, ◌-◌, ◌∙◌}
 

@@ -1,5 +1,5 @@
 use Rattle.commit_compaction.proofs.commits.commit.Given as goal
-use Rattle.lineage_table.proofs.Sweeps.{ChangedUpTo}
+use Rattle.lineage_table.proofs.Cited.{ChangedUpTo}
 use Rattle.lineage_table.specs.Lineages.{committed_lineage}
 use Rattle.std.proofs.Common.{length, ◌-◌}
 

@@ -1,5 +1,5 @@
 use Rattle.day_report.proofs.lines.end_of.Goals as goal
-use Rattle.history_book.proofs.FirstTold.{first_told-places}
+use Rattle.history_book.proofs.Cited.{first_told-places}
 use Rattle.history_book.specs.Books.{end_in}
 use Rattle.std.proofs.Common.{rules}
 

@@ -1,4 +1,4 @@
-use Rattle.status_board.proofs.Publishings.{last_more}
+use Rattle.status_board.proofs.Cited.{last_more}
 use Rattle.day_tests.proofs.boards.publish_many.Goals as goal
 use Rattle.status_board.specs.Publishings.{last_of, nothing}
 use Rattle.status_board.specs.declared.day_counts.Counts.{Counts}

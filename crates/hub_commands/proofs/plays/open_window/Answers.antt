@@ -1,7 +1,7 @@
-use Rattle.hub_core.proofs.SoundWindows.{may_open}
+use Rattle.hub_core.proofs.Cited.{may_open}
 use Rattle.hub_core.specs.HubCalls.{IsOpened}
 use Rattle.hub_commands.proofs.plays.open_window.Goals as goal
-use Rattle.routine_reader.proofs.RosterLemmas.{window-there}
+use Rattle.routine_reader.proofs.Cited.{window-there}
 use Rattle.std.proofs.Common.{subst}
 
 pub open_window-requires : goal.open_window-requires

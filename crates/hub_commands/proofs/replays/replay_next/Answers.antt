@@ -5,7 +5,7 @@ use Rattle.hub_commands.specs.Days.{course_behind}
 use Rattle.hub_commands.specs.Played.{HasGoneOn}
 use Rattle.hub_commands.specs.Ways.{IsReplayOf}
 use Rattle.legal_days.specs.LegalDays.{windows_behind}
-use Rattle.routine_reader.proofs.RosterLemmas.{window-there}
+use Rattle.routine_reader.proofs.Cited.{window-there}
 use Rattle.routine_reader.specs.declared.scripts.Script.{Script}
 use Rattle.routine_reader.specs.declared.scripts.WindowText.{WindowText}
 use Rattle.std.proofs.Common.{List, Some, ap, arith, get_or, length, slice_get, subst, sym, ℕ, ◌++◌, ◌+◌, ◌<◌, ◌∙◌, ◌∷◌, ◌≡◌, []}

@@ -3,7 +3,7 @@ use Rattle.hub_commands.proofs.room_plays.work_rooms.Goals as goal
 use Rattle.hub_commands.specs.RoomPlays.{RoomsWent}
 use Rattle.hub_core.specs.Homes.{setting_for}
 use Rattle.hub_core.specs.Openings.{MayOpen}
-use Rattle.routine_reader.proofs.RosterLemmas.{window-there}
+use Rattle.routine_reader.proofs.Cited.{window-there}
 use Rattle.routine_reader.specs.declared.scripts.WindowText.{WindowText}
 use Rattle.std.proofs.Common.{Some, subst, sym, ◌∙◌, ◌≡◌}
 

@@ -3,7 +3,7 @@ use Rattle.hub_commands.proofs.runs.run_next.Goals as goal
 use Rattle.hub_commands.specs.Days.{new_course}
 use Rattle.hub_commands.specs.Played.{HasGoneOn}
 use Rattle.hub_commands.specs.Ways.{IsRunWithin}
-use Rattle.routine_reader.proofs.RosterLemmas.{window-there}
+use Rattle.routine_reader.proofs.Cited.{window-there}
 use Rattle.std.proofs.Common.{ap, length, slice_get, subst, sym, ◌++◌, ◌<◌, ◌∙◌, ◌∷◌, []}
 
 pub run_opened-requires-clause-fresh : goal.run_opened-requires-clause-fresh

@@ -25,7 +25,7 @@ returns-in-Moved-clause-marks g c =
     marks_moved g.D.Device.shows c.args.window.now c.follow-turn.new.self c.args.r.0 c.args.moment _ _ _
     (model_before c.args.window.now c.follow-turn.new.self false c.follow-turn.ensures.window (sym c.if-is_weak.ensures))
     (sym c.if-is_weak.ensures) c.whole.ensures c.whole-2.ensures
-    (subst (λ t. IsTurn c.args.window.now c.args.r.0 c.args.moment t c.follow-turn.new.self) c.in-Moved.is c.follow-turn.ensures.turn).0 c.requires.marks
+    (subst (λ t. IsTurn c.args.window.now c.args.r.0 c.args.moment t c.follow-turn.new.self) c.in-Moved.is c.follow-turn.ensures.turn) c.requires.marks
     c.free_made.ensures
 
 pub returns-in-Over-clause-marks : goal.returns-in-Over-clause-marks
@@ -33,7 +33,7 @@ returns-in-Over-clause-marks g c =
     marks_over g.D.Device.shows c.args.window.now c.follow-turn.new.self c.args.r.0 c.args.moment _ _ _ _
     (model_before c.args.window.now c.follow-turn.new.self false c.follow-turn.ensures.window (sym c.if-is_weak.ensures))
     (sym c.if-is_weak.ensures) c.whole.ensures c.whole-2.ensures
-    (subst (λ t. IsTurn c.args.window.now c.args.r.0 c.args.moment t c.follow-turn.new.self) c.in-Over.is c.follow-turn.ensures.turn).0 c.requires.marks
+    (subst (λ t. IsTurn c.args.window.now c.args.r.0 c.args.moment t c.follow-turn.new.self) c.in-Over.is c.follow-turn.ensures.turn) c.requires.marks
     c.free_made-in-Over.ensures
 
 pub returns-in-Wait-clause-marks : goal.returns-in-Wait-clause-marks

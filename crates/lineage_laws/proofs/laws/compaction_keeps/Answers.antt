@@ -1,5 +1,5 @@
 use Rattle.lineage_laws.proofs.laws.compaction_keeps.Goals as goal
-use Rattle.lineage_table.proofs.Standing.{settled_stands}
+use Rattle.lineage_table.proofs.Cited.{settled_stands}
 use Rattle.lineage_table.specs.Lineages.{accesses_at, lineage_at}
 
 pub returns : goal.returns

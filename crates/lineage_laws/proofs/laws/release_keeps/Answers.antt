@@ -1,5 +1,5 @@
 use Rattle.lineage_laws.proofs.laws.release_keeps.Goals as goal
-use Rattle.lineage_table.proofs.Standing.{change_stands}
+use Rattle.lineage_table.proofs.Cited.{change_stands}
 use Rattle.lineage_table.specs.Lineages.{accesses_at, lineage_at}
 use Rattle.lineage_table.specs.declared.accesses.Access.{Access}
 use Rattle.lineage_table.specs.declared.accesses.Status.TheVariants.{Released}

@@ -1,4 +1,4 @@
-use Rattle.chain_arena.proofs.Cuts.{values_join}
+use Rattle.chain_arena.proofs.Cited.{values_join}
 use Rattle.chain_arena.specs.Chains.{values_of}
 use Rattle.lineage_table.proofs.Knots.{put_there, there}
 use Rattle.lineage_table.proofs.lineages.put_in.Goals as goal

@@ -2,7 +2,7 @@ use Rattle.home_types.specs.declared.items.Item.TheVariants.{Ran}
 use Rattle.lock_leasing.proofs.Floors.{place_last}
 use Rattle.lock_leasing.proofs.first_places.count_to_run.Goals as goal
 use Rattle.lock_leasing.specs.Counts.{up_to}
-use Rattle.serial_line.proofs.Once.{place_told}
+use Rattle.serial_line.proofs.Cited.{place_told}
 use Rattle.serial_line.specs.Marks.{untouched}
 use Rattle.std.proofs.Common.{ap, sym, ◌∙◌}
 

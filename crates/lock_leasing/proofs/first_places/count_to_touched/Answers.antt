@@ -1,4 +1,4 @@
-use Rattle.command_rules.proofs.LastPlaces.{last_within}
+use Rattle.command_rules.proofs.Cited.{last_within}
 use Rattle.command_rules.specs.Rosters.{commands_of, runs_of}
 use Rattle.lock_leasing.proofs.TouchCounts.{touched_by_set}
 use Rattle.lock_leasing.proofs.first_places.count_to_touched.Goals as goal

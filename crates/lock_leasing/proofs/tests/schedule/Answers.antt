@@ -1,4 +1,4 @@
-use Rattle.lineage_table.proofs.RunAccesses.{found_has}
+use Rattle.lineage_table.proofs.Cited.{found_has}
 use Rattle.lineage_table.specs.Lineages.{accesses_at}
 use Rattle.lock_leasing.proofs.tests.schedule.Goals as goal
 use Rattle.std.proofs.Common.{ap, is_some, sym, ◌∙◌}

@@ -1,4 +1,4 @@
-use Rattle.failure_serialization.proofs.FirstAccesses.{some_found}
+use Rattle.failure_serialization.proofs.Cited.{some_found}
 use Rattle.rule_tests.proofs.failures.has_access.Goals as goal
 use Rattle.lineage_table.specs.Accesses.{is_of}
 use Rattle.lineage_table.specs.Lineages.{accesses_at}

@@ -1,4 +1,4 @@
-use Rattle.failure_serialization.proofs.FirstAccesses.{first_of_all, some_found, some_run}
+use Rattle.failure_serialization.proofs.Cited.{first_of_all, some_found, some_run}
 use Rattle.rule_tests.proofs.failures.some_acquired.Goals as goal
 use Rattle.lineage_table.specs.Accesses.{first_before, is_acquired}
 use Rattle.lineage_table.specs.Lineages.{accesses_at}

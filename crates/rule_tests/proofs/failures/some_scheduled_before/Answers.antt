@@ -1,4 +1,4 @@
-use Rattle.failure_serialization.proofs.FirstAccesses.{some_found, some_run}
+use Rattle.failure_serialization.proofs.Cited.{some_found, some_run}
 use Rattle.rule_tests.proofs.failures.some_scheduled_before.Goals as goal
 use Rattle.lineage_table.specs.Accesses.{accesses_before, first_before, is_scheduled}
 use Rattle.lineage_table.specs.Lineages.{accesses_at}

@@ -1,5 +1,5 @@
 use Rattle.run_replay.proofs.LiveRuns.{front, passed_over}
-use Rattle.blocked_runs.proofs.RunBits.{has_without}
+use Rattle.blocked_runs.proofs.Cited.{has_without}
 use Rattle.run_replay.proofs.live_runs.next_run.Goals as goal
 use Rattle.std.proofs.Common.{rules, sym, ◌<◌, ◌^◌, ◌∙◌}
 

@@ -1,4 +1,4 @@
-use Rattle.blocked_runs.proofs.RunBits.{only_run}
+use Rattle.blocked_runs.proofs.Cited.{only_run}
 use Rattle.run_replay.proofs.live_runs.word_of.Goals as goal
 use Rattle.std.proofs.Common.{arith}
 use Rattle.std.proofs.lemmas.Grind.{common_steps}

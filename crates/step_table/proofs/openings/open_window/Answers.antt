@@ -1,5 +1,5 @@
-use Rattle.hub_core.proofs.SoundWindows.{may_open}
-use Rattle.routine_reader.proofs.RosterLemmas.{window-there}
+use Rattle.hub_core.proofs.Cited.{may_open}
+use Rattle.routine_reader.proofs.Cited.{window-there}
 use Rattle.std.proofs.Common.{arith}
 use Rattle.std.specs.Prelude.{◌≤◌}
 use Rattle.step_table.proofs.openings.open_window.Goals as goal

@@ -1,4 +1,4 @@
-use Rattle.lineage_table.proofs.Knots.{read}
+use Rattle.lineage_table.proofs.Cited.{read}
 use Rattle.lineage_table.specs.Accesses.{IsDisciplined, access_of}
 use Rattle.lineage_table.specs.Knots.{IsKnotOf}
 use Rattle.std.proofs.Common.{ap, subst, sym, ◌∙◌}

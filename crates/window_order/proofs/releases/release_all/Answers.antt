@@ -1,6 +1,6 @@
 use Rattle.window_order.proofs.PassedRuns.{dooms_nothing}
 use Rattle.window_order.proofs.releases.release_all.Goals as goal
-use Rattle.lineage_table.proofs.Sweeps.{changed_all, changed_more, changed_none}
+use Rattle.lineage_table.proofs.Cited.{changed_all, changed_more, changed_none}
 use Rattle.window_order.specs.TableChanges.{doomed_unless}
 
 pub devices-init : goal.devices-init

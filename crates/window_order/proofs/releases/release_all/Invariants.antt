@@ -1,5 +1,5 @@
 use Rattle.window_order.proofs.releases.release_all.Given as goal
-use Rattle.lineage_table.proofs.Sweeps.{ChangedUpTo}
+use Rattle.lineage_table.proofs.Cited.{ChangedUpTo}
 use Rattle.std.proofs.Common.{length, ◌-◌}
 use Rattle.window_order.specs.TableChanges.{doomed_unless}
 

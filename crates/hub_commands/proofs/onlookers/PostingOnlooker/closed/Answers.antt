@@ -1,7 +1,7 @@
 use Rattle.hub_commands.proofs.PublishedDays.{before_fewer, counts_added, counts_are, each_more}
 use Rattle.hub_commands.proofs.onlookers.PostingOnlooker.closed.Goals as goal
 use Rattle.hub_commands.specs.Boards.{counts_each, counts_of}
-use Rattle.status_board.proofs.Publishings.{last_more}
+use Rattle.status_board.proofs.Cited.{last_more}
 use Rattle.status_board.specs.Publishings.{last_of, nothing}
 use Rattle.status_board.specs.declared.day_counts.Counts.{Counts}
 use Rattle.std.proofs.Common.{ap, ap₂, arith, refl, subst, sym, List, [], ◌+◌, ◌++◌, ◌∙◌, ◌∷◌, ◌≤◌}

@@ -1,6 +1,5 @@
 use Rattle.device_gate.specs.declared.slips.Slip.{Slip}
 use Rattle.hub_core.proofs.kept.BlockedMarks.{none_blocked}
-use Rattle.history_book.specs.Histories.{entries_made}
 use Rattle.hub_core.proofs.calls.FinalItems.{probe_given_sealed, seen_so}
 use Rattle.hub_core.proofs.calls.HubMarks.{marks_probe_given, model_before}
 use Rattle.hub_core.proofs.calls.Placings.{kept_for}
@@ -23,7 +22,7 @@ invariant_of-self-else-is_weak g c = record {
       (sym c.if-is_weak.ensures) c.whole.ensures c.whole-in-Ok.ensures
       (subst (λ made. IsProbeGiven c.self.inside.window c.args.grip made c.give_probe.new.self) c.in-Ok.is c.give_probe.ensures.given) c.self.invariant.marks
       (subst (λ (x : Slip). AreLeft c.self.inside.blocked c.free_back.new.blocked (λ e. IsAnsweredStill (configuration_of c.give_probe.new.self) x.device.0
-      (entries_made c.in-Ok.made) ⊎ ((e ≢ x.device.0) × (list_all (is_quiet c.give_probe.new.self.setting e) (entries_made c.in-Ok.made) ≡ true))))
+      c.in-Ok.made ⊎ ((e ≢ x.device.0) × (list_all (is_quiet c.give_probe.new.self.setting e) c.in-Ok.made ≡ true))))
       c.slip.ensures c.free_back.ensures);
   scratch = kept_for c.self.inside.window c.give_probe.new.self c.self.inside.scratch c.give_probe.ensures.window c.self.invariant.scratch;
 }

@@ -1,5 +1,6 @@
 use Rattle.command_rules.specs.Rosters.{run_no}
-use Rattle.history_book.proofs.HistoryReads.{takes_first}
+use Rattle.history_book.proofs.Cited.{takes_first}
+use Rattle.history_book.specs.Packed.{entries_made}
 use Rattle.history_book.specs.ReadHistories.{HistoryState}
 use Rattle.history_book.specs.Settings.{is_weak}
 use Rattle.history_book.specs.declared.entries.Entry.TheVariants.{Did}
@@ -8,7 +9,6 @@ use Rattle.hub_core.proofs.calls.Deaths.{after_death, death_entries, death_follo
 use Rattle.hub_core.proofs.calls.Homecomings.{CameHome, back_given, grip_back, may_come}
 use Rattle.hub_core.proofs.calls.HubChanges.{doom_follows}
 use Rattle.hub_core.proofs.calls.HubReturns.{command_back}
-use Rattle.hub_core.proofs.calls.PackedEntries.{three_packed}
 use Rattle.hub_core.proofs.open_windows.OpenWindow.answer_died.Goals as goal
 use Rattle.hub_core.proofs.steps.LastAnswers.{just_answered}
 use Rattle.hub_core.specs.declared.open_windows.OpenWindow.TheInside.{Inside}
@@ -121,8 +121,7 @@ returns g c =
       doomed = c.doom_for-doomed.ensures.history;
     }) c.self.invariant in
     let made = back_given c.self.inside t c.args.self.now c.args.moment (Commands c.args.k) c.args.grip _
-    (record { a = Some c.note_fall-fell.result.entry; b = Some (Did (run_no c.slip-slip.result.maker) c.args.k Down); c = c.doom_for-doomed.result })
+    (entries_made (record { a = Some c.note_fall-fell.result.entry; b = Some (Did (run_no c.slip-slip.result.maker) c.args.k Down); c = c.doom_for-doomed.result }))
     c.self.view_is c.requires.maker c.max-self-inside.ensures back
-    (death_made c.slip-slip.result c.args.k c.died_by-cause.result _ _ _ c.note_fall-fell.ensures.entry refl c.doom_for-doomed.ensures.entry)
-    (three_packed _ _ _) c.self.invariant in
+    (death_made c.slip-slip.result c.args.k c.died_by-cause.result _ _ _ c.note_fall-fell.ensures.entry refl c.doom_for-doomed.ensures.entry) c.self.invariant in
     record { given = made.given; window = made.window }

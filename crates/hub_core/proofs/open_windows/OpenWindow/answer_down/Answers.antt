@@ -1,11 +1,11 @@
 use Rattle.serial_line.specs.Marks.{Marked}
-use Rattle.history_book.proofs.HistoryReads.{takes_first}
+use Rattle.history_book.proofs.Cited.{takes_first}
+use Rattle.history_book.specs.Packed.{entries_made}
 use Rattle.history_book.specs.Settings.{is_weak}
 use Rattle.history_book.specs.declared.entries.Entry.TheVariants.{Did}
 use Rattle.home_types.specs.declared.commands.Answer.TheVariants.{Down}
 use Rattle.hub_core.proofs.calls.HubChanges.{Going, chosen_here, doom_follows, entered_answers, takes_here}
 use Rattle.hub_core.proofs.calls.HubOrders.{down_made, down_place, may_tell_down, told_enters, told_place, told_takes, told_whole}
-use Rattle.hub_core.proofs.calls.PackedEntries.{two_packed}
 use Rattle.hub_core.proofs.open_windows.OpenWindow.answer_down.Goals as goal
 use Rattle.hub_core.proofs.steps.LastAnswers.{just_answered}
 use Rattle.history_book.specs.ReadHistories.{HistoryState}
@@ -84,7 +84,7 @@ invariant_of-self g c =
 pub returns-clause-answer : goal.returns-clause-answer
 returns-clause-answer g c =
     let t : Inside g.row.D.Denot = record c.self.inside { history = c.doom_for-doomed.new.history; moment = c.max-self-inside.result; order = c.doom_for-doomed.new.order } in
-    entered_answers c.self.inside t c.args.self.now c.args.r.0 c.args.moment _ (record { a = Some (Did c.args.r c.args.k Down); b = c.doom_for-doomed.result; c = None }) c.self.view_is
+    entered_answers c.self.inside t c.args.self.now c.args.r.0 c.args.moment _ (entries_made (record { a = Some (Did c.args.r c.args.k Down); b = c.doom_for-doomed.result; c = None })) c.self.view_is
     (told_enters c.self.inside t c.args.r.0 c.args.moment c.args.k c.args.must c.command.result c.must_down.result c.push.new.self _ c.note_answer.new.order (chosen_here c.self.inside c.args.self.now c.args.r.0 c.args.moment (AnswersDown c.args.k c.args.must) c.self.view_is c.requires)
     (λ i. record c.self.inside { history = c.doom_for-doomed.new.history; moment = c.max-self-inside.ensures i; order = c.doom_for-doomed.new.order }) (record {
       command = c.command.ensures;
@@ -102,6 +102,3 @@ returns-clause-answer g c =
       unchanged = c.doom_for-doomed.ensures.table;
       changed = c.doom_for-doomed.ensures.doomed;
     })) (down_made c.args.r.0 c.args.k c.must_down.result _ c.doom_for-doomed.result refl c.doom_for-doomed.ensures.entry)
-
-pub returns-clause-packed : goal.returns-clause-packed
-returns-clause-packed g c = two_packed _ _

@@ -1,6 +1,7 @@
 use Rattle.command_rules.specs.Rosters.{run_no}
 use Rattle.device_gate.specs.Calls.{answer_told}
-use Rattle.history_book.proofs.HistoryReads.{takes_first}
+use Rattle.history_book.proofs.Cited.{takes_first}
+use Rattle.history_book.specs.Packed.{entries_made}
 use Rattle.history_book.specs.ReadHistories.{HistoryState, with_doom}
 use Rattle.history_book.specs.Readings.{is_access}
 use Rattle.history_book.specs.Settings.{is_weak}
@@ -8,7 +9,6 @@ use Rattle.history_book.specs.declared.entries.Entry.TheVariants.{Did}
 use Rattle.hub_core.proofs.calls.Homecomings.{CameHome, back_given, grip_back, may_come}
 use Rattle.hub_core.proofs.calls.HubChanges.{answer_entries, doom_follows}
 use Rattle.hub_core.proofs.calls.HubReturns.{answer_made, answer_place, answered_back, command_back, doom_place, takes_answer}
-use Rattle.hub_core.proofs.calls.PackedEntries.{two_packed}
 use Rattle.hub_core.proofs.calls.ReturnedOrders.{answered_whole, may_tell}
 use Rattle.hub_core.proofs.open_windows.OpenWindow.answer_lived.Goals as goal
 use Rattle.hub_core.proofs.steps.Gives.{told_access}
@@ -129,8 +129,7 @@ returns g c =
       doomed = c.doom_for-doomed.ensures.history;
     }) in
     let made = back_given c.self.inside t c.args.self.now c.args.moment (Commands c.args.k) c.args.grip _
-    (record { a = Some (Did (run_no c.slip-slip.result.maker) c.args.k c.answer-answer.result); b = c.doom_for-doomed.result; c = None }) c.self.view_is
+    (entries_made (record { a = Some (Did (run_no c.slip-slip.result.maker) c.args.k c.answer-answer.result); b = c.doom_for-doomed.result; c = None })) c.self.view_is
     c.requires.maker c.max-self-inside.ensures back
-    (answer_made c.slip-slip.result c.args.k c.answer-answer.result c.refuted-cause.result _ _ refl c.doom_for-doomed.ensures.entry)
-    (two_packed _ _) c.self.invariant in
+    (answer_made c.slip-slip.result c.args.k c.answer-answer.result c.refuted-cause.result _ _ refl c.doom_for-doomed.ensures.entry) c.self.invariant in
     record { given = made.given; window = made.window }

@@ -3,7 +3,7 @@ use Rattle.home_types.specs.declared.commands.Command.{Command}
 use Rattle.hub_core.proofs.calls.HubChoices.{command_revokes, command_stays}
 use Rattle.hub_core.proofs.open_windows.OpenWindow.decide_command.Goals as goal
 use Rattle.hub_core.specs.OpenHubs.{OpenHub, configuration_of}
-use Rattle.lock_leasing.proofs.Meetings.{asks_at}
+use Rattle.lock_leasing.proofs.Cited.{asks_at}
 use Rattle.lock_leasing.specs.Configurations.{point_of}
 use Rattle.lock_leasing.specs.Standings.{IsAsking, IsAtCommand}
 use Rattle.std.proofs.Common.{subst}

@@ -28,4 +28,4 @@ returns-clause-answer g c =
     entered_answers c.self.inside t c.args.self.now c.args.r.0 c.args.moment _ c.one_made.result c.self.view_is (record {
       chosen = chosen_here c.self.inside c.args.self.now c.args.r.0 c.args.moment (Drops c.args.d) c.self.view_is c.requires;
       new = λ i. record c.self.inside { history = c.push.ensures i; moment = c.max-self-inside.ensures i; order = c.undone.new.self };
-    }) c.one_made.ensures.entries
+    }) c.one_made.ensures

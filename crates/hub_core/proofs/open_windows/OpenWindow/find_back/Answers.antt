@@ -33,5 +33,5 @@ returns g c =
     let made = risen_given c.self.inside t c.args.self.now c.args.grip c.slip.result c.come_home-came.result.events c.one_made.result
     (record { seen = c.self.view_is; there = c.requires.kept; maker = c.requires.maker; called = c.come_home-came.ensures.called; same = c.slip.ensures })
     (record { down = c.requires.down; lives = c.requires.lives; events_are = c.come_home-came.ensures.events })
-    (record { later = omega arith; home = c.come_home-came.ensures.home; new = refl }) refl (record { history = c.note_rise.ensures.history; rises = c.note_rise.ensures.order }) (c.one_made.ensures.entries ∙ ap (λ e. e ∷ []) c.note_rise.ensures.entry) c.one_made.ensures.packed c.self.invariant in
+    (record { later = omega arith; home = c.come_home-came.ensures.home; new = refl }) refl (record { history = c.note_rise.ensures.history; rises = c.note_rise.ensures.order }) (c.one_made.ensures ∙ ap (λ e. e ∷ []) c.note_rise.ensures.entry) c.self.invariant in
     record { given = made.given; window = made.window }

@@ -1,5 +1,5 @@
+use Rattle.history_book.specs.Packed.{entries_made}
 use Rattle.hub_core.proofs.calls.Homecomings.{may_come}
-use Rattle.hub_core.proofs.calls.PackedEntries.{two_packed}
 use Rattle.hub_core.proofs.calls.ProbesFound.{dead_follows, dead_may, fallen_given, fallen_made, fallen_whole, lost_fits}
 use Rattle.hub_core.proofs.open_windows.OpenWindow.find_dead.Goals as goal
 use Rattle.hub_core.specs.declared.open_windows.OpenWindow.TheInside.{Inside}
@@ -64,7 +64,7 @@ pub returns : goal.returns
 returns g c =
     let t : Inside g.row.D.Denot = record c.self.inside { history = c.doom_lost-doomed.new.history; away = c.come_home-came.new.self; order = c.doom_lost-doomed.new.order } in
     let made = fallen_given c.self.inside t c.args.self.now c.args.grip c.slip.result c.come_home-came.result.events c.note_fall-fell.result.lost
-    c.note_fall-fell.new.history c.note_fall-fell.new.order (record { a = Some c.note_fall-fell.result.entry; b = c.doom_lost-doomed.result; c = None })
+    c.note_fall-fell.new.history c.note_fall-fell.new.order (entries_made (record { a = Some c.note_fall-fell.result.entry; b = c.doom_lost-doomed.result; c = None }))
     (record { seen = c.self.view_is; there = c.requires.kept; maker = c.requires.maker; called = c.come_home-came.ensures.called; same = c.slip.ensures })
     (record { up = c.requires.up; died = c.requires.died; events_are = c.come_home-came.ensures.events })
     (record { later = omega arith; home = c.come_home-came.ensures.home; new = refl }) refl (record {
@@ -75,5 +75,5 @@ returns g c =
       line = c.doom_lost-doomed.ensures.line;
       table = c.doom_lost-doomed.ensures.table;
     }) (fallen_made c.slip.result.device c.note_fall-fell.result.lost c.note_fall-fell.result.entry c.doom_lost-doomed.result c.note_fall-fell.ensures.entry
-    c.doom_lost-doomed.ensures.entry) (two_packed _ _) c.self.invariant in
+    c.doom_lost-doomed.ensures.entry) c.self.invariant in
     record { given = made.given; window = made.window }

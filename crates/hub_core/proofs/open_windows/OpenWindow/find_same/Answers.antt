@@ -1,10 +1,8 @@
 use Rattle.hub_core.proofs.calls.Homecomings.{may_come}
-use Rattle.hub_core.proofs.calls.PackedEntries.{none_packed}
 use Rattle.hub_core.proofs.calls.ProbesFound.{same_given, same_whole}
 use Rattle.hub_core.proofs.open_windows.OpenWindow.find_same.Goals as goal
 use Rattle.hub_core.specs.declared.open_windows.OpenWindow.TheInside.{Inside}
-use Rattle.std.proofs.Common.{arith, refl}
-use Rattle.std.specs.Prelude.{None}
+use Rattle.std.proofs.Common.{[], arith, refl}
 
 pub come_home-requires : goal.come_home-requires
 come_home-requires g c = record { may = may_come c.self.inside c.args.self.now c.args.grip c.self.view_is c.requires.kept c.self.invariant }
@@ -17,6 +15,6 @@ invariant_of-self g c =
 pub returns : goal.returns
 returns g c =
     let t : Inside g.row.D.Denot = record c.self.inside { away = c.come_home.new.self } in
-    let made = same_given c.self.inside t c.args.self.now c.args.grip c.args.grip.slip (record { a = None; b = None; c = None }) (record { seen = c.self.view_is; there = c.requires.kept; maker = c.requires.maker; called = c.come_home.ensures.called; same = refl }) c.requires.same
-    (record { later = omega arith; home = c.come_home.ensures.home; new = refl }) refl refl refl none_packed c.self.invariant in
+    let made = same_given c.self.inside t c.args.self.now c.args.grip c.args.grip.slip [] (record { seen = c.self.view_is; there = c.requires.kept; maker = c.requires.maker; called = c.come_home.ensures.called; same = refl }) c.requires.same
+    (record { later = omega arith; home = c.come_home.ensures.home; new = refl }) refl refl refl c.self.invariant in
     record { given = made.given; window = made.window }

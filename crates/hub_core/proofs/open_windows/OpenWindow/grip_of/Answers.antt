@@ -1,6 +1,6 @@
 use Rattle.command_rules.specs.Rosters.{is_run}
 use Rattle.hub_core.proofs.calls.Departures.{is_there}
-use Rattle.history_book.proofs.HistoryReads.{run_place}
+use Rattle.history_book.proofs.Cited.{run_place}
 use Rattle.hub_core.proofs.open_windows.OpenWindow.grip_of.Goals as goal
 use Rattle.hub_core.specs.HubsKept.{open_of}
 use Rattle.hub_core.specs.OpenHubs.{configuration_of}

@@ -51,4 +51,4 @@ returns-clause-answer g c =
     entered_answers c.self.inside t c.args.self.now c.args.r.0 c.args.moment _ c.one_made.result c.self.view_is (record {
       chosen = chosen_here c.self.inside c.args.self.now c.args.r.0 c.args.moment (Skips c.args.k) c.self.view_is c.requires;
       new = λ i. record c.self.inside { history = c.push.ensures i; moment = c.max-self-inside.ensures i; order = c.leave_skipped.new.order };
-    }) c.one_made.ensures.entries
+    }) c.one_made.ensures

@@ -1,9 +1,9 @@
 use Rattle.command_rules.specs.Rosters.{run_no}
+use Rattle.history_book.specs.Packed.{entries_made}
 use Rattle.history_book.specs.declared.entries.Entry.TheVariants.{Undid}
 use Rattle.hub_core.proofs.calls.Deaths.{drop_follows, drop_may, drop_place, dropped_back, dropped_entries, dropped_whole, undo_follows}
 use Rattle.hub_core.proofs.calls.Homecomings.{CameHome, back_given, grip_back, may_come}
 use Rattle.hub_core.proofs.calls.HubReturns.{undone_value}
-use Rattle.hub_core.proofs.calls.PackedEntries.{two_packed}
 use Rattle.hub_core.proofs.open_windows.OpenWindow.undo_died.Goals as goal
 use Rattle.hub_core.specs.OpenHubs.{progress_at}
 use Rattle.hub_core.specs.declared.open_windows.OpenWindow.TheInside.{Inside}
@@ -68,7 +68,7 @@ returns g c =
       order = c.note_fall-fell.ensures.order;
     }) in
     let made = back_given c.self.inside t c.args.self.now c.args.moment (Undoes value.0) c.args.grip _
-    (record { a = Some c.note_fall-fell.result.entry; b = Some (Undid (run_no c.slip-slip.result.maker) c.slip-slip.result.device false); c = None })
+    (entries_made (record { a = Some c.note_fall-fell.result.entry; b = Some (Undid (run_no c.slip-slip.result.maker) c.slip-slip.result.device false); c = None }))
     c.self.view_is c.requires.maker c.max-self-inside.ensures back
-    (λ i. c.note_fall-fell.ensures.entry i ∷ Undid (run_no c.slip-slip.result.maker) c.slip-slip.result.device false ∷ []) (two_packed _ _) c.self.invariant in
+    (λ i. c.note_fall-fell.ensures.entry i ∷ Undid (run_no c.slip-slip.result.maker) c.slip-slip.result.device false ∷ []) c.self.invariant in
     record { given = made.given; window = made.window }

@@ -32,5 +32,5 @@ returns g c =
     let t : Inside g.row.D.Denot = record c.self.inside { history = c.push.new.self; moment = c.max-self-inside.result; away = c.come_home.new.self } in
     let back = undone_back c.self.inside t value.0 c.args.grip c.slip-slip.result (grip_back c.self.inside c.args.self.now (Undoes value.0) c.args.grip c.self.view_is c.requires.kept value.1 c.come_home.ensures.called)
     (record { later = omega (arith, c.max-self-inside.ensures); home = c.come_home.ensures.home; new = refl }) c.slip-slip.ensures c.requires.lives c.push.ensures in
-    let made = back_given c.self.inside t c.args.self.now c.args.moment (Undoes value.0) c.args.grip _ c.one_made.result c.self.view_is c.requires.maker c.max-self-inside.ensures back c.one_made.ensures.entries c.one_made.ensures.packed c.self.invariant in
+    let made = back_given c.self.inside t c.args.self.now c.args.moment (Undoes value.0) c.args.grip _ c.one_made.result c.self.view_is c.requires.maker c.max-self-inside.ensures back c.one_made.ensures c.self.invariant in
     record { given = made.given; window = made.window }

@@ -1,4 +1,4 @@
-use Rattle.history_book.specs.Histories.{entries_made, kept_by}
+use Rattle.history_book.specs.Histories.{kept_by}
 use Rattle.hub_core.specs.HubCalls.{carried_by}
 use Rattle.hub_core.specs.OpenHubs.{OpenHub}
 use Rattle.hub_threads.proofs.Added.{given_adds}
@@ -21,4 +21,4 @@ invariant_of-self g c =
     c.come_home.ensures.name (cleared g.N.Name.desk (carried_by c.args.grip) c.args.pass c.self.inside.desk.out c.come_home.new.self.out c.requires.pass.0 c.come_home.ensures.out)
 
 pub returns-clause-appended : goal.returns-clause-appended
-returns-clause-appended g c = subst (λ (s : OpenHub _). c.give.new.self.history ≡ s.history ++ kept_by c.args.grip.slip.maker (entries_made c.in-Ok.made)) c.self.view_is (given_adds c.self.inside.hub c.give.new.self c.args.grip c.args.moment c.in-Ok.made c.in-Ok.ensures.given).history
+returns-clause-appended g c = subst (λ (s : OpenHub _). c.give.new.self.history ≡ s.history ++ kept_by c.args.grip.slip.maker c.in-Ok.made) c.self.view_is (given_adds c.self.inside.hub c.give.new.self c.args.grip c.args.moment c.in-Ok.made c.in-Ok.ensures.given).history

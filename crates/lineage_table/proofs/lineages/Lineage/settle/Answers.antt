@@ -1,4 +1,4 @@
-use Rattle.chain_arena.proofs.Cuts.{length_values}
+use Rattle.chain_arena.proofs.Cited.{length_values}
 use Rattle.chain_arena.specs.Chains.{has_knot, value_at, values_of, without}
 use Rattle.lineage_table.proofs.Keeping.{drop_keeps, found_by_value, settled_state, wrote_there}
 use Rattle.lineage_table.proofs.Knots.{at_now, left, left_has, left_length, left_value, read_in_place}

@@ -1,4 +1,4 @@
-use Rattle.home_types.proofs.DeviceBits.{contains_insert}
+use Rattle.home_types.proofs.Cited.{contains_insert}
 use Rattle.lineage_table.proofs.RunAccesses.{found_has}
 use Rattle.lineage_table.proofs.RunSets.{lineage_here, none_chosen, one_chosen}
 use Rattle.lineage_table.proofs.tables.Table.search_among.Goals as goal

@@ -80,4 +80,4 @@ returns g c =
           (λ i. c.moment-now.ensures i + c.from.result)
           ∙ ap (λ n. c.self.inside.hub.moment + n) (c.from.ensures ∙ c.takes.ensures ∙ ap (λ x. grip_takes c.self.inside.hub.setting
           (grip_in (slice_get c.self.inside.hub.places x.device.0) (progress_at c.self.inside.hub.devices x.device.0).purpose)) c.slip.ensures);
-    }) c.act.ensures.plan c.in-Ok.ensures.given.3 c.bounded-in-Some.ensures.history)
+    }) c.act.ensures.plan c.bounded-in-Some.ensures.history)

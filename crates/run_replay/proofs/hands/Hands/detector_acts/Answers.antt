@@ -57,4 +57,4 @@ returns g c =
       rounds = refl;
       place = refl;
       moves = refl;
-    }) c.act.ensures.plan c.in-Ok.ensures.given.3)
+    }) c.act.ensures.plan)

@@ -1,7 +1,6 @@
 use Rattle.run_replay.proofs.Counted.{few_after, moves_low}
 use Rattle.run_replay.proofs.PlayerSteps.{counted_picks, passed_picks}
 use Rattle.run_replay.proofs.hands.Hands.pick.Goals as goal
-use Rattle.run_replay.specs.Players.{picked_of}
 use Rattle.std.proofs.Common.{sym, ◌∙◌}
 
 pub returns-then-has_ended-clause-picked : goal.returns-then-has_ended-clause-picked
@@ -20,5 +19,5 @@ returns-clause-picked g c =
 pub returns-clause-few : goal.returns-clause-few
 returns-clause-few g c =
     let steps = c.step-picked.ensures in
-    few_after c.args.self.now c.step-picked.new.self c.count.new.self (picked_of c.step-picked.result) steps.stays.window steps.stays.rounds
+    few_after c.args.self.now c.step-picked.new.self c.count.new.self c.step-picked.result steps.stays.window steps.stays.rounds
     steps.moves steps.fewer steps.left c.count.ensures c.requires.few

@@ -13,7 +13,7 @@ pub invariant_of-self-in-Moved : goal.invariant_of-self-in-Moved
 invariant_of-self-in-Moved g c =
     answered_keeps _ _ c.args.r.0 _ (record {
       free = free_of _ _ c.args.r.0 c.self.view_is c.self.invariant c.requires.run c.requires.going c.requires.empty;
-      answers = answers_now _ _ _ _ _ c.moment-now.ensures c.in-Moved.ensures.turn.0;
+      answers = answers_now _ _ _ _ _ c.moment-now.ensures c.in-Moved.ensures.turn;
       window = c.in-Moved.ensures.window;
       grips = refl;
       rounds = refl;
@@ -23,9 +23,9 @@ invariant_of-self-in-Moved g c =
 
 pub returns-in-Moved : goal.returns-in-Moved
 returns-in-Moved g c =
-    steps_now _ _ _ _ c.args.r.0 _ c.self.view_is (made_steps g.D.Device.shows _ _ c.args.r.0 _ c.in-Moved.made refl refl c.in-Moved.ensures.turn.1 (record {
+    steps_now _ _ _ _ c.args.r.0 _ c.self.view_is (made_steps g.D.Device.shows _ _ c.args.r.0 _ c.in-Moved.made refl refl (record {
       free = free_of _ _ c.args.r.0 c.self.view_is c.self.invariant c.requires.run c.requires.going c.requires.empty;
-      answers = answers_now _ _ _ _ _ c.moment-now.ensures c.in-Moved.ensures.turn.0;
+      answers = answers_now _ _ _ _ _ c.moment-now.ensures c.in-Moved.ensures.turn;
       window = c.in-Moved.ensures.window;
       grips = refl;
       rounds = refl;
@@ -37,7 +37,7 @@ pub invariant_of-self-in-Over : goal.invariant_of-self-in-Over
 invariant_of-self-in-Over g c =
     answered_keeps _ _ c.args.r.0 _ (record {
       free = free_of _ _ c.args.r.0 c.self.view_is c.self.invariant c.requires.run c.requires.going c.requires.empty;
-      answers = answers_now _ _ _ _ _ c.moment-now.ensures c.in-Over.ensures.turn.0;
+      answers = answers_now _ _ _ _ _ c.moment-now.ensures c.in-Over.ensures.turn;
       window = c.in-Over.ensures.window;
       grips = refl;
       rounds = refl;
@@ -47,9 +47,9 @@ invariant_of-self-in-Over g c =
 
 pub returns-in-Over : goal.returns-in-Over
 returns-in-Over g c =
-    steps_now _ _ _ _ c.args.r.0 _ c.self.view_is (made_steps g.D.Device.shows _ _ c.args.r.0 _ c.in-Over.made refl refl c.in-Over.ensures.turn.1 (record {
+    steps_now _ _ _ _ c.args.r.0 _ c.self.view_is (made_steps g.D.Device.shows _ _ c.args.r.0 _ c.in-Over.made refl refl (record {
       free = free_of _ _ c.args.r.0 c.self.view_is c.self.invariant c.requires.run c.requires.going c.requires.empty;
-      answers = answers_now _ _ _ _ _ c.moment-now.ensures c.in-Over.ensures.turn.0;
+      answers = answers_now _ _ _ _ _ c.moment-now.ensures c.in-Over.ensures.turn;
       window = c.in-Over.ensures.window;
       grips = refl;
       rounds = refl;

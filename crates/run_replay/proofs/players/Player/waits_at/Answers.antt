@@ -1,9 +1,8 @@
 use Rattle.run_replay.proofs.players.Player.waits_at.Goals as goal
-use Rattle.run_replay.specs.Players.{picked_of}
 use Rattle.std.proofs.Common.{sym, ◌∙◌}
 
 pub returns-clause-picked : goal.returns-clause-picked
-returns-clause-picked g c = record { picked = picked_of c.pick-picked.result; waits_so = sym c.has_waited.ensures; picks = c.pick-picked.ensures.picks }
+returns-clause-picked g c = record { picked = c.pick-picked.result; waits_so = sym c.has_waited.ensures; picks = c.pick-picked.ensures.picks }
 
 pub returns-clause-stays : goal.returns-clause-stays
 returns-clause-stays g c = c.pick-picked.ensures.stays

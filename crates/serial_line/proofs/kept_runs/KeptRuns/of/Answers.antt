@@ -1,4 +1,4 @@
-use Rattle.command_rules.proofs.RosterReads.{commands_at, leader_at}
+use Rattle.command_rules.proofs.Cited.{commands_at, leader_at}
 use Rattle.command_rules.specs.Rosters.{is_on, plain_run, runs_of}
 use Rattle.home_types.specs.declared.commands.Command.{Command}
 use Rattle.serial_line.proofs.KeptRuns.{AreFirstKept, all_kept, one_kept}

@@ -1,4 +1,4 @@
-use Rattle.command_rules.proofs.ClosedBrought.{may_exchange, moved, pass_there, starts}
+use Rattle.command_rules.proofs.Cited.{may_exchange, moved, pass_there, starts}
 use Rattle.command_rules.specs.Apart.{meet}
 use Rattle.command_rules.specs.ClosedSets.{are_apart}
 use Rattle.serial_line.proofs.Neighbours.{apart_items}

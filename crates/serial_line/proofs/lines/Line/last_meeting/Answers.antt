@@ -1,4 +1,4 @@
-use Rattle.command_rules.proofs.LastPlaces.{last_before}
+use Rattle.command_rules.proofs.Cited.{last_before}
 use Rattle.serial_line.proofs.lines.Line.last_meeting.Goals as goal
 use Rattle.serial_line.specs.Marks.{meets}
 use Rattle.std.proofs.Common.{ap, sym, ◌∙◌}

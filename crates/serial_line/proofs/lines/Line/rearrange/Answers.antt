@@ -1,5 +1,4 @@
-use Rattle.command_rules.proofs.ClosedBrought.{length_moved}
-use Rattle.command_rules.proofs.ClosedMoved.{begins, first_held, flag_is, front_chosen, front_size, further, partly, passed_more, passes, size_more, size_same, stays, there}
+use Rattle.command_rules.proofs.Cited.{begins, first_held, flag_is, front_chosen, front_size, further, length_moved, partly, passed_more, passes, size_more, size_same, stays, there}
 use Rattle.command_rules.specs.ClosedSets.{brought, may_pass}
 use Rattle.serial_line.proofs.Neighbours.{closed_marks}
 use Rattle.serial_line.proofs.lines.Line.rearrange.Goals as goal

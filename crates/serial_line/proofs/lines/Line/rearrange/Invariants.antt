@@ -1,4 +1,4 @@
-use Rattle.command_rules.proofs.ClosedMoved.{front_chosen, partly}
+use Rattle.command_rules.proofs.Cited.{front_chosen, partly}
 use Rattle.serial_line.proofs.lines.Line.rearrange.Given as goal
 use Rattle.std.proofs.Common.{length, ◌≡◌}
 

@@ -1,4 +1,4 @@
-use Rattle.command_rules.proofs.Indexes.{device_below}
+use Rattle.command_rules.proofs.Cited.{device_below}
 use Rattle.command_rules.specs.Rosters.{commands_of, runs_of}
 use Rattle.home_types.specs.Limits.{most_devices}
 use Rattle.std.proofs.Common.{ap, arith, length, refl, sym, ◌<◌, ◌∙◌}

@@ -1,6 +1,6 @@
 use Rattle.home_types.specs.declared.items.Item.TheVariants.{Ran}
 use Rattle.window_order.proofs.kept_orders.KeptOrder.join.Goals as goal
-use Rattle.serial_line.proofs.Fronts.{front_inserted}
+use Rattle.serial_line.proofs.Cited.{front_inserted}
 use Rattle.serial_line.specs.Marks.{untouched}
 use Rattle.std.proofs.Common.{arith}
 

@@ -1,5 +1,5 @@
 use Rattle.window_order.proofs.kept_orders.KeptOrder.settle.Goals as goal
-use Rattle.serial_line.proofs.Sealed.{front_settling}
+use Rattle.serial_line.proofs.Cited.{front_settling}
 use Rattle.std.proofs.Common.{arith}
 
 pub seal-requires : goal.seal-requires

@@ -1,6 +1,6 @@
 use Rattle.home_types.specs.declared.items.Item.TheVariants.{Ran}
 use Rattle.window_order.proofs.kept_orders.KeptOrder.withdraw.Goals as goal
-use Rattle.serial_line.proofs.Sealed.{front_without}
+use Rattle.serial_line.proofs.Cited.{front_without}
 use Rattle.serial_line.specs.Marks.{stands}
 use Rattle.std.proofs.Common.{ap, arith, sym, take, ◌∙◌}
 

@@ -1,6 +1,0 @@
-use Rattle.hub_core.proofs.homes.script_kinds.Given as goal
-use Rattle.std.proofs.Common.{map, take, ◌≡◌}
-
--- the kinds of the devices up to here
-abbrev pub invariant-texts : goal.invariant-texts
-invariant-texts l = l.kinds.items ≡ map (λ d. d.kind) (take l.text-index l.script.devices.items)

@@ -1,7 +1,0 @@
-use Rattle.hub_core.proofs.homes.start_world.Given as goal
-use Rattle.routine_reader.specs.Rosters.{start_stand}
-use Rattle.std.proofs.Common.{map, take, ◌≡◌}
-
--- the devices up to here are up at their starts
-abbrev pub invariant-texts : goal.invariant-texts
-invariant-texts l = l.devices.items ≡ map start_stand (take l.text-index l.script.devices.items)
