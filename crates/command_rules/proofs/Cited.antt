@@ -1,19 +1,19 @@
--- The lemmas of this crate that proofs of other crates cite, and words of theirs, by the file in
--- which they stand. No other file of proofs/ can be named there.
+-- What proofs of other crates cite of this one: lemmas, and the words in which these are said, by
+-- the file in which they stand. Every other file of proofs/ is private.
 
 -- A run's commands, and the run that it follows, by its place in the roster.
 pub use Rattle.command_rules.proofs.RosterReads.{commands_at, leader_at}
 -- The last place of which a test holds.
 pub use Rattle.command_rules.proofs.LastPlaces.{last_before, last_found, last_told, last_unfound, last_within}
--- Whether a device is read first is decided by one command.
+-- A device that no command is on is not read first.
 pub use Rattle.command_rules.proofs.FirstReads.{unread}
--- The devices that a run reads first, and writes, are told from its last command on.
+-- A device that a run reads first is one that it uses.
 pub use Rattle.command_rules.proofs.FirstUses.{read_touched}
--- A footprint is made from the last command on.
+-- The device of a command is below 256 where those of all commands are.
 pub use Rattle.command_rules.proofs.FootprintBits.{low_device}
--- Two runs share a device exactly where their footprints meet.
+-- Where two routines share a device, one is found that both use.
 pub use Rattle.command_rules.proofs.Sharing.{found}
--- Which rosters may be indexed.
+-- A device on which a command is, is below what the devices of all commands are below.
 pub use Rattle.command_rules.proofs.Indexes.{device_below}
 -- The closure is closed; and a line that is parted at a closed set keeps each part whose items meet
 -- pairwise.

@@ -1,9 +1,9 @@
--- The lemmas of this crate that proofs of other crates cite, and words of theirs, by the file in
--- which they stand. No other file of proofs/ can be named there.
+-- What proofs of other crates cite of this one: lemmas, and the words in which these are said, by
+-- the file in which they stand. Every other file of proofs/ is private.
 
 -- The walk along an order of two parts.
 pub use Rattle.device_order.proofs.Lists.{walk_back}
--- The writes of an order: which one is in effect, and what undos and grips leave of it.
+-- A device that is out somewhere on the walk is out at its end.
 pub use Rattle.device_order.proofs.Effects.{held_end}
 -- An order, cut at a use.
 pub use Rattle.device_order.proofs.Parts.{Cut, cut}
@@ -13,17 +13,17 @@ pub use Rattle.device_order.proofs.Claims.{alone_behind, effect, reads, untouche
 pub use Rattle.device_order.proofs.Losses.{down_unseen, one_spans, restart_loses_none, undo_loses_none}
 -- Where a device stands.
 pub use Rattle.device_order.proofs.Standing.{stands}
--- A run whose answers fit one another is executed serially with them.
+-- The summary of answers in two parts.
 pub use Rattle.device_order.proofs.Runs.{summary_more}
 -- Routines and events on different devices do not see one another.
 pub use Rattle.device_order.proofs.Swaps.{exchanged}
--- What inserting, removing and changing a run, and an event, do to the order of a device.
+-- The order of a device at a run that uses it; what is left of a routine uses no device more.
 pub use Rattle.device_order.proofs.LineEntries.{used_at, uses_rest}
 -- Words on a line and on the order of a device that it makes.
 pub use Rattle.device_order.proofs.LineWords.{calm_entries, cut_at, effective_entries, has_entries, stand_line}
 -- What one more answer makes of a run.
 pub use Rattle.device_order.proofs.NewAnswers.{pair_more}
--- One run of a window changes in its place: what that is to each device, and to the window.
+-- A run uses the device of its next command; what holds of one device and of others holds of all.
 pub use Rattle.device_order.proofs.InPlace.{next_used, two_places}
 -- The steps in which a run gets an answer keep the invariant of the window.
 pub use Rattle.device_order.proofs.WindowAnswers.{access_died, down_answered, read_answered, skip_answered, write_answered}

@@ -20,7 +20,7 @@ use Rattle.lineage_table.specs.declared.accesses.Status.TheVariants.{Acquired, R
 use Rattle.lock_leasing.proofs.Cited.{Facts, TellsTest, before_first, before_none, command_pends, facts_of, first_open, found_there, put_at, run_place}
 use Rattle.lock_leasing.specs.Configurations.{Configuration, Grips, grips_command, point, point_of, read_of}
 use Rattle.lock_leasing.specs.Places.{up_to_first}
-use Rattle.lock_leasing.specs.Standings.{IsStandingOf}
+use Rattle.lock_leasing.specs.Standings.{IsStandingOf, WindowParts, window_parts}
 use Rattle.lock_leasing.specs.Tables.{EachTellsOfRun, IsLineageOf, is_at_work, runs_with_access, status_by_answers, uses, view_when}
 use Rattle.lock_leasing.specs.Waits.{lost_by}
 use Rattle.lock_leasing.specs.Words.{live_runs}
@@ -175,23 +175,25 @@ module _ (w : Setting) (n : Reading) (g : Grips) (f : Facts w n g) (d : ℕ) (hi
 
 -- In each configuration to which the parts belong
 
-dooms_of : (s : Configuration) (table : List LineageState) (line : List Mark) (history : List Kept) → IsStandingOf s table line history s.setting.runs → (q : ℕ) → is_none (doom_of history q) ≡ not (is_doomed (read_of s) q)
-dooms_of s table line history parts q = ap (λ h. is_none (doom_of h q)) (sym parts.its_history) ∙ ap is_none (doom_is s.setting s.history q parts.well_formed) ∙ turned ((read_of s).run q).doomed
+dooms_of : (s : Configuration) (parts : WindowParts) → IsStandingOf s parts → (q : ℕ) → is_none (doom_of parts.history q) ≡ not (is_doomed (read_of s) q)
+dooms_of s parts stands q = ap (λ h. is_none (doom_of h q)) (sym stands.its_history) ∙ ap is_none (doom_is s.setting s.history q stands.well_formed) ∙ turned ((read_of s).run q).doomed
   where
     turned : (o : Option Cause) → is_none o ≡ not (is_some o)
     turned None = refl
     turned (Some c) = refl
 
-lineage_of : (s : Configuration) (table : List LineageState) (line : List Mark) (history : List Kept) (d : ℕ) → IsStandingOf s table line history s.setting.runs → d < length table → IsLineageOf (point_of s) d (lineage_at table d)
-lineage_of s table line history d parts inside = let size = parts.its_table.devices in parts.its_table.each d (omega (arith, size, inside))
+lineage_of : (s : Configuration) (parts : WindowParts) (d : ℕ) → IsStandingOf s parts → d < length parts.table → IsLineageOf (point_of s) d (lineage_at parts.table d)
+lineage_of s parts d stands inside = let size = stands.its_table.devices in stands.its_table.each d (omega (arith, size, inside))
 
 pub event_of : (table : List LineageState) (line : List Mark) (history : List Kept) (first : Option RunNo) (d : DeviceNo) (x : Item) (after : List Mark) → d.0
     < length table → after ≡ with_item (event_place history first (accesses_at table d.0) line) x line → IsEventOf table line history first d x after
-event_of table line history first d x after inside placing s parts none =
-    let own = lineage_of s table line history d.0 parts inside in
-    ap items_of placing ∙ placed s.setting (read_of s) s.grips (facts_of s table line history s.setting.runs parts) d.0 history parts.ordered (dooms_of s table line history parts) first (accesses_at table d.0) line x none own.runs own.each parts.its_line.items
+event_of table line history first d x after inside placing s stands none =
+    let parts = window_parts s table line history in
+    let own = lineage_of s parts d.0 stands inside in
+    ap items_of placing ∙ placed s.setting (read_of s) s.grips (facts_of s parts stands) d.0 history stands.ordered (dooms_of s parts stands) first (accesses_at table d.0) line x none own.runs own.each stands.its_line.items
 
 pub loss_of : (table : List LineageState) (line : List Mark) (history : List Kept) (d : ℕ) (result : Option RunNo) → d < length table → result ≡ lost_run history (accesses_at table d) → IsLossOf table line history d result
-loss_of table line history d result inside losing s parts =
-    let own = lineage_of s table line history d parts inside in
-    ap (option_map (λ r. r.0)) losing ∙ lost s.setting (read_of s) s.grips (facts_of s table line history s.setting.runs parts) d history parts.ordered (dooms_of s table line history parts) (accesses_at table d) own.runs own.each
+loss_of table line history d result inside losing s stands =
+    let parts = window_parts s table line history in
+    let own = lineage_of s parts d stands inside in
+    ap (option_map (λ r. r.0)) losing ∙ lost s.setting (read_of s) s.grips (facts_of s parts stands) d history stands.ordered (dooms_of s parts stands) (accesses_at table d) own.runs own.each

@@ -9,7 +9,7 @@ use Rattle.home_types.specs.declared.numbers.DeviceNo.{DeviceNo}
 use Rattle.home_types.specs.declared.numbers.RunNo.{RunNo}
 use Rattle.lineage_table.specs.Lineages.{LineageState}
 use Rattle.lock_leasing.specs.Configurations.{Configuration, read_of}
-use Rattle.lock_leasing.specs.Standings.{IsStandingOf}
+use Rattle.lock_leasing.specs.Standings.{IsStandingOf, window_parts}
 use Rattle.lock_leasing.specs.Waits.{lost_by}
 use Rattle.serial_line.specs.Marks.{Mark, items_of}
 use Rattle.std.specs.Prelude.{IfSome, List, Option, false, option_map, ◌≡◌}
@@ -23,11 +23,11 @@ HasNoAnswer n first d = IfSome first (λ r. did n r.0 d ≡ false)
 abbrev pub IsEventOf : List LineageState → List Mark → List Kept → Option RunNo → DeviceNo → Item
     → List Mark → Type 0
 IsEventOf table line history first d event after =
-    (s : Configuration) → IsStandingOf s table line history s.setting.runs
+    (s : Configuration) → IsStandingOf s (window_parts s table line history)
     → HasNoAnswer (read_of s) first d.0 → items_of after ≡ with_event s.setting (read_of s) d event
 
 -- the run is the one that is lost by the rules where the device fails
 abbrev pub IsLossOf : List LineageState → List Mark → List Kept → DeviceId → Option RunNo → Type 0
 IsLossOf table line history d lost =
-    (s : Configuration) → IsStandingOf s table line history s.setting.runs
+    (s : Configuration) → IsStandingOf s (window_parts s table line history)
     → option_map (λ r. r.0) lost ≡ lost_by s.setting (read_of s) d

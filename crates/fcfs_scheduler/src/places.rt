@@ -9,8 +9,8 @@ use lock_leasing::Standing;
 ///
 /// Nothing is asked of the parts. Takes no memory.
 pub fn place(s: &Standing, r: RunNo) -> u32
-    ensures end { result ≡ length s.now.line.now.marks }
-    ensures served { IsServedAt s.now.line.now.marks r.0 result }
+    ensures end { result ≡ length s.now.line }
+    ensures served { IsServedAt s.now.line r.0 result }
 {
     // it is the same place for every run
     let _ = r;

@@ -1,11 +1,11 @@
--- The lemmas of this crate that proofs of other crates cite, and words of theirs, by the file in
--- which they stand. No other file of proofs/ can be named there.
+-- What proofs of other crates cite of this one: lemmas, and the words in which these are said, by
+-- the file in which they stand. Every other file of proofs/ is private.
 
 -- One entry more.
 pub use Rattle.history_book.proofs.Snoc.{Along_more, along_on, each_at, each_more, each_on, entries_on, put_keeps, put_other, put_same, reading_more, reading_on}
 -- Who stands in the line.
 pub use Rattle.history_book.proofs.Lines.{any_insert, any_left, any_other, any_parted, any_put_before, any_taken, any_without}
--- What an entry leaves: most of it by computing, the rest by put_keeps.
+-- An answer, or a doom, leaves each run as live as it was.
 pub use Rattle.history_book.proofs.Frames.{did_live, doomed_live}
 -- What the reading says, in words of the entries alone.
 pub use Rattle.history_book.proofs.Plain.{answer_by, answers_are}
@@ -17,7 +17,7 @@ pub use Rattle.history_book.proofs.Splits.{base_length, gap_closed, gap_holds, l
 pub use Rattle.history_book.proofs.Standing.{Standing, aborted, is_abort, standing, stands_in}
 -- What a well-formed history says of each run.
 pub use Rattle.history_book.proofs.Shapes.{IsShaped, Shaped, committed_in, did_not_passed, did_touches, pending_not_passed, put_all, shapes, shapes_step}
--- What a reading counts, and how failures and restarts take turns.
+-- What a reading counts: its entries, and the failures of a device.
 pub use Rattle.history_book.proofs.Counts.{fell_is, size_is}
 -- In a well-formed history a run stands in the line once where it is placed and no abort of it has
 -- ended, else not.
@@ -38,8 +38,7 @@ pub use Rattle.history_book.proofs.Told.{answer_count_is, doom_is, end_is, placi
 pub use Rattle.history_book.proofs.HistoryReads.{MayTake, run_place, takes_first, takes_rest}
 -- A run stays behind the one that it follows, where the line is rearranged.
 pub use Rattle.history_book.proofs.Followers.{line_follows}
--- The final items of the line stand first, in their order, among the items of the set of the
--- timeline.
+-- The place that the timeline gives a run is behind the final items of the line.
 pub use Rattle.history_book.proofs.GapFronts.{gaps_behind}
 -- The items before the first live run stay as they are, and do not become fewer, with one entry
 -- more; and so along a history.

@@ -80,7 +80,8 @@ pub struct Kept {
     pub entry: Entry,
 }
 
-/// The entries of one step, in this order. A contract sees them as a list.
+/// The entries of one step, in this order: three at most, in the first of three places, so that a
+/// step takes no memory. A contract sees them as a list.
 #[derive(Clone, Copy, Debug, PartialEq, Eq)]
 pub struct Made {
     pub a: Option<Entry>,

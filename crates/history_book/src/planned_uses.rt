@@ -1,6 +1,6 @@
-//! For how long a run that is placed is planned to use a device.
+//! From when and to when a run that is placed is planned to use a device.
 
-/// For how long a run is planned to use a device, in ms.
+/// From when and to when a run is planned to use a device: moments of its window, in ms.
 #[derive(Clone, Copy, Debug, PartialEq, Eq)]
 pub struct PlannedUse {
     pub from: u64,

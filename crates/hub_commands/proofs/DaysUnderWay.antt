@@ -14,7 +14,7 @@ use Rattle.hub_commands.proofs.Snocs.{length_more, sum_more}
 use Rattle.hub_commands.specs.Days.{DayCourse, HaveCommitted, IsUnderWayOn, NoneHasFailedOn, WindowsArePlayedOn, new_course, script_of}
 use Rattle.hub_commands.specs.Played.{HasGoneOn, setting_on}
 use Rattle.hub_commands.specs.Ways.{WindowWay}
-use Rattle.hub_core.proofs.Cited.{get_front, get_last}
+use Rattle.window_devices.proofs.Cited.{get_front, get_last}
 use Rattle.routine_reader.specs.Rosters.{kinds_of, script_runs, start_home, start_stand}
 use Rattle.routine_reader.specs.declared.scripts.DeviceText.{DeviceText}
 use Rattle.routine_reader.specs.declared.scripts.Script.{Script}
@@ -23,7 +23,7 @@ use Rattle.hub_core.specs.HubCalls.{NoneFails, RunsHaveEnded}
 use Rattle.std.proofs.Common.{ap, arith, inl, inr, refl, subst, sym, ◌∙◌}
 use Rattle.std.proofs.lemmas.List.{length-map}
 use Rattle.std.proofs.lemmas.Option.{slice_get_within}
-use Rattle.std.specs.Prelude.{Bool, List, Some, [], false, length, map, option_map, slice_get, slice_index_or, suc, true, unwrap_or, zero, ℕ, ◌+◌, ◌++◌, ◌∷◌, ◌<◌, ◌≡◌, ◌≤◌}
+use Rattle.std.specs.Prelude.{Bool, List, Some, [], false, length, map, option_map, slice_get, slice_index_or, suc, true, unwrap_or, zero, ℕ, ◌++◌, ◌+◌, ◌<◌, ◌∷◌, ◌≡◌, ◌≤◌}
 
 -- a window more leaves the states before it
 state_before : (course : DayCourse) (records : List WindowRecord) (closed : WindowRecord) (k : ℕ) → k ≤ length records → state_from course.begins (records ++ closed ∷ []) k ≡ state_from course.begins records k

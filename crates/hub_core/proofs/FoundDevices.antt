@@ -3,7 +3,7 @@ use Rattle.device_states.specs.Devices.{Shown}
 use Rattle.home_types.specs.HomeStates.{stand_at}
 use Rattle.home_types.specs.Kinds.{has_value, kind_at}
 use Rattle.home_types.specs.declared.worlds.Stand.{Stand}
-use Rattle.hub_core.proofs.kept.SetPlaces.{get_set}
+use Rattle.window_devices.proofs.Cited.{get_set}
 use Rattle.hub_core.specs.Homes.{CountsAreLow, HomeIsKept, HomeState}
 use Rattle.hub_core.specs.Restandings.{restood}
 use Rattle.std.proofs.Common.{ap, arith, inl, inr, refl, subst, sym, ◌∙◌, ◌⊎◌}

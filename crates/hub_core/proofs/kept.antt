@@ -9,7 +9,6 @@ pub mod ReturnsKept
 pub mod ProbesKept
 pub mod EventsTold
 pub mod TableStands
-pub mod SetPlaces
 pub mod Sizes
 pub mod EndedOnce
 pub mod TableFits
@@ -19,7 +18,5 @@ pub mod Arranged
 pub mod OrderSteps
 pub mod SkippedOrders
 pub mod FallenOrders
-pub mod Finds
-pub mod Hands
 pub mod ProbeSteps
 pub mod BlockedMarks

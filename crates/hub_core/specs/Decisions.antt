@@ -12,7 +12,7 @@ use Rattle.hub_core.specs.declared.decisions.Chosen.TheVariants.{Aborts, Absent,
 use Rattle.hub_core.specs.declared.decisions.Chosen.{Chosen}
 use Rattle.lock_leasing.specs.Configurations.{Point}
 use Rattle.lock_leasing.specs.declared.purposes.Purpose.TheVariants.{Commands}
-use Rattle.std.specs.Prelude.{[], false, if◌then◌else◌, not, ◌∷◌}
+use Rattle.std.specs.Prelude.{[], false, if◌then◌else◌, ◌∷◌}
 
 -- .. of the run at this moment
 abbrev pub told_choice : RunId → Moment → Chosen → Choice

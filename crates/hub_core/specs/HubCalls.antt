@@ -14,6 +14,7 @@ use Rattle.history_book.specs.Settings.{Setting, is_weak, scheduler_of}
 use Rattle.history_book.specs.WellFormed.{IsWellFormed, each_entry}
 use Rattle.history_book.specs.declared.entries.End.TheVariants.{Committed}
 use Rattle.history_book.specs.declared.entries.Entry.TheVariants.{Placed}
+use Rattle.history_book.specs.declared.entries.Entry.{Entry}
 use Rattle.history_book.specs.declared.records.WindowRecord.{WindowRecord}
 use Rattle.home_types.specs.HomeStates.{stand_at}
 use Rattle.home_types.specs.Limits.{most_devices, most_runs}
@@ -22,7 +23,7 @@ use Rattle.home_types.specs.declared.modes.Scheduler.TheVariants.{Fcfs, Timeline
 use Rattle.hub_core.specs.Homes.{HomeState}
 use Rattle.hub_core.specs.HubSteps.{Carried, Chose, Gave, Give, GiveProbe, HubStep, Probed, Refused, Returned, Take, TakeProbe, task_of}
 use Rattle.hub_core.specs.MustChecks.{has_must_check}
-use Rattle.hub_core.specs.OpenHubs.{OpenHub, configuration_of, hub_state_of, progress_at}
+use Rattle.hub_core.specs.OpenHubs.{OpenHub, configuration_of, hub_state_of}
 use Rattle.hub_core.specs.Steps.{Absent as IsAbsent, Choice, HandsOut, Moves, Over as IsOver, Waits, choice_of, opened}
 use Rattle.hub_core.specs.declared.turns.Turn.TheVariants.{Absent, Go, Moved, Over, Wait}
 use Rattle.hub_core.specs.declared.turns.Turn.{Turn}
@@ -38,7 +39,7 @@ use Rattle.lock_leasing.specs.Words.{standing_value}
 use Rattle.lock_leasing.specs.declared.purposes.Purpose.TheVariants.{Commands, Probes, Undoes}
 use Rattle.lock_leasing.specs.declared.purposes.Purpose.{Purpose}
 use Rattle.std.specs.Prelude.{Bool, Err, IsTrue, List, None, Ok, Option, Result, Some, [], false, is_some, length, max, not, slice_get, slice_index_or, slice_set, true, ℕ, ⊤, ◌+◌, ◌-◌, ◌<◌, ◌||◌, ◌∷◌, ◌≡◌, ◌≢◌, ◌≤◌}
-use Rattle.history_book.specs.declared.entries.Entry.{Entry}
+use Rattle.window_devices.specs.KnownDevices.{progress_at}
 
 -- the hub is in the same window, with the same counts of its devices at the opening
 pub record SameWindow {D : Type 0} (s t : OpenHub D) : Type 0 where

@@ -7,23 +7,22 @@ use Rattle.device_gate.specs.declared.slips.Task.{Task}
 use Rattle.device_states.specs.Devices.{Shown}
 use Rattle.history_book.specs.Histories.{entries_of}
 use Rattle.history_book.specs.ReadHistories.{HistoryState}
-use Rattle.history_book.specs.Settings.{Setting}
 use Rattle.home_types.specs.Kinds.{has_value, kind_at}
 use Rattle.home_types.specs.Numbers.{DeviceId}
-use Rattle.home_types.specs.declared.numbers.DeviceNo.{DeviceNo}
 use Rattle.hub_core.specs.Bounds.{most_entries, most_items}
 use Rattle.hub_core.specs.Homes.{CountsAreLow}
 use Rattle.hub_core.specs.HubCalls.{faults_told, probes_taken}
 use Rattle.hub_core.specs.HubSteps.{task_of}
 use Rattle.hub_core.specs.KeptByModel.{IsKeptByModel}
 use Rattle.hub_core.specs.KeptOrders.{OrderIsBeside}
-use Rattle.hub_core.specs.OpenHubs.{OpenHub, configuration_of, events_in, held_in, progress_at}
+use Rattle.hub_core.specs.OpenHubs.{OpenHub, configuration_of, events_in, held_in}
 use Rattle.hub_core.specs.declared.open_windows.ClosingLists.{ClosingLists}
 use Rattle.hub_core.specs.declared.open_windows.OpenWindow.TheInside.{Inside}
 use Rattle.legal_days.specs.AccountedCalls.{told_calls}
-use Rattle.lock_leasing.specs.Configurations.{Configuration, Grips, read_of}
-use Rattle.lock_leasing.specs.Waits.{grip_wait}
-use Rattle.std.specs.Prelude.{Bool, IsTrue, List, Option, Some, count_by, false, length, nat_lt, option_map, slice_get, suc, sum_by, true, ℕ, ◌+◌, ◌-◌, ◌<◌, ◌≡◌, ◌≤◌}
+use Rattle.lock_leasing.specs.Configurations.{Configuration, read_of}
+use Rattle.std.specs.Prelude.{Bool, IsTrue, Some, count_by, false, length, nat_lt, slice_get, sum_by, true, ℕ, ◌+◌, ◌-◌, ◌<◌, ◌≡◌, ◌≤◌}
+use Rattle.window_devices.specs.Away.{HandsAre}
+use Rattle.window_devices.specs.KnownDevices.{progress_at}
 use Rattle.window_order.specs.Leavings.{IsEmptyFor}
 
 -- how often the device was called up to now: its counts at the opening, and what the window made of
@@ -113,12 +112,6 @@ open_of h = record {
   places = h.away.gate.places;
   tickets = h.away.gate.tickets;
 }
-
--- of each run of the window, the device whose grip it holds
-pub record HandsAre (w : Setting) (g : Grips) (hands : List (Option DeviceNo)) : Type 0 where
-  pub size : length hands ≡ length w.runs
-  pub each : (i : ℕ) (hand : Option DeviceNo) → slice_get hands i ≡ Some hand
-      → option_map (λ d. d.0) hand ≡ grip_wait w g (suc i)
 
 -- what the type of a hub keeps of its parts
 pub record IsWhole {D : Type 0} (shows : D → Shown) (h : Inside D) : Type 0 where

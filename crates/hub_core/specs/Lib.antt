@@ -1,8 +1,6 @@
-pub mod Away
 pub mod BlockedMarks
 pub mod BlockedRuns
 pub mod Bounds
-pub mod ClosedHomes
 pub mod Decisions
 pub mod Homes
 pub mod HubCalls

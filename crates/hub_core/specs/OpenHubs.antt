@@ -6,13 +6,11 @@ use Rattle.history_book.specs.Settings.{Setting}
 use Rattle.history_book.specs.declared.entries.Kept.{Kept}
 use Rattle.home_types.specs.Numbers.{DeviceId, Moment}
 use Rattle.hub_core.specs.HubSteps.{Carried, HubState}
-use Rattle.hub_core.specs.declared.known.DeviceCallCounts.{DeviceCallCounts}
-use Rattle.hub_core.specs.declared.known.DeviceProgress.{DeviceProgress}
-use Rattle.hub_core.specs.declared.known.Events.{Events}
-use Rattle.lock_leasing.specs.declared.purposes.Purpose.TheVariants.{Commands}
-use Rattle.lock_leasing.specs.declared.purposes.Purpose.{Purpose}
-use Rattle.lock_leasing.specs.Configurations.{Configuration, Grip}
-use Rattle.std.specs.Prelude.{List, None, Option, Some, slice_get, slice_index_or, ℕ}
+use Rattle.lock_leasing.specs.Configurations.{Configuration}
+use Rattle.std.specs.Prelude.{List, None, Option, Some, slice_get, ℕ}
+use Rattle.window_devices.specs.KnownDevices.{grip_in, progress_at}
+use Rattle.window_devices.specs.declared.known.DeviceProgress.{DeviceProgress}
+use Rattle.window_devices.specs.declared.known.Events.{Events}
 
 -- what a hub shows: what is fixed, the rounds of probes and how many windows were opened before,
 -- the history and the last moment, what is known of each device, and its place
@@ -26,35 +24,9 @@ pub record OpenHub (D : Type 0) : Type 0 where
   pub places : List (Place D)
   pub tickets : ℕ
 
-abbrev pub no_counts : DeviceCallCounts
-no_counts = record { turns = 0; probes = 0; faults = 0 }
-
-abbrev pub no_events : Events
-no_events = record { fell = 0; rose = 0 }
-
 -- how often the device failed and came back, by the history
 abbrev pub events_in : Reading → DeviceId → Events
 events_in n d = record { fell = n.fell d; rose = n.rose d }
-
-abbrev pub no_device : DeviceProgress
-no_device = record {
-  held = 0;
-  probes_left = 0;
-  purpose = Commands 0;
-  at_opening = no_counts;
-  events = no_events;
-}
-
--- what is known of the device
-abbrev pub progress_at : List DeviceProgress → DeviceId → DeviceProgress
-progress_at devices d = slice_index_or devices d no_device
-
--- the grip with which the device in this place is out, for this purpose
-abbrev pub grip_in : {D : Type 0} → Option (Place D) → Purpose → Option Grip
-grip_in None purpose = None
-grip_in (Some (Home device)) purpose = None
-grip_in (Some (Out slip task)) purpose =
-    Some (record { maker = slip.maker; purpose = purpose })
 
 -- what that grip carries
 abbrev pub carried_in : {D : Type 0} → Option (Place D) → Option Carried

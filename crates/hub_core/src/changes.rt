@@ -1,13 +1,12 @@
 //! What each choice of a step makes of the window, and the entries that it writes.
-ghost use Rattle.std.specs.Prelude.{IfSome, IsSome, IsTrue, None, Some, [], false, if◌then◌else◌, max, not, option_map, true, ◌<◌, ◌||◌, ◌∷◌, ◌≡◌};
-ghost use Rattle.lock_leasing.specs.Configurations.{read_of};
+ghost use Rattle.std.specs.Prelude.{IfSome, IsSome, IsTrue, None, Some, [], false, if◌then◌else◌, max, not, option_map, true, ◌<◌, ◌||◌, ◌≡◌};
 ghost use Rattle.hub_core.specs.Decisions.{told_choice};
 ghost use Rattle.hub_core.specs.HubCalls.{Answers, DeviceGoesOut, SameWindow};
 ghost use Rattle.hub_core.specs.OpenHubs.{configuration_of};
 ghost use Rattle.window_order.specs.KeptOrders.{is_first, left_by, noted_first};
 ghost use Rattle.hub_core.specs.KeptOrders.{MayLeave, MayNoteAnswer};
 ghost use Rattle.hub_core.specs.PlannedPlaces.{HoldsPlan};
-ghost use Rattle.hub_core.specs.Steps.{Absent, HandsOut, Moves, Over, Waits, choice_of};
+ghost use Rattle.hub_core.specs.Steps.{HandsOut, Moves, Over, choice_of};
 ghost use Rattle.history_book.specs.ReadHistories.{read_in, with_doom};
 ghost use Rattle.history_book.specs.Readings.{is_access, is_doomed, is_fine, is_told, pends};
 ghost use Rattle.history_book.specs.Settings.{is_weak};
@@ -18,7 +17,6 @@ ghost use Rattle.history_book.specs.declared.entries.End.TheVariants.{Aborted, C
 ghost use Rattle.window_order.specs.TableChanges.{ChangesEach, doomed_lineage};
 
 use crate::decisions::Chosen;
-use crate::known::DeviceProgress;
 use crate::open_windows::OpenWindow;
 use device_gate::{Grip, Ready};
 use device_states::Device;
@@ -26,6 +24,7 @@ use history_book::{Cause, End, Entry, Made, ReadHistory, must_down, one_made};
 use home_types::{Answer, DeviceNo, RunNo, Value};
 use lock_leasing::Purpose;
 use timeline_scheduler::{Scratch, planned_uses};
+use window_devices::DeviceProgress;
 use window_order::{KeptOrder, note_of};
 
 impl<D: Device> OpenWindow<D> {

@@ -1,29 +1,21 @@
 //! Closing a window that is quiet: the home, and the window's record.
-ghost use Rattle.std.specs.Prelude.{None, [], false, length, map, true, ℕ, ◌+◌, ◌≡◌, ◌≤◌};
-ghost use Rattle.hub_core.specs.ClosedHomes.{HaveRisen, NoneFell, all_known_left};
+ghost use Rattle.std.specs.Prelude.{None, [], false, length, map, true, ◌≡◌};
 ghost use Rattle.window_order.specs.Leavings.{IsEmptyFor, stand_left};
 ghost use Rattle.hub_core.specs.HubCalls.{WindowIsClosed};
 ghost use Rattle.hub_core.specs.OpenHubs.{configuration_of};
 ghost use Rattle.hub_core.specs.Steps.{not_quiet};
 ghost use Rattle.serial_line.specs.Marks.{items_of};
+ghost use Rattle.window_devices.specs.LeftDevices.{all_known_left};
 
-use crate::away::Away;
 use crate::homes::Home;
-use crate::known::DeviceProgress;
 use crate::open_windows::OpenWindow;
 use device_states::Device;
 use history_book::WindowRecord;
-use home_types::{DeviceNo, Item, List, Stand, World};
+use home_types::{Item, List, Stand, World};
 use lineage_table::Table;
 use serial_line::Line;
-use window_order::{items_in, stands_in};
-
-/// By how much the counts of each device rose in a window.
-#[derive(Drop)]
-struct Rises {
-    turns: List<u64>,
-    faults: List<u64>,
-}
+use window_devices::{Away, DeviceProgress, Risen, rises_in, stands_known};
+use window_order::{line_items, stands_in};
 
 impl<D: Device> OpenWindow<D> {
     /// The home and the record of a window in which nothing is left to do. Takes no memory.
@@ -49,7 +41,7 @@ impl<D: Device> OpenWindow<D> {
         let devices = gate.close();
         let last = stands_left(weak, closing.last, &order.table, &known);
         let world = copied(closing.world, &last);
-        let Rises { turns, faults } = rises_in(closing.turns, closing.faults, &known, &devices);
+        let Risen { turns, faults } = rises_in(closing.turns, closing.faults, &known, &devices);
         let record = WindowRecord {
             mode,
             first,
@@ -76,7 +68,7 @@ fn order_of(weak: bool, empty: List<Item>, line: &Line) -> List<Item>
     ensures ordered { weak ≡ false → result.items ≡ items_of line.now.marks }
     ensures weakly { weak ≡ true → result.items ≡ [] }
 {
-    if weak { empty } else { items_in(empty, line) }
+    if weak { empty } else { line_items(empty, line) }
 }
 
 /// How the devices are left, in a list that has room for them.
@@ -108,52 +100,4 @@ fn copied(empty: List<Stand>, stands: &List<Stand>) -> List<Stand>
     let extended = copy.extend_from_slice(stands.as_slice());
     extended.unwrap();
     copy
-}
-
-/// How the devices are known to stand, in a list that has room for them.
-fn stands_known(empty: List<Stand>, table: &Table, known: &List<DeviceProgress>) -> List<Stand>
-    requires room { IsEmptyFor empty (length table.now) }
-    requires size { length known.now.items ≡ length table.now }
-    ensures { result.items ≡ all_known_left known.now.items table.now (length table.now) }
-{
-    let mut stands = empty;
-    'devices: for at in 0..table.devices() {
-        let pushed = stands.push(Stand {
-            value: known.get(at as u64).unwrap().held,
-            up: table.is_up(DeviceNo(at as u16)),
-        });
-        pushed.unwrap();
-    }
-    stands
-}
-
-/// By how much the turns and the faults of each device rose, in lists that have room for them.
-fn rises_in<D: Device>(
-    turns: List<u64>,
-    faults: List<u64>,
-    known: &List<DeviceProgress>,
-    devices: &List<D>,
-) -> Rises
-    requires turns { IsEmptyFor turns (length known.now.items) }
-    requires faults { IsEmptyFor faults (length known.now.items) }
-    requires turns_fell { NoneFell (λ device. (D.shows device).turns)
-        (λ device. device.at_opening.turns) known.now.items devices.now.items }
-    requires faults_fell { NoneFell (λ device. (D.shows device).faults)
-        (λ device. device.at_opening.faults) known.now.items devices.now.items }
-    ensures turns { HaveRisen (λ device. (D.shows device).turns) (λ device. device.at_opening.turns)
-        known.now.items devices.now.items (length known.now.items) result.turns.items }
-    ensures faults { HaveRisen (λ device. (D.shows device).faults)
-        (λ device. device.at_opening.faults) known.now.items devices.now.items
-        (length known.now.items) result.faults.items }
-{
-    let mut rises = Rises { turns, faults };
-    'devices: for at in 0..known.len() {
-        let device = devices.get(at).unwrap();
-        let then = known.get(at).unwrap().at_opening;
-        let turned = rises.turns.push(device.turns() - then.turns);
-        turned.unwrap();
-        let failed = rises.faults.push(device.faults() - then.faults);
-        failed.unwrap();
-    }
-    rises
 }

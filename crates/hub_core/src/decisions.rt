@@ -1,5 +1,5 @@
 //! What a run does at its turn: the cases of the rules, in their order, with nothing changed.
-ghost use Rattle.std.specs.Prelude.{IsTrue, None, false, find, length, max, option_map, true, unwrap_or, ℕ, ◌<◌, ◌≡◌, ◌≤◌};
+ghost use Rattle.std.specs.Prelude.{IsTrue, None, false, length, max, option_map, true, unwrap_or, ℕ, ◌<◌, ◌≡◌};
 ghost use Rattle.command_rules.specs.Rosters.{command_at, commands_of, is_run};
 ghost use Rattle.history_book.specs.Readings.{is_live};
 ghost use Rattle.history_book.specs.Settings.{is_weak};
@@ -13,7 +13,7 @@ ghost use Rattle.lineage_table.specs.Lineages.{accesses_at};
 ghost use Rattle.lock_leasing.specs.Configurations.{is_out, point_of, read_of};
 ghost use Rattle.lock_leasing.specs.Holders.{sees_it_down};
 ghost use Rattle.lock_leasing.specs.Standings.{IsAtCommand};
-ghost use Rattle.lock_leasing.specs.Waits.{behind_wait, grip_wait, strict_wait};
+ghost use Rattle.lock_leasing.specs.Waits.{grip_wait};
 ghost use Rattle.visibility_models.specs.Models.{IsUnderWay};
 
 use crate::open_windows::OpenWindow;

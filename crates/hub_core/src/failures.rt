@@ -1,5 +1,5 @@
 //! A device fails or comes back: line, table and history are told.
-ghost use Rattle.std.specs.Prelude.{◌≡◌, ◌+◌, ◌<◌, ◌≤◌, ◌^◌, IfSome, IsSome, IsTrue, Some, false, length, option_map, true};
+ghost use Rattle.std.specs.Prelude.{◌≡◌, ◌<◌, ◌≤◌, IfSome, IsSome, IsTrue, Some, false, length, option_map, true};
 ghost use Rattle.command_rules.specs.Rosters.{is_run};
 ghost use Rattle.failure_serialization.specs.Events.{lost_run};
 ghost use Rattle.history_book.specs.ReadHistories.{read_in, with_entry, with_lost};

@@ -1,5 +1,4 @@
 //! A run gives a device back to its window.
-ghost use Rattle.std.specs.Prelude.{◌≡◌, ℕ};
 ghost use Rattle.hub_core.specs.HubCalls.{IsGiven, SameWindow};
 
 use crate::open_windows::OpenWindow;

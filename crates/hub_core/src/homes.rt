@@ -1,5 +1,5 @@
 //! A home between two windows: its devices, and how they stand.
-ghost use Rattle.std.specs.Prelude.{◌≡◌, ◌≤◌, IfErr, IfOk, length};
+ghost use Rattle.std.specs.Prelude.{◌≡◌, ◌≤◌, IfOk, length};
 ghost use Rattle.home_journal.specs.Journals.{IsStateOf};
 ghost use Rattle.home_types.specs.Limits.{most_devices};
 ghost use Rattle.hub_core.specs.Homes.{AreNew, HomeIsKept};

@@ -1,8 +1,6 @@
-// The hub of a home: its windows, the steps in them, and what has to be believed of a window and of
-// a day.
+// The hub of a home: its windows, and the steps in them.
 #![tactic(auto)]
 
-mod away;
 mod changes;
 mod close_calls;
 mod decisions;
@@ -12,7 +10,6 @@ mod freed_runs;
 mod give_calls;
 pub mod homes;
 pub mod hubs;
-pub mod known;
 mod lenders;
 mod open_calls;
 mod open_windows;

@@ -1,43 +1,38 @@
 //! Opening a window, which takes all of its memory.
-ghost use Rattle.std.specs.Prelude.{IfErr, IfOk, None, [], length, replicate, slice_get, ℕ, ◌<◌, ◌^◌, ◌≡◌, ◌≤◌};
+ghost use Rattle.std.specs.Prelude.{IfErr, IfOk, None, [], length, replicate, ◌<◌, ◌^◌, ◌≡◌, ◌≤◌};
 ghost use Rattle.command_rules.specs.Footprints.{FitsIndex};
 ghost use Rattle.command_rules.specs.Rosters.{runs_of};
 ghost use Rattle.device_gate.specs.Places.{all_home};
-ghost use Rattle.home_types.specs.HomeStates.{stand_at};
 ghost use Rattle.home_types.specs.Limits.{most_devices, most_probes, most_runs};
 ghost use Rattle.blocked_runs.specs.Marks.{NoneMarked};
 ghost use Rattle.hub_core.specs.Bounds.{most_entries, most_items};
 ghost use Rattle.hub_core.specs.HubCalls.{IsOpened};
 ghost use Rattle.hub_core.specs.Homes.{HomeIsKept, setting_for};
-ghost use Rattle.hub_core.specs.OpeningRooms.{AreKnown, IsClosingRoom, IsOrderRoom, IsRoomFor, IsScratchFor, known_first};
+ghost use Rattle.hub_core.specs.OpeningRooms.{IsClosingRoom, IsOrderRoom, IsScratchFor};
 ghost use Rattle.hub_core.specs.Openings.{MayOpen};
+ghost use Rattle.window_devices.specs.KnownDevices.{AreKnown, IsRoomFor};
 
-use crate::away::Away;
 use crate::homes::Home;
 use crate::hubs::Hub;
-use crate::known::{DeviceCallCounts, DeviceProgress, NO_EVENTS};
 use crate::open_windows::{ClosingLists, OpenWindow};
 use blocked_runs::BlockedRuns;
 use command_rules::{IndexedRoster, Roster};
-use device_gate::Gate;
 use device_states::Device;
 use history_book::{Book, ReadHistory};
-use home_types::{DeviceNo, Kind, List, Mode, NoMemory, World};
-use lock_leasing::Purpose;
+use home_types::{Kind, List, Mode, NoMemory, World};
 use std::alloc::Global;
 use timeline_scheduler::Scratch;
+use window_devices::{Away, roomy_list};
 use window_order::KeptOrder;
 
-/// The memory of what a window keeps of its runs and its devices.
+/// The memory of what a window keeps of its runs.
 #[derive(Drop)]
 struct StateRoom {
     book: Book,
     order: KeptOrder,
-    devices: List<DeviceProgress>,
-    hands: List<Option<DeviceNo>>,
 }
 
-/// The memory of a window, all but the places of its devices.
+/// The memory of a window, all but that of its devices.
 #[derive(Drop)]
 struct Room {
     state: StateRoom,
@@ -51,7 +46,7 @@ struct Room {
 struct GatedHome<D: Device> {
     kinds: List<Kind>,
     world: World,
-    gate: Gate<D>,
+    away: Away<D>,
     opened: u32,
 }
 
@@ -83,6 +78,7 @@ impl<D: Device> Home<D> {
             (λ hub. IsOpened D.shows (setting_for self roster mode) rounds self hub) }
         ensures refused { IfErr result (λ refused. refused.0 ≡ self) }
     {
+        let runs = roster.runs.len();
         let Ok(room) = self.room(alloc, &roster, rounds) else {
             return Err((self, NoMemory));
         };
@@ -90,7 +86,7 @@ impl<D: Device> Home<D> {
             drop(room);
             return Err((self, NoMemory));
         };
-        match self.behind_gate(alloc) {
+        match self.behind_gate(alloc, runs, rounds) {
             Ok(home) => Ok(Hub {
                 blocked: room.blocked,
                 scratch: room.scratch,
@@ -106,11 +102,7 @@ impl<D: Device> Home<D> {
                     rounds,
                     opened: home.opened,
                     moment: 0,
-                    away: Away {
-                        gate: home.gate,
-                        known: room.state.devices,
-                        hands: room.state.hands,
-                    },
+                    away: home.away,
                     closing: room.closing,
                 },
             }),
@@ -122,14 +114,17 @@ impl<D: Device> Home<D> {
         }
     }
 
-    /// Puts the devices behind a gate. Where there is no memory for it the home comes back as it
-    /// is.
-    fn behind_gate(self, alloc: Global) -> Result<GatedHome<D>, Home<D>>
+    /// Puts the devices behind a gate, each with so many rounds of probes; none of so many runs
+    /// holds one. Where there is no memory for it the home comes back as it is.
+    fn behind_gate(self, alloc: Global, runs: u64, rounds: u32) -> Result<GatedHome<D>, Home<D>>
         ensures kinds { IfOk result (λ home. home.kinds.items ≡ self.kinds) }
         ensures world { IfOk result (λ home. home.world.devices.items ≡ self.world) }
         ensures opened { IfOk result (λ home. home.opened ≡ self.opened) }
-        ensures places { IfOk result (λ home. home.gate.places ≡ all_home self.devices) }
-        ensures tickets { IfOk result (λ home. home.gate.tickets ≡ 0) }
+        ensures places { IfOk result (λ home. home.away.gate.places ≡ all_home self.devices) }
+        ensures tickets { IfOk result (λ home. home.away.gate.tickets ≡ 0) }
+        ensures known { IfOk result (λ home. AreKnown D.shows self.devices self.world rounds
+            (length self.devices) home.away.known.items) }
+        ensures hands { IfOk result (λ home. home.away.hands.items ≡ replicate runs None) }
         ensures kept { HomeIsKept D.shows self }
         ensures refused { IfErr result (λ home. home ≡ self) }
     {
@@ -139,11 +134,11 @@ impl<D: Device> Home<D> {
             devices,
             opened,
         } = self;
-        match Gate::open(alloc, devices) {
-            Ok(gate) => Ok(GatedHome {
+        match Away::open(alloc, devices, &world, runs, rounds) {
+            Ok(away) => Ok(GatedHome {
                 kinds,
                 world,
-                gate,
+                away,
                 opened,
             }),
             Err((devices, NoMemory)) => Err(Home {
@@ -166,10 +161,6 @@ impl<D: Device> Home<D> {
         ensures order { IfOk result (λ room.
             IsOrderRoom (most_items (length roster.now.runs.items) (length self.now.world) rounds)
             (runs_of roster.now) self.now.world room.state.order.line room.state.order.table) }
-        ensures devices { IfOk result (λ room. AreKnown D.shows self.now rounds
-            (length self.now.devices) room.state.devices.items) }
-        ensures hands { IfOk result
-            (λ room. room.state.hands.items ≡ replicate (length roster.now.runs.items) None) }
         ensures closing { IfOk result (λ room.
             IsClosingRoom (most_items (length roster.now.runs.items) (length self.now.world) rounds)
             (length self.now.devices) room.closing) }
@@ -179,7 +170,7 @@ impl<D: Device> Home<D> {
             room.scratch) }
     {
         let bounds = bounds_of(roster.runs.len(), self.world.devices.len(), rounds);
-        let state = self.state_room(alloc, roster, rounds, bounds)?;
+        let state = self.state_room(alloc, roster, bounds)?;
         let closing = match closing_lists(alloc, bounds.items, self.devices.len()) {
             Ok(closing) => closing,
             Err(NoMemory) => {
@@ -213,13 +204,11 @@ impl<D: Device> Home<D> {
         })
     }
 
-    /// Takes the memory of what a window of these runs keeps of them and of the devices, within
-    /// these bounds.
+    /// Takes the memory of what a window of these runs keeps of them, within these bounds.
     fn state_room(
         &self,
         alloc: Global,
         roster: &Roster,
-        rounds: u32,
         bounds: Bounds,
     ) -> Result<StateRoom, NoMemory>
         requires few { length roster.now.runs.items ≤ most_runs }
@@ -229,12 +218,7 @@ impl<D: Device> Home<D> {
         ensures book { IfOk result (λ state. IsRoomFor state.book bounds.entries) }
         ensures order { IfOk result (λ state. IsOrderRoom bounds.items
             (runs_of roster.now) self.now.world state.order.line state.order.table) }
-        ensures devices { IfOk result (λ state. AreKnown D.shows self.now rounds
-            (length self.now.devices) state.devices.items) }
-        ensures hands { IfOk result
-            (λ state. state.hands.items ≡ replicate (length roster.now.runs.items) None) }
     {
-        let runs = roster.runs.len();
         let book = Book::with_room(alloc, bounds.entries)?;
         let order = match KeptOrder::open(alloc, &self.world, roster, bounds.items) {
             Ok(order) => order,
@@ -243,63 +227,7 @@ impl<D: Device> Home<D> {
                 return Err(NoMemory);
             }
         };
-        let devices = match self.known_devices(alloc, rounds) {
-            Ok(devices) => devices,
-            Err(NoMemory) => {
-                drop(book);
-                drop(order);
-                return Err(NoMemory);
-            }
-        };
-        let hands = match no_hands(alloc, runs) {
-            Ok(hands) => hands,
-            Err(NoMemory) => {
-                drop(book);
-                drop(order);
-                drop(devices);
-                return Err(NoMemory);
-            }
-        };
-        Ok(StateRoom {
-            book,
-            order,
-            devices,
-            hands,
-        })
-    }
-
-    /// What is known of each device as the window opens.
-    fn known_devices(&self, alloc: Global, rounds: u32) -> Result<List<DeviceProgress>, NoMemory>
-        ensures { IfOk result
-            (λ known. AreKnown D.shows self.now rounds (length self.now.devices) known.items) }
-    {
-        let mut known = roomy_list(alloc, self.devices.len())?;
-        'devices: for at in 0..self.devices.len() {
-            known.push(self.known_device(at, rounds))?;
-        }
-        Ok(known)
-    }
-
-    /// What is known of the device as the window opens.
-    fn known_device(&self, at: u64, rounds: u32) -> DeviceProgress
-        requires { at < length self.now.devices }
-        ensures { (device : D) → slice_get self.now.devices at ≡ Some device
-            → result ≡ known_first rounds (stand_at self.now.world at).value (D.shows device).turns
-            (D.shows device).probes (D.shows device).faults }
-    {
-        let device = self.devices.get(at).unwrap();
-        let stand = self.world.devices.get(at).unwrap();
-        DeviceProgress {
-            held: stand.value,
-            probes_left: rounds,
-            purpose: Purpose::Commands(0),
-            at_opening: DeviceCallCounts {
-                turns: device.turns(),
-                probes: device.probes(),
-                faults: device.faults(),
-            },
-            events: NO_EVENTS,
-        }
+        Ok(StateRoom { book, order })
     }
 }
 
@@ -320,17 +248,6 @@ fn bounds_of(runs: u64, devices: u64, rounds: u32) -> Bounds
     }
 }
 
-/// None of so many runs holds a grip.
-fn no_hands(alloc: Global, runs: u64) -> Result<List<Option<DeviceNo>>, NoMemory>
-    ensures { IfOk result (λ hands. hands.items ≡ replicate runs None) }
-{
-    let mut hands = roomy_list(alloc, runs)?;
-    'runs: for _ in 0..runs {
-        hands.push(None)?;
-    }
-    Ok(hands)
-}
-
 /// The lists that closing fills, with room for so many items of the order and for so many devices.
 fn closing_lists(alloc: Global, items: u64, devices: u64) -> Result<ClosingLists, NoMemory>
     ensures { IfOk result (λ closing. IsClosingRoom items devices closing) }
@@ -342,13 +259,4 @@ fn closing_lists(alloc: Global, items: u64, devices: u64) -> Result<ClosingLists
         turns: roomy_list(alloc, devices)?,
         faults: roomy_list(alloc, devices)?,
     })
-}
-
-/// An empty list with room for so many items and no more.
-fn roomy_list<T: Drop>(alloc: Global, n: u64) -> Result<List<T>, NoMemory>
-    ensures { IfOk result (λ list. IsRoomFor list n) }
-{
-    let mut list = List::new(alloc);
-    list.reserve(n)?;
-    Ok(list)
 }

@@ -1,20 +1,20 @@
 //! An open window: its parts, and what is asked of them.
 ghost use Rattle.std.specs.Prelude.{IsTrue, None, false, length, option_map, ℕ, ◌-◌, ◌<◌, ◌↔◌, ◌≡◌};
-ghost use Rattle.command_rules.specs.Rosters.{runs_of};
 ghost use Rattle.history_book.specs.Settings.{is_weak};
 ghost use Rattle.hub_core.specs.BlockedRuns.{IsPlacedLast, next_device};
 ghost use Rattle.hub_core.specs.HubsKept.{HubIsKept};
 ghost use Rattle.hub_core.specs.MarkedRuns.{IsAnsweredStill, is_out_for_command};
-ghost use Rattle.hub_core.specs.OpenHubs.{configuration_of, progress_at};
+ghost use Rattle.hub_core.specs.OpenHubs.{configuration_of};
+ghost use Rattle.window_devices.specs.KnownDevices.{progress_at};
 ghost use Rattle.lock_leasing.specs.Configurations.{read_of};
 ghost use Rattle.lock_leasing.specs.Standings.{IsStandingOf};
 
-use crate::away::Away;
 use device_states::Device;
 use history_book::{Entry, Made, ReadHistory};
 use home_types::{DeviceNo, Item, List, RunNo, Stand};
 use lock_leasing::{Purpose, Standing};
 use std::marker::Model;
+use window_devices::Away;
 use window_order::KeptOrder;
 
 /// The lists that closing a window fills: empty, each with room for every device, but for the
@@ -68,8 +68,7 @@ impl<D: Device> OpenWindow<D> {
     /// Table, line, history and roster of the window, outside the weak model.
     pub(crate) fn standing(&self) -> Standing<'_>
         requires strong { is_weak self.now.setting.mode ≡ false }
-        ensures { IsStandingOf (configuration_of self.now) result.table.now result.line.now.marks
-            result.book.now.items (runs_of result.roster.now) }
+        ensures { IsStandingOf (configuration_of self.now) result }
     {
         self.order.table.kept();
         Standing {

@@ -1,5 +1,5 @@
 //! The detector takes a device for a probe, and gives it back.
-ghost use Rattle.std.specs.Prelude.{Some, false, length, not, true, ℕ, ◌<◌, ◌≡◌};
+ghost use Rattle.std.specs.Prelude.{Some, false, not, true, ◌<◌, ◌≡◌};
 ghost use Rattle.device_gate.specs.Calls.{has_died};
 ghost use Rattle.device_gate.specs.Places.{IsKept};
 ghost use Rattle.history_book.specs.Settings.{is_device};
@@ -9,13 +9,13 @@ ghost use Rattle.hub_core.specs.Steps.{may_probe, restored};
 ghost use Rattle.lock_leasing.specs.Configurations.{read_of};
 
 use crate::failures::{doom_lost, note_fall, note_rise};
-use crate::known::DeviceProgress;
 use crate::open_windows::OpenWindow;
 use device_gate::{Done, Grip, Ready, Stranger, Task};
 use device_states::Device;
 use history_book::{Made, NONE_MADE, one_made};
 use home_types::{DeviceNo, Value};
 use lock_leasing::Purpose;
+use window_devices::DeviceProgress;
 
 impl<D: Device> OpenWindow<D> {
     /// Hands out a probe of the device: none where it is out or no device of the home, or no probe

@@ -2,11 +2,9 @@
 ghost use Rattle.std.specs.Prelude.{false, true, ◌<◌, ◌≡◌};
 ghost use Rattle.device_gate.specs.Calls.{has_died};
 ghost use Rattle.device_gate.specs.Places.{IsKept};
-ghost use Rattle.history_book.specs.Readings.{is_fine, is_told};
 ghost use Rattle.lock_leasing.specs.Configurations.{is_undo};
-ghost use Rattle.lock_leasing.specs.Tables.{view_when};
 ghost use Rattle.hub_core.specs.HubCalls.{IsGiven, SameWindow};
-ghost use Rattle.hub_core.specs.OpenHubs.{progress_at};
+ghost use Rattle.window_devices.specs.KnownDevices.{progress_at};
 
 use crate::changes::{doom_for, note_answer};
 use crate::failures::note_fall;

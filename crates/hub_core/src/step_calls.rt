@@ -1,7 +1,7 @@
 //! The four calls that make a step of a hub: the window's step, and then the marks. After each of
 //! them the items of the line that were final before stand first, in their order, and no fewer are
 //! final.
-ghost use Rattle.std.specs.Prelude.{◌≡◌, max, ℕ};
+ghost use Rattle.std.specs.Prelude.{◌≡◌, max};
 ghost use Rattle.history_book.specs.Sealed.{StaysSealed};
 ghost use Rattle.hub_core.specs.BlockedMarks.{AreBlocked};
 ghost use Rattle.hub_core.specs.Decisions.{told_choice};

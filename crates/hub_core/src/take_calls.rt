@@ -1,5 +1,5 @@
 //! A run takes its turn in its window.
-ghost use Rattle.std.specs.Prelude.{◌≡◌, max, ℕ};
+ghost use Rattle.std.specs.Prelude.{◌≡◌, max};
 ghost use Rattle.hub_core.specs.Decisions.{told_choice};
 ghost use Rattle.hub_core.specs.HubCalls.{IsTurn, SameWindow};
 ghost use Rattle.hub_core.specs.OpenHubs.{configuration_of};

@@ -1,5 +1,5 @@
 //! The steps of runs under the weak model, where they are others than in the models with an order.
-ghost use Rattle.std.specs.Prelude.{false, is_some, max, true, ℕ, ◌≡◌};
+ghost use Rattle.std.specs.Prelude.{max, true, ℕ, ◌≡◌};
 ghost use Rattle.command_rules.specs.Rosters.{is_run};
 ghost use Rattle.history_book.specs.Progress.{progress_of};
 ghost use Rattle.history_book.specs.Settings.{is_weak};

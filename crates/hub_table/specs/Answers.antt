@@ -33,8 +33,8 @@ refusal (Some out) ticket told =
     else Some NotOut
 
 -- the device d was out with this ticket, told this, and is back
-pub record HasComeBack (s : OpenHub HandedDevice) (d ticket : ℕ) (told : Told) (m : ℕ) (made : List Entry)
-    (t : OpenHub HandedDevice) : Type 0 where
+pub record HasComeBack (s : OpenHub HandedDevice) (d ticket : ℕ) (told : Told) (m : ℕ)
+    (made : List Entry) (t : OpenHub HandedDevice) : Type 0 where
   pub done : Gripped HandedDevice Done
   pub device : done.slip.device.0 ≡ d
   pub ticket_is : done.slip.ticket ≡ ticket

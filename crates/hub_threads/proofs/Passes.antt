@@ -18,7 +18,6 @@ use Rattle.hub_core.specs.declared.turns.Turn.TheVariants.{Absent, Go, Moved, Ov
 use Rattle.hub_core.specs.declared.turns.Turn.{Turn}
 use Rattle.hub_threads.specs.Passes.{CanGoOut, GoesWith, IsDetectorsPass, IsPassOf, IsRunsPass, Lent, out_after, out_in, what_is_out}
 use Rattle.lock_leasing.specs.Configurations.{Configuration}
-use Rattle.lock_leasing.specs.declared.purposes.Purpose.TheVariants.{Probes}
 use Rattle.lock_leasing.specs.declared.purposes.Purpose.{Purpose}
 use Rattle.std.proofs.Common.{ap, arith, refl, subst, sym, ◌∙◌}
 use Rattle.std.proofs.lemmas.List.{map-set}

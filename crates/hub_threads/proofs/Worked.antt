@@ -4,7 +4,8 @@ use Rattle.history_book.specs.declared.records.WindowRecord.{WindowRecord}
 use Rattle.hub_core.proofs.Cited.{plan_in, window_worked}
 use Rattle.hub_core.specs.Homes.{HomeState}
 use Rattle.hub_core.specs.HubCalls.{HubStands, WindowIsClosed, probes_taken}
-use Rattle.hub_core.specs.OpenHubs.{OpenHub, progress_at}
+use Rattle.hub_core.specs.OpenHubs.{OpenHub}
+use Rattle.window_devices.specs.KnownDevices.{progress_at}
 use Rattle.hub_threads.specs.Moments.{AreWithin}
 use Rattle.hub_threads.specs.Named.{IsNamed}
 use Rattle.hub_threads.specs.Names.{NamedWindow}

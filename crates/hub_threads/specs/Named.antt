@@ -6,7 +6,8 @@ use Rattle.device_gate.specs.declared.gates.Place.{Place}
 use Rattle.device_states.specs.Devices.{Plan, Shown}
 use Rattle.history_book.specs.declared.entries.Entry.{Entry}
 use Rattle.home_types.specs.Numbers.{DeviceId}
-use Rattle.hub_core.specs.OpenHubs.{OpenHub, progress_at}
+use Rattle.hub_core.specs.OpenHubs.{OpenHub}
+use Rattle.window_devices.specs.KnownDevices.{progress_at}
 use Rattle.hub_core.specs.declared.turns.Turn.TheVariants.{Absent, Go, Moved, Over, Wait}
 use Rattle.hub_core.specs.declared.turns.Turn.{Turn}
 use Rattle.hub_threads.specs.Moments.{AreWithin}

@@ -4,8 +4,8 @@ use Rattle.history_book.specs.Settings.{Setting}
 use Rattle.home_types.specs.Numbers.{DeviceId, Moment}
 use Rattle.home_types.specs.declared.modes.Scheduler.TheVariants.{Fcfs}
 use Rattle.home_types.specs.declared.modes.Visibility.TheVariants.{Weak}
-use Rattle.hub_core.specs.OpenHubs.{no_counts}
-use Rattle.hub_core.specs.declared.known.DeviceCallCounts.{DeviceCallCounts}
+use Rattle.window_devices.specs.KnownDevices.{no_counts}
+use Rattle.window_devices.specs.declared.known.DeviceCallCounts.{DeviceCallCounts}
 use Rattle.std.specs.Prelude.{None, [], ℕ, ◌≡◌, ◌≤◌}
 
 -- what the hub of a window keeps from its opening on, and between which moments it is worked

@@ -1,8 +1,8 @@
 -- The runs that sleep, as words of bits.
+use Rattle.blocked_runs.specs.RunBits.{has_run}
 use Rattle.history_book.specs.declared.entries.Entry.TheVariants.{Arrived, Did, Doomed, Ended, Fell, Placed, Rose, Undid}
 use Rattle.history_book.specs.declared.entries.Entry.{Entry}
 use Rattle.home_types.specs.Numbers.{RunId}
-use Rattle.blocked_runs.specs.RunBits.{has_run}
 use Rattle.hub_core.specs.BlockedRuns.{IsBlocked}
 use Rattle.hub_core.specs.declared.waits.Why.TheVariants.{Behind, Busy, Denied, Dirty, Follow, Strict}
 use Rattle.hub_core.specs.declared.waits.Why.{Why}

@@ -4,7 +4,8 @@ use Rattle.history_book.specs.Settings.{Setting}
 use Rattle.history_book.specs.declared.records.WindowRecord.{WindowRecord}
 use Rattle.home_types.specs.Numbers.{DeviceId, Moment}
 use Rattle.hub_core.specs.Homes.{HomeState}
-use Rattle.hub_core.specs.OpenHubs.{OpenHub, progress_at}
+use Rattle.hub_core.specs.OpenHubs.{OpenHub}
+use Rattle.window_devices.specs.KnownDevices.{progress_at}
 use Rattle.hub_core.specs.WindowWays.{WindowIsWorked}
 use Rattle.hub_threads.specs.Moments.{AreWithin}
 use Rattle.std.specs.Prelude.{length, ℕ, ◌<◌, ◌≡◌}

@@ -1,10 +1,9 @@
 -- What is answered by the first place and the first denial is what just-in-time admission says.
 use Rattle.command_rules.proofs.Cited.{device_below}
-use Rattle.command_rules.specs.Rosters.{Run, commands_of, device_no, is_run, run_no, touches}
+use Rattle.command_rules.specs.Rosters.{commands_of, device_no, is_run, run_no, touches}
 use Rattle.history_book.specs.Lines.{split_at}
 use Rattle.history_book.specs.Readings.{Reading, is_live}
 use Rattle.history_book.specs.Settings.{Setting}
-use Rattle.history_book.specs.declared.entries.Kept.{Kept}
 use Rattle.home_types.specs.Limits.{most_devices}
 use Rattle.jit_scheduler.proofs.Deniers.{denial_is, plain_denial}
 use Rattle.jit_scheduler.specs.Admissions.{Admitting, IsAdmissionOf, IsPlaceOfLine, IsPlacingOf, IsToBePlaced, MayAdmit, admission, admitted_placing, answer_by}
@@ -12,16 +11,16 @@ use Rattle.jit_scheduler.specs.Denials.{first_denial}
 use Rattle.jit_scheduler.specs.declared.answers.Admit.TheVariants.{At, Denied, Patience}
 use Rattle.jit_scheduler.specs.declared.answers.Admit.{Admit}
 use Rattle.jit_scheduler.specs.declared.denials.Denial.{Denial as FoundDenial}
-use Rattle.lineage_table.specs.Lineages.{LineageState}
 use Rattle.lock_leasing.proofs.Cited.{facts_of, place_within}
 use Rattle.lock_leasing.specs.Configurations.{Grips, point, point_of, read_of}
 use Rattle.lock_leasing.specs.FirstPlaces.{IsFirstPlaceOf}
 use Rattle.lock_leasing.specs.Places.{At as PlacedAt, Denial, DeniedBy, Placing, denial_of, first_place, just_in_time, patience}
+use Rattle.lock_leasing.specs.Standings.{WindowParts}
 use Rattle.serial_line.specs.Marks.{Mark}
 use Rattle.std.proofs.Common.{ap, arith, refl, subst, sym, ◌∙◌}
 use Rattle.std.proofs.lemmas.Grind.{common_steps}
 use Rattle.std.proofs.lemmas.List.{length-map}
-use Rattle.std.specs.Prelude.{Bool, IsTrue, List, None, Option, Some, false, if◌then◌else◌, is_some, length, nat_le, option_map, true, unwrap_or, ℕ, ◌+◌, ◌<◌, ◌≡◌, ◌≤◌}
+use Rattle.std.specs.Prelude.{Bool, IsTrue, None, Option, Some, false, if◌then◌else◌, is_some, length, nat_le, option_map, true, unwrap_or, ℕ, ◌+◌, ◌<◌, ◌≡◌, ◌≤◌}
 
 -- A run that is to be placed
 
@@ -29,36 +28,36 @@ not_live : (n : Reading) (r came : ℕ) → IsToBePlaced n r came → is_live n 
 not_live n r came turn = let unplaced = turn.unplaced in grind (arith, common_steps)
 
 -- it is one of the roster
-pub may_run : (table : List LineageState) (line : List Mark) (history : List Kept) (runs : List Run) (r came : ℕ) → MayAdmit table line history runs r came → IsTrue (is_run runs r)
-may_run table line history runs r came (Admitting s parts turn) = subst (λ xs. IsTrue (is_run xs r)) parts.its_roster known
+pub may_run : (parts : WindowParts) (r came : ℕ) → MayAdmit parts r came → IsTrue (is_run parts.runs r)
+may_run parts r came (Admitting s stands turn) = subst (λ xs. IsTrue (is_run xs r)) stands.its_roster known
   where
     known : IsTrue (is_run s.setting.runs r)
-    known = let shape = (facts_of s table line history runs parts).shaped r in shape.known (ap is_some turn.arrived)
+    known = let shape = (facts_of s parts stands).shaped r in shape.known (ap is_some turn.arrived)
 
 -- the table has no more devices than a home
-pub may_fit : (table : List LineageState) (line : List Mark) (history : List Kept) (runs : List Run) (r came : ℕ) → MayAdmit table line history runs r came → length table ≤ most_devices
-may_fit table line history runs r came (Admitting s parts turn) = let size = parts.its_table.devices in let few = parts.allowed.few_devices in omega (arith, size, few)
+pub may_fit : (parts : WindowParts) (r came : ℕ) → MayAdmit parts r came → length parts.table ≤ most_devices
+may_fit parts r came (Admitting s stands turn) = let size = stands.its_table.devices in let few = stands.allowed.few_devices in omega (arith, size, few)
 
 -- .. and has those of the run
-pub may_reach : (table : List LineageState) (line : List Mark) (history : List Kept) (runs : List Run) (r came : ℕ) → MayAdmit table line history runs r came → (d : ℕ) → touches runs r d ≡ true → d < length table
-may_reach table line history runs r came (Admitting s parts turn) d on =
-    let size = parts.its_table.devices in
-    let own : touches s.setting.runs r d ≡ true = ap (λ rs. touches rs r d) parts.its_roster ∙ on in
-    let below : d < length s.setting.first = device_below d (length s.setting.first) (commands_of s.setting.runs r) (λ k c there. parts.allowed.homed r k c there) own in
+pub may_reach : (parts : WindowParts) (r came : ℕ) → MayAdmit parts r came → (d : ℕ) → touches parts.runs r d ≡ true → d < length parts.table
+may_reach parts r came (Admitting s stands turn) d on =
+    let size = stands.its_table.devices in
+    let own : touches s.setting.runs r d ≡ true = ap (λ rs. touches rs r d) stands.its_roster ∙ on in
+    let below : d < length s.setting.first = device_below d (length s.setting.first) (commands_of s.setting.runs r) (λ k c there. stands.allowed.homed r k c there) own in
     omega (arith, size, below)
 
 -- The answer
 
-module _ (table : List LineageState) (line : List Mark) (history : List Kept) (runs : List Run) (r came m place : ℕ) (first : IsFirstPlaceOf table line history runs r place) where
+module _ (parts : WindowParts) (r came m place : ℕ) (first : IsFirstPlaceOf parts r place) where
   abbrev told : Setting → Reading → Grips → Option Denial → Admit
   told w n g None = At (first_place (point w n g) r)
   told w n g (Some x) = if nat_le (unwrap_or (n.run r).arrived 0 + patience) m then Patience else Denied (device_no x.device) (run_no x.run)
 
-  pub answer_is : IsAdmissionOf table line history runs r came m (answer_by place (first_denial table line history runs r place) came m)
-  answer_is s parts turn =
-      ap (λ k. answer_by k (first_denial table line history runs r k) came m) (first s parts)
-      ∙ by_own (first_denial table line history runs r (first_place (point_of s) r))
-      ∙ ap (told s.setting (read_of s) s.grips) (denial_is s table line history runs r parts (not_live (read_of s) r came turn))
+  pub answer_is : IsAdmissionOf parts r came m (answer_by place (first_denial parts r place) came m)
+  answer_is s stands turn =
+      ap (λ k. answer_by k (first_denial parts r k) came m) (first s stands)
+      ∙ by_own (first_denial parts r (first_place (point_of s) r))
+      ∙ ap (told s.setting (read_of s) s.grips) (denial_is s parts r stands (not_live (read_of s) r came turn))
     where
       by_own : (o : Option FoundDenial) → answer_by (first_place (point_of s) r) o came m ≡ told s.setting (read_of s) s.grips (option_map (λ x. plain_denial x) o)
       by_own None = refl
@@ -86,31 +85,31 @@ placing_is w n g r m = at (denial_of (point w n g) r)
 
 -- The clauses
 
-pub exact_is : (table : List LineageState) (line : List Mark) (history : List Kept) (runs : List Run) (r came m place : ℕ) (answer : Admit) → IsFirstPlaceOf table line history runs r place
-    → answer ≡ answer_by place (first_denial table line history runs r place) came m → IsAdmissionOf table line history runs r came m answer
-exact_is table line history runs r came m place answer first same s parts turn = same ∙ answer_is table line history runs r came m place first s parts turn
+pub exact_is : (parts : WindowParts) (r came m place : ℕ) (answer : Admit) → IsFirstPlaceOf parts r place
+    → answer ≡ answer_by place (first_denial parts r place) came m → IsAdmissionOf parts r came m answer
+exact_is parts r came m place answer first same s stands turn = same ∙ answer_is parts r came m place first s stands turn
 
-pub placing_told : (table : List LineageState) (line : List Mark) (history : List Kept) (runs : List Run) (r came m place : ℕ) (answer : Admit) → IsFirstPlaceOf table line history runs r place
-    → answer ≡ answer_by place (first_denial table line history runs r place) came m → IsPlacingOf table line history runs r came m answer
-placing_told table line history runs r came m place answer first same s parts turn =
-    ap (admitted_placing (read_of s).line) (exact_is table line history runs r came m place answer first same s parts turn) ∙ placing_is s.setting (read_of s) s.grips r m
+pub placing_told : (parts : WindowParts) (r came m place : ℕ) (answer : Admit) → IsFirstPlaceOf parts r place
+    → answer ≡ answer_by place (first_denial parts r place) came m → IsPlacingOf parts r came m answer
+placing_told parts r came m place answer first same s stands turn =
+    ap (admitted_placing (read_of s).line) (exact_is parts r came m place answer first same s stands turn) ∙ placing_is s.setting (read_of s) s.grips r m
 
-pub within_told : (table : List LineageState) (line : List Mark) (history : List Kept) (runs : List Run) (r came m place : ℕ) (answer : Admit) → MayAdmit table line history runs r came → IsFirstPlaceOf table line history runs r place
-    → answer ≡ answer_by place (first_denial table line history runs r place) came m → IsPlaceOfLine line answer
-within_told table line history runs r came m place answer (Admitting s parts turn) first same =
-    subst (IsPlaceOfLine line) (sym same) (at (first_denial table line history runs r place))
+pub within_told : (parts : WindowParts) (r came m place : ℕ) (answer : Admit) → MayAdmit parts r came → IsFirstPlaceOf parts r place
+    → answer ≡ answer_by place (first_denial parts r place) came m → IsPlaceOfLine parts.line answer
+within_told parts r came m place answer (Admitting s stands turn) first same =
+    subst (IsPlaceOfLine parts.line) (sym same) (at (first_denial parts r place))
   where
-    inside : place ≤ length line
+    inside : place ≤ length parts.line
     inside =
-        let own : place ≡ first_place (point_of s) r = first s parts in
+        let own : place ≡ first_place (point_of s) r = first s stands in
         let below : first_place (point_of s) r ≤ length (read_of s).line = place_within s.setting (read_of s) s.grips r in
-        let size : length line ≡ length (read_of s).line = sym (length-map line (λ (k : Mark). k.item)) ∙ ap length parts.its_line.items in
+        let size : length parts.line ≡ length (read_of s).line = sym (length-map parts.line (λ (k : Mark). k.item)) ∙ ap length stands.its_line.items in
         omega (arith, own, below, size)
 
-    at : (o : Option FoundDenial) → IsPlaceOfLine line (answer_by place o came m)
+    at : (o : Option FoundDenial) → IsPlaceOfLine parts.line (answer_by place o came m)
     at None = inside
     at (Some x) = waited (nat_le (came + patience) m)
       where
-        waited : (b : Bool) → IsPlaceOfLine line (if b then Patience else Denied x.device x.run)
+        waited : (b : Bool) → IsPlaceOfLine parts.line (if b then Patience else Denied x.device x.run)
         waited true = tt
         waited false = tt

@@ -1,5 +1,5 @@
 -- By which run a device is denied: the parts of one window tell it as the history does.
-use Rattle.command_rules.specs.Rosters.{Run, device_no, reads_first, touches}
+use Rattle.command_rules.specs.Rosters.{device_no, reads_first, touches}
 use Rattle.history_book.proofs.Cited.{doom_is}
 use Rattle.history_book.specs.Books.{doom_of}
 use Rattle.history_book.specs.Readings.{Reading, is_doomed, is_live}
@@ -12,13 +12,13 @@ use Rattle.jit_scheduler.proofs.Searches.{first_alike, first_filtered}
 use Rattle.jit_scheduler.specs.Denials.{denial_on, denier, first_denial, only_before, stands_before}
 use Rattle.jit_scheduler.specs.declared.denials.Denial.{Denial as FoundDenial}
 use Rattle.lineage_table.specs.Accesses.{effective_writer}
-use Rattle.lineage_table.specs.Lineages.{LineageState, accesses_at, lineage_at}
+use Rattle.lineage_table.specs.Lineages.{accesses_at, lineage_at}
 use Rattle.lineage_table.specs.declared.accesses.Access.{Access}
 use Rattle.lock_leasing.proofs.Cited.{Facts, facts_of, live_writer, writer_is}
 use Rattle.lock_leasing.specs.Configurations.{Configuration, Grips, point, point_of, read_of}
 use Rattle.lock_leasing.specs.Holders.{holder_before}
 use Rattle.lock_leasing.specs.Places.{Denial, denial_of, denied_by, first_place, first_some}
-use Rattle.lock_leasing.specs.Standings.{IsStandingOf}
+use Rattle.lock_leasing.specs.Standings.{IsStandingOf, WindowParts}
 use Rattle.lock_leasing.specs.Tables.{EachTellsOfRun, IsLineageOf, runs_with_access}
 use Rattle.lock_leasing.specs.Words.{Write, effective_write, effective_writer_of, holds_device, live_runs}
 use Rattle.serial_line.specs.Marks.{Mark, items_of}
@@ -92,31 +92,31 @@ named : (d : ℕ) (o : Option RunNo) → option_map (λ x. plain_denial x) (opti
 named d None = refl
 named d (Some x) = refl
 
-module _ (s : Configuration) (table : List LineageState) (line : List Mark) (history : List Kept) (runs : List Run) (r : ℕ) (parts : IsStandingOf s table line history runs) (dead : is_live (read_of s) r ≡ false) where
-  dooms : (q : ℕ) → is_some (doom_of history q) ≡ is_doomed (read_of s) q
-  dooms q = ap is_some (ap (λ h. doom_of h q) (sym parts.its_history) ∙ doom_is s.setting s.history q parts.well_formed)
+module _ (s : Configuration) (parts : WindowParts) (r : ℕ) (stands : IsStandingOf s parts) (dead : is_live (read_of s) r ≡ false) where
+  dooms : (q : ℕ) → is_some (doom_of parts.history q) ≡ is_doomed (read_of s) q
+  dooms q = ap is_some (ap (λ h. doom_of h q) (sym stands.its_history) ∙ doom_is s.setting s.history q stands.well_formed)
 
   denial_alike : (d : ℕ) → d < length s.setting.first
-      → option_map (λ x. plain_denial x) (denial_on table line history s.setting.runs r (first_place (point_of s) r) d) ≡ (if touches s.setting.runs r d then option_map (λ x. denial_by d x) (denied_by (point_of s) r d) else None)
+      → option_map (λ x. plain_denial x) (denial_on (record parts { runs = s.setting.runs }) r (first_place (point_of s) r) d) ≡ (if touches s.setting.runs r d then option_map (λ x. denial_by d x) (denied_by (point_of s) r d) else None)
   denial_alike d within = at (touches s.setting.runs r d)
     where
-      lineage : IsLineageOf (point_of s) d (lineage_at table d)
-      lineage = parts.its_table.each d within
+      lineage : IsLineageOf (point_of s) d (lineage_at parts.table d)
+      lineage = stands.its_table.each d within
 
-      same : option_map (λ q. q.0) (denier line history s.setting.runs r (first_place (point_of s) r) d (accesses_at table d)) ≡ denied_by (point_of s) r d
-      same = denier_is s.setting (read_of s) s.grips (facts_of s table line history runs parts) d line history r (accesses_at table d) dooms dead parts.its_line.items lineage.runs lineage.each
+      same : option_map (λ q. q.0) (denier parts.line parts.history s.setting.runs r (first_place (point_of s) r) d (accesses_at parts.table d)) ≡ denied_by (point_of s) r d
+      same = denier_is s.setting (read_of s) s.grips (facts_of s parts stands) d parts.line parts.history r (accesses_at parts.table d) dooms dead stands.its_line.items lineage.runs lineage.each
 
       at : (b : Bool) → option_map (λ x. plain_denial x)
-          (if b then option_map (λ x. found_by d x) (denier line history s.setting.runs r (first_place (point_of s) r) d (accesses_at table d))
+          (if b then option_map (λ x. found_by d x) (denier parts.line parts.history s.setting.runs r (first_place (point_of s) r) d (accesses_at parts.table d))
           else None) ≡ (if b then option_map (λ x. denial_by d x) (denied_by (point_of s) r d) else None)
-      at true = named d (denier line history s.setting.runs r (first_place (point_of s) r) d (accesses_at table d)) ∙ ap (option_map (λ x. denial_by d x)) same
+      at true = named d (denier parts.line parts.history s.setting.runs r (first_place (point_of s) r) d (accesses_at parts.table d)) ∙ ap (option_map (λ x. denial_by d x)) same
       at false = refl
 
-  pub denial_is : option_map (λ x. plain_denial x) (first_denial table line history runs r (first_place (point_of s) r)) ≡ denial_of (point_of s) r
+  pub denial_is : option_map (λ x. plain_denial x) (first_denial parts r (first_place (point_of s) r)) ≡ denial_of (point_of s) r
   denial_is =
-      ap (λ rs. option_map (λ x. plain_denial x) (first_denial table line history rs r (first_place (point_of s) r))) (sym parts.its_roster)
-      ∙ ap (λ k. option_map (λ x. plain_denial x) (first_some (denial_on table line history s.setting.runs r (first_place (point_of s) r)) (range_with_len 0 k))) parts.its_table.devices
-      ∙ first_alike (λ x. plain_denial x) (denial_on table line history s.setting.runs r (first_place (point_of s) r))
+      ap (λ rs. option_map (λ x. plain_denial x) (first_denial (record parts { runs = rs }) r (first_place (point_of s) r))) (sym stands.its_roster)
+      ∙ ap (λ k. option_map (λ x. plain_denial x) (first_some (denial_on (record parts { runs = s.setting.runs }) r (first_place (point_of s) r)) (range_with_len 0 k))) stands.its_table.devices
+      ∙ first_alike (λ x. plain_denial x) (denial_on (record parts { runs = s.setting.runs }) r (first_place (point_of s) r))
       (λ d. if touches s.setting.runs r d then option_map (λ x. denial_by d x) (denied_by (point_of s) r d) else None) 0
       (length s.setting.first) (λ d within. denial_alike d (omega (arith, within)))
       ∙ first_filtered (λ d. option_map (λ x. denial_by d x) (denied_by (point_of s) r d)) (touches s.setting.runs r) (range_with_len 0 (length s.setting.first))

@@ -1,50 +1,49 @@
 -- The first denial, found by a walk from one device of a run to its next one.
-use Rattle.command_rules.specs.Rosters.{Run, device_no, touches}
-use Rattle.history_book.specs.declared.entries.Kept.{Kept}
+use Rattle.command_rules.specs.Rosters.{device_no, touches}
 use Rattle.home_types.specs.declared.numbers.DeviceNo.{DeviceNo}
 use Rattle.home_types.specs.declared.numbers.RunNo.{RunNo}
 use Rattle.jit_scheduler.proofs.Searches.{first_at, first_nowhere, none_before, none_through}
 use Rattle.jit_scheduler.specs.Denials.{denial_on, denier, first_denial}
 use Rattle.jit_scheduler.specs.declared.denials.Denial.{Denial}
-use Rattle.lineage_table.specs.Lineages.{LineageState, accesses_at}
-use Rattle.serial_line.specs.Marks.{Mark}
+use Rattle.lineage_table.specs.Lineages.{accesses_at}
+use Rattle.lock_leasing.specs.Standings.{WindowParts}
 use Rattle.std.proofs.Common.{ap, arith, refl, sym, ◌∙◌}
-use Rattle.std.specs.Prelude.{Bool, List, None, Some, false, if◌then◌else◌, length, option_map, true, ℕ, ◌+◌, ◌<◌, ◌≡◌, ◌≤◌}
+use Rattle.std.specs.Prelude.{Bool, None, Some, false, if◌then◌else◌, length, option_map, true, ℕ, ◌+◌, ◌<◌, ◌≡◌, ◌≤◌}
 
 abbrev by_run : DeviceNo → RunNo → Denial
 by_run d x = record { device = d; run = x }
 
-module _ (table : List LineageState) (line : List Mark) (history : List Kept) (runs : List Run) (r place : ℕ) where
+module _ (parts : WindowParts) (r place : ℕ) where
   abbrev Passed : ℕ → Type 0
-  Passed from = (e : ℕ) → e < from → denial_on table line history runs r place e ≡ None
+  Passed from = (e : ℕ) → e < from → denial_on parts r place e ≡ None
 
-  untouched : (e : ℕ) → touches runs r e ≡ false → denial_on table line history runs r place e ≡ None
-  untouched e off = ap (λ b. if b then option_map (λ x. by_run (device_no e) x) (denier line history runs r place e (accesses_at table e)) else None) off
+  untouched : (e : ℕ) → touches parts.runs r e ≡ false → denial_on parts r place e ≡ None
+  untouched e off = ap (λ b. if b then option_map (λ x. by_run (device_no e) x) (denier parts.line parts.history parts.runs r place e (accesses_at parts.table e)) else None) off
 
-  denied : (d : DeviceNo) (x : RunNo) → touches runs r d.0 ≡ true → Some x ≡ denier line history runs r place d.0 (accesses_at table d.0) → denial_on table line history runs r place d.0 ≡ Some (by_run d x)
+  denied : (d : DeviceNo) (x : RunNo) → touches parts.runs r d.0 ≡ true → Some x ≡ denier parts.line parts.history parts.runs r place d.0 (accesses_at parts.table d.0) → denial_on parts r place d.0 ≡ Some (by_run d x)
   denied d x on by =
-      ap (λ b. if b then option_map (λ y. by_run (device_no d.0) y) (denier line history runs r place d.0 (accesses_at table d.0)) else None) on
+      ap (λ b. if b then option_map (λ y. by_run (device_no d.0) y) (denier parts.line parts.history parts.runs r place d.0 (accesses_at parts.table d.0)) else None) on
       ∙ ap (option_map (λ y. by_run (device_no d.0) y)) (sym by)
 
-  free : (d : ℕ) → None ≡ denier line history runs r place d (accesses_at table d) → denial_on table line history runs r place d ≡ None
-  free d none = ap (λ o. if touches runs r d then option_map (λ y. by_run (device_no d) y) o else None) (sym none) ∙ at (touches runs r d)
+  free : (d : ℕ) → None ≡ denier parts.line parts.history parts.runs r place d (accesses_at parts.table d) → denial_on parts r place d ≡ None
+  free d none = ap (λ o. if touches parts.runs r d then option_map (λ y. by_run (device_no d) y) o else None) (sym none) ∙ at (touches parts.runs r d)
     where
       at : (b : Bool) → (if b then option_map (λ y. by_run (device_no d) y) None else None) ≡ None
       at true = refl
       at false = refl
 
   -- a device that is denied, and none before it
-  pub first_one : (from : ℕ) (d : DeviceNo) (x : RunNo) → d.0 < length table → touches runs r d.0 ≡ true → Some x ≡ denier line history runs r place d.0 (accesses_at table d.0) → Passed from
-      → ((e : ℕ) → from ≤ e → e < d.0 → touches runs r e ≡ false) → Some (record { device = d; run = x }) ≡ first_denial table line history runs r place
+  pub first_one : (from : ℕ) (d : DeviceNo) (x : RunNo) → d.0 < length parts.table → touches parts.runs r d.0 ≡ true → Some x ≡ denier parts.line parts.history parts.runs r place d.0 (accesses_at parts.table d.0) → Passed from
+      → ((e : ℕ) → from ≤ e → e < d.0 → touches parts.runs r e ≡ false) → Some (record { device = d; run = x }) ≡ first_denial parts r place
   first_one from d x within on by passed between =
-      sym (first_at (denial_on table line history runs r place) (length table) d.0 (by_run d x) within (denied d x on by) (none_before (denial_on table line history runs r place) (touches runs r) from d.0 untouched passed between))
+      sym (first_at (denial_on parts r place) (length parts.table) d.0 (by_run d x) within (denied d x on by) (none_before (denial_on parts r place) (touches parts.runs r) from d.0 untouched passed between))
 
   -- one that is not denied either
-  pub passed_one : (from : ℕ) (d : DeviceNo) → None ≡ denier line history runs r place d.0 (accesses_at table d.0) → Passed from → ((e : ℕ) → from ≤ e → e < d.0 → touches runs r e ≡ false) → Passed (d.0 + 1)
+  pub passed_one : (from : ℕ) (d : DeviceNo) → None ≡ denier parts.line parts.history parts.runs r place d.0 (accesses_at parts.table d.0) → Passed from → ((e : ℕ) → from ≤ e → e < d.0 → touches parts.runs r e ≡ false) → Passed (d.0 + 1)
   passed_one from d none passed between =
-      none_through (denial_on table line history runs r place) d.0 (none_before (denial_on table line history runs r place) (touches runs r) from d.0 untouched passed between) (free d.0 none)
+      none_through (denial_on parts r place) d.0 (none_before (denial_on parts r place) (touches parts.runs r) from d.0 untouched passed between) (free d.0 none)
 
   -- no device is left
-  pub none_left : (from : ℕ) → Passed from → ((e : ℕ) → from ≤ e → touches runs r e ≡ false) → None ≡ first_denial table line history runs r place
+  pub none_left : (from : ℕ) → Passed from → ((e : ℕ) → from ≤ e → touches parts.runs r e ≡ false) → None ≡ first_denial parts r place
   none_left from passed left =
-      sym (first_nowhere (denial_on table line history runs r place) (length table) (λ e within. none_before (denial_on table line history runs r place) (touches runs r) from (e + 1) untouched passed (λ k reached below. left k reached) e (omega arith)))
+      sym (first_nowhere (denial_on parts r place) (length parts.table) (λ e within. none_before (denial_on parts r place) (touches parts.runs r) from (e + 1) untouched passed (λ k reached below. left k reached) e (omega arith)))

@@ -1,17 +1,15 @@
 -- What just-in-time admission answers, for parts that belong to one window.
-use Rattle.command_rules.specs.Rosters.{Run, device_no, run_no}
+use Rattle.command_rules.specs.Rosters.{device_no, run_no}
 use Rattle.history_book.specs.Lines.{split_at}
 use Rattle.history_book.specs.Readings.{Reading}
-use Rattle.history_book.specs.declared.entries.Kept.{Kept}
 use Rattle.home_types.specs.Numbers.{LinePlace, Moment, RunId}
 use Rattle.home_types.specs.declared.items.Item.{Item}
 use Rattle.jit_scheduler.specs.declared.answers.Admit.TheVariants.{At, Denied, Patience}
 use Rattle.jit_scheduler.specs.declared.answers.Admit.{Admit}
 use Rattle.jit_scheduler.specs.declared.denials.Denial.{Denial as FoundDenial}
-use Rattle.lineage_table.specs.Lineages.{LineageState}
 use Rattle.lock_leasing.specs.Configurations.{Configuration, Point, point_of, read_of}
 use Rattle.lock_leasing.specs.Places.{At as PlacedAt, Denial, DeniedBy, Placing, denial_of, first_place, just_in_time, patience}
-use Rattle.lock_leasing.specs.Standings.{IsStandingOf}
+use Rattle.lock_leasing.specs.Standings.{IsStandingOf, WindowParts}
 use Rattle.serial_line.specs.Marks.{Mark}
 use Rattle.std.specs.Prelude.{List, None, Option, Some, if◌then◌else◌, is_none, length, nat_le, true, unwrap_or, ⊤, ◌+◌, ◌≡◌, ◌≤◌}
 
@@ -21,10 +19,9 @@ pub record IsToBePlaced (n : Reading) (r : RunId) (came : Moment) : Type 0 where
   pub unplaced : is_none (n.run r).placed ≡ true
 
 -- the parts belong to one window, which is not of the weak model, and the run is to be placed in it
-pub data MayAdmit (table : List LineageState) (line : List Mark) (history : List Kept)
-    (runs : List Run) (r : RunId) (came : Moment) : Type 0 where
-  Admitting : (s : Configuration) (parts : IsStandingOf s table line history runs)
-      (turn : IsToBePlaced (read_of s) r came) → MayAdmit table line history runs r came
+pub data MayAdmit (parts : WindowParts) (r : RunId) (came : Moment) : Type 0 where
+  Admitting : (s : Configuration) (stands : IsStandingOf s parts)
+      (turn : IsToBePlaced (read_of s) r came) → MayAdmit parts r came
 
 -- what the scheduler says where this is the answer
 abbrev pub admitted_placing : List Item → Admit → Placing
@@ -51,17 +48,15 @@ answer_by place (Some x) came m =
 
 -- the answer says what just-in-time admission says, in each configuration to which the parts belong
 -- and in which the run is to be placed
-abbrev pub IsPlacingOf : List LineageState → List Mark → List Kept → List Run → RunId → Moment
-    → Moment → Admit → Type 0
-IsPlacingOf table line history runs r came m answer =
-    (s : Configuration) → IsStandingOf s table line history runs → IsToBePlaced (read_of s) r came
+abbrev pub IsPlacingOf : WindowParts → RunId → Moment → Moment → Admit → Type 0
+IsPlacingOf parts r came m answer =
+    (s : Configuration) → IsStandingOf s parts → IsToBePlaced (read_of s) r came
     → admitted_placing (read_of s).line answer ≡ just_in_time (point_of s) r m
 
 -- .. and tells a first place from the end after a wait
-abbrev pub IsAdmissionOf : List LineageState → List Mark → List Kept → List Run → RunId → Moment
-    → Moment → Admit → Type 0
-IsAdmissionOf table line history runs r came m answer =
-    (s : Configuration) → IsStandingOf s table line history runs → IsToBePlaced (read_of s) r came
+abbrev pub IsAdmissionOf : WindowParts → RunId → Moment → Moment → Admit → Type 0
+IsAdmissionOf parts r came m answer =
+    (s : Configuration) → IsStandingOf s parts → IsToBePlaced (read_of s) r came
     → answer ≡ admission (point_of s) r m
 
 -- a place is one of the line, or its end

@@ -6,10 +6,11 @@ use Rattle.home_types.specs.Numbers.{DeviceId, LinePlace, RunId}
 use Rattle.home_types.specs.declared.numbers.RunNo.{RunNo}
 use Rattle.jit_scheduler.specs.declared.denials.Denial.{Denial}
 use Rattle.lineage_table.specs.Accesses.{effective_writer}
-use Rattle.lineage_table.specs.Lineages.{LineageState, accesses_at}
+use Rattle.lineage_table.specs.Lineages.{accesses_at}
 use Rattle.lineage_table.specs.declared.accesses.Access.{Access}
 use Rattle.lock_leasing.specs.Holders.{holder_before}
 use Rattle.lock_leasing.specs.Places.{first_some}
+use Rattle.lock_leasing.specs.Standings.{WindowParts}
 use Rattle.serial_line.specs.Marks.{Mark, items_of}
 use Rattle.std.specs.List.{list_any, range_with_len}
 use Rattle.std.specs.Option.{option_or}
@@ -33,14 +34,12 @@ denier line history runs r place d accesses =
     (if reads_first runs r d then effective_writer accesses else None)
 
 -- the denial of the device, where it is one of r
-abbrev pub denial_on : List LineageState → List Mark → List Kept → List Run → RunId → LinePlace
-    → DeviceId → Option Denial
-denial_on table line history runs r place d =
-    if touches runs r d then option_map (λ x. record { device = device_no d; run = x })
-    (denier line history runs r place d (accesses_at table d)) else None
+abbrev pub denial_on : WindowParts → RunId → LinePlace → DeviceId → Option Denial
+denial_on parts r place d =
+    if touches parts.runs r d then option_map (λ x. record { device = device_no d; run = x })
+    (denier parts.line parts.history parts.runs r place d (accesses_at parts.table d)) else None
 
 -- the denial of the smallest device
-abbrev pub first_denial : List LineageState → List Mark → List Kept → List Run → RunId
-    → LinePlace → Option Denial
-first_denial table line history runs r place =
-    first_some (denial_on table line history runs r place) (range_with_len 0 (length table))
+abbrev pub first_denial : WindowParts → RunId → LinePlace → Option Denial
+first_denial parts r place =
+    first_some (denial_on parts r place) (range_with_len 0 (length parts.table))

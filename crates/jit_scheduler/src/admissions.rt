@@ -1,6 +1,5 @@
 //! Just-in-time admission: where a run is placed, or which device it is denied.
 ghost use Rattle.std.specs.Prelude.{◌≡◌};
-ghost use Rattle.command_rules.specs.Rosters.{runs_of};
 ghost use Rattle.jit_scheduler.specs.Admissions.{IsAdmissionOf, IsPlaceOfLine, IsPlacingOf, MayAdmit, answer_by};
 
 use crate::answers::Admit;
@@ -23,13 +22,10 @@ const PATIENCE: u64 = 10_000;
 /// not placed. Takes no memory, and reads of the history no more than the ends and the dooms of
 /// runs.
 pub fn admit(s: &Standing, r: RunNo, arrived: u64, moment: u64) -> Admit
-    requires { MayAdmit s.now.table.now s.now.line.now.marks s.now.book.now.items
-        (runs_of s.now.roster.now) r.0 arrived }
-    ensures placing { IsPlacingOf s.now.table.now s.now.line.now.marks s.now.book.now.items
-        (runs_of s.now.roster.now) r.0 arrived moment result }
-    ensures exact { IsAdmissionOf s.now.table.now s.now.line.now.marks s.now.book.now.items
-        (runs_of s.now.roster.now) r.0 arrived moment result }
-    ensures within { IsPlaceOfLine s.now.line.now.marks result }
+    requires { MayAdmit s.now r.0 arrived }
+    ensures placing { IsPlacingOf s.now r.0 arrived moment result }
+    ensures exact { IsAdmissionOf s.now r.0 arrived moment result }
+    ensures within { IsPlaceOfLine s.now.line result }
 {
     let place = first_place(s, r);
     let denial = find_denial(s, r, place);

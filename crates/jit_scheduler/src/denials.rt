@@ -1,6 +1,6 @@
 //! The first device that a run is denied, and the run that denies it.
 ghost use Rattle.std.specs.Prelude.{◌≡◌, ◌<◌, ◌≤◌, IsTrue, ℕ, length, true};
-ghost use Rattle.command_rules.specs.Rosters.{is_run, runs_of, touches};
+ghost use Rattle.command_rules.specs.Rosters.{is_run, touches};
 ghost use Rattle.home_types.specs.Limits.{most_devices};
 ghost use Rattle.jit_scheduler.specs.Denials.{denier, first_denial, only_before, stands_before};
 ghost use Rattle.lineage_table.specs.Lineages.{accesses_at};
@@ -19,12 +19,10 @@ pub(crate) struct Denial {
 
 /// The smallest device that is denied to `r`, whose first place is `place`.
 pub(crate) fn find_denial(s: &Standing, r: RunNo, place: u32) -> Option<Denial>
-    requires run { IsTrue (is_run (runs_of s.now.roster.now) r.0) }
-    requires few { length s.now.table.now ≤ most_devices }
-    requires homed { (d : ℕ) → touches (runs_of s.now.roster.now) r.0 d ≡ true
-        → d < length s.now.table.now }
-    ensures { result ≡ first_denial s.now.table.now s.now.line.now.marks s.now.book.now.items
-        (runs_of s.now.roster.now) r.0 place }
+    requires run { IsTrue (is_run s.now.runs r.0) }
+    requires few { length s.now.table ≤ most_devices }
+    requires homed { (d : ℕ) → touches s.now.runs r.0 d ≡ true → d < length s.now.table }
+    ensures { result ≡ first_denial s.now r.0 place }
 {
     let mut from = DeviceNo(0);
     'devices: while let Some(device) = s.roster.next_device(r, from) {
@@ -39,10 +37,10 @@ pub(crate) fn find_denial(s: &Standing, r: RunNo, place: u32) -> Option<Denial>
 /// The run by which the device is denied to `r`: the first one before the place that holds it,
 /// else, where `r` begins on it with a read, its effective writer.
 fn find_denier(s: &Standing, d: DeviceNo, r: RunNo, place: u32) -> Option<RunNo>
-    requires run { IsTrue (is_run (runs_of s.now.roster.now) r.0) }
-    requires device { d.0 < length s.now.table.now }
-    ensures { result ≡ denier s.now.line.now.marks s.now.book.now.items
-        (runs_of s.now.roster.now) r.0 place d.0 (accesses_at s.now.table.now d.0) }
+    requires run { IsTrue (is_run s.now.runs r.0) }
+    requires device { d.0 < length s.now.table }
+    ensures { result
+        ≡ denier s.now.line s.now.history s.now.runs r.0 place d.0 (accesses_at s.now.table d.0) }
 {
     match find_holder_before(s, d, r, place) {
         Some(x) => Some(x),
@@ -53,9 +51,9 @@ fn find_denier(s: &Standing, d: DeviceNo, r: RunNo, place: u32) -> Option<RunNo>
 
 /// The first run that holds the device, where it stands before the place.
 fn find_holder_before(s: &Standing, d: DeviceNo, r: RunNo, place: u32) -> Option<RunNo>
-    requires { d.0 < length s.now.table.now }
-    ensures { result ≡ only_before place s.now.line.now.marks
-        (holder_before s.now.book.now.items r.0 (accesses_at s.now.table.now d.0)) }
+    requires { d.0 < length s.now.table }
+    ensures { result ≡ only_before place s.now.line
+        (holder_before s.now.history r.0 (accesses_at s.now.table d.0)) }
 {
     let x = first_holder(s, d, r)?;
     if stands_before(s.line, x, place) {

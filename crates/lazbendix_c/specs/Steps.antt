@@ -11,15 +11,16 @@ use Rattle.lazbendix_c.specs.Told.{left_of, made_of, out_turn, turn_of}
 use Rattle.lazbendix_c.specs.declared.told_entries.ToldMade.{ToldMade}
 use Rattle.lazbendix_c.specs.declared.told_turns.ToldLeft.{ToldLeft}
 use Rattle.lazbendix_c.specs.declared.told_turns.ToldTurn.{ToldTurn}
-use Rattle.std.specs.Prelude.{List, Option, Some, ℕ, ◌≡◌}
+use Rattle.std.specs.Prelude.{List, Option, Some, ℕ, ◌≡◌, ◌≤◌}
 
--- the step of the run was made, and this is told of it
+-- the step of the run was made, and this is told of it, with its entries, three at most
 pub record HasStepped (s : LiveState) (run now : ℕ) (told : ToldTurn) (t : LiveState) : Type 0 where
   pub taken : Taken
   pub step : HasTaken s run now taken t
   pub told_is : told ≡ turn_of run taken
+  pub few : told.made.count ≤ 3
 
--- the answer was taken, and these are the entries that it made
+-- the answer was taken, and these are the entries that it made, three at most
 pub record HasGiven (s : LiveState) (device ticket answer value now : ℕ) (told : ToldMade)
     (t : LiveState) : Type 0 where
   pub heard : Told
@@ -27,6 +28,7 @@ pub record HasGiven (s : LiveState) (device ticket answer value now : ℕ) (told
   pub means : told_as answer value ≡ Some heard
   pub answered : HasAnswered s (device_number device) ticket heard now made t
   pub told_is : told ≡ made_of made
+  pub few : told.count ≤ 3
 
 -- a probe of the device went out, and this is told of it
 pub record HasSent (s : LiveState) (device : ℕ) (told : ToldTurn) (t : LiveState) : Type 0 where

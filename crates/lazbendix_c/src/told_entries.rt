@@ -225,9 +225,10 @@ fn tell_or_none(entry: &Option<Entry>, told: &mut ToldEntry) -> u64
     }
 }
 
-/// Tells the entries of a step.
+/// Tells the entries of a step, three at most.
 pub(crate) fn tell_made(made: &Made, told: &mut ToldMade)
-    ensures { told.new ≡ made_of made.now }
+    ensures told { told.new ≡ made_of made.now }
+    ensures few { told.new.count ≤ 3 }
 {
     let a = tell_or_none(&made.a, &mut told.a);
     let b = tell_or_none(&made.b, &mut told.b);

@@ -1,5 +1,5 @@
 //! What a step of a run did, what is left to do, and how a device stands, as C sees it.
-ghost use Rattle.std.specs.Prelude.{◌≡◌};
+ghost use Rattle.std.specs.Prelude.{◌≡◌, ◌≤◌};
 ghost use Rattle.lazbendix_c.specs.Told.{left_of, of_kind, out_turn, stand_of, turn_of, waiting_turn};
 
 use crate::told_entries::{NO_ENTRY, NOTHING_MADE, ToldEntry, ToldMade, tell_end, tell_made};
@@ -81,7 +81,8 @@ const RESTORE: u32 = 4;
 
 /// Tells what a step of this run did.
 pub(crate) fn tell_turn(run: u32, taken: &Taken, turn: &mut ToldTurn)
-    ensures { turn.new ≡ turn_of run taken.now }
+    ensures told { turn.new ≡ turn_of run taken.now }
+    ensures few { turn.new.made.count ≤ 3 }
 {
     match taken {
         Taken::Out(slip, task) => tell_out(*slip, *task, turn),

@@ -1,12 +1,12 @@
--- The lemmas of this crate that proofs of other crates cite, and words of theirs, by the file in
--- which they stand. No other file of proofs/ can be named there.
+-- What proofs of other crates cite of this one: lemmas, and the words in which these are said, by
+-- the file in which they stand. Every other file of proofs/ is private.
 
 -- Pairs of a list, the one in front and the one behind it.
 pub use Rattle.lineage_table.proofs.Pairs.{pairs_back, pairs_from_all, pairs_front}
 unfoldable pub use Rattle.lineage_table.proofs.Pairs.{Pairs}
 -- The words on accesses, where the list is cut at a run's access.
 pub use Rattle.lineage_table.proofs.Splits.{access_at, before_at, behind_at, put_at, without_at, without_none}
--- What each call does with the list of accesses, and that it keeps the discipline.
+-- Behind the access of a run there is no other one of that run.
 pub use Rattle.lineage_table.proofs.Keeping.{none_behind}
 -- The access of a run in a chain, and what a call of the chain makes of the accesses.
 pub use Rattle.lineage_table.proofs.Knots.{read}

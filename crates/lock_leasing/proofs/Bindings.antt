@@ -1,6 +1,6 @@
 -- The first place, as parts that belong to one window tell it.
 use Rattle.command_rules.specs.Items.{is_ran, of_run}
-use Rattle.command_rules.specs.Rosters.{Run, commands_of, followed_by, follows, is_on, touches}
+use Rattle.command_rules.specs.Rosters.{commands_of, followed_by, follows, is_on, touches}
 use Rattle.history_book.proofs.Cited.{end_is, stands_in}
 use Rattle.history_book.specs.Books.{end_of}
 use Rattle.history_book.specs.Readings.{OfRun, Reading, is_committed, is_committing, is_live}
@@ -10,14 +10,13 @@ use Rattle.home_types.specs.declared.commands.Command.{Command}
 use Rattle.home_types.specs.declared.items.Item.TheVariants.{Back, Failed, Ran}
 use Rattle.home_types.specs.declared.items.Item.{Item}
 use Rattle.home_types.specs.declared.numbers.RunNo.{RunNo}
-use Rattle.lineage_table.specs.Lineages.{LineageState}
 use Rattle.lock_leasing.proofs.AccessRuns.{EachTail}
 use Rattle.lock_leasing.proofs.Facts.{facts_of}
 use Rattle.lock_leasing.specs.Configurations.{Grips, point, point_of, read_of}
 use Rattle.lock_leasing.specs.Counts.{up_to, up_to_committed, up_to_followed, up_to_touched}
 use Rattle.lock_leasing.specs.FirstPlaces.{IsFirstPlaceOf}
 use Rattle.lock_leasing.specs.Places.{binds, up_to_first, up_to_last}
-use Rattle.lock_leasing.specs.Standings.{IsRosterFor, has_ended, item_has_touched}
+use Rattle.lock_leasing.specs.Standings.{IsRosterFor, WindowParts, has_ended, item_has_touched}
 use Rattle.lock_leasing.specs.Words.{has_touched}
 use Rattle.serial_line.proofs.Cited.{front_in_line, last_counted, last_in_line, up_to_either}
 use Rattle.serial_line.specs.Marks.{Mark, front_of, items_of}
@@ -195,20 +194,20 @@ front_is n g marks is placed = front_in_line is ∙ up_to_first_same (of_run (λ
     each (Back e k ∷ is) among = (refl, each is among)
 
 -- the greatest of the three counts is the first place
-pub first_is : (table : List LineageState) (line : List Mark) (history : List Kept) (runs : List Run) (r touched followed front place : ℕ)
-    → touched ≡ up_to_touched (commands_of runs r) line → followed ≡ up_to_followed runs history r line → front ≡ front_of line → place ≡ max (max touched followed) front → IsFirstPlaceOf table line history runs r place
-first_is table line history runs r touched followed front place e1 e2 e3 e4 s parts =
+pub first_is : (parts : WindowParts) (r touched followed front place : ℕ)
+    → touched ≡ up_to_touched (commands_of parts.runs r) parts.line → followed ≡ up_to_followed parts.runs parts.history r parts.line → front ≡ front_of parts.line → place ≡ max (max touched followed) front → IsFirstPlaceOf parts r place
+first_is parts r touched followed front place e1 e2 e3 e4 s stands =
     let n : Reading = read_of s in
-    let f = facts_of s table line history runs parts in
-    let ends : (q : ℕ) → end_of history q ≡ ((read_of s).run q).ended = λ q. ap (λ h. end_of h q) (sym parts.its_history) ∙ end_is s.setting s.history q parts.well_formed in
+    let f = facts_of s parts stands in
+    let ends : (q : ℕ) → end_of parts.history q ≡ ((read_of s).run q).ended = λ q. ap (λ h. end_of h q) (sym stands.its_history) ∙ end_is s.setting s.history q stands.well_formed in
     let by_touch : touched ≡ up_to_last (touches_any (read_of s) s.grips (commands_of s.setting.runs r)) (read_of s).line =
-    e1 ∙ ap (λ rs. up_to_touched (commands_of rs r) line) (sym parts.its_roster) ∙ touched_is (read_of s) s.grips line (commands_of s.setting.runs r) parts.its_line in
+    e1 ∙ ap (λ rs. up_to_touched (commands_of rs r) parts.line) (sym stands.its_roster) ∙ touched_is (read_of s) s.grips parts.line (commands_of s.setting.runs r) stands.its_line in
     let by_follow : followed ≡ up_to_last (is_followed s.setting (read_of s) r) (read_of s).line =
-    e2 ∙ ap (λ rs. up_to_followed rs history r line) (sym parts.its_roster) ∙ followed_is s.setting (read_of s) r history line ends parts.its_line.items in
+    e2 ∙ ap (λ rs. up_to_followed rs parts.history r parts.line) (sym stands.its_roster) ∙ followed_is s.setting (read_of s) r parts.history parts.line ends stands.its_line.items in
     let by_live : front ≡ up_to_first (of_run (is_live (read_of s))) (read_of s).line =
-    e3 ∙ front_is (read_of s) s.grips line parts.its_line (λ q among. placed_if ((read_of s).run q) (sym (f.line.line q) ∙ among)) in
+    e3 ∙ front_is (read_of s) s.grips parts.line stands.its_line (λ q among. placed_if ((read_of s).run q) (sym (f.line.line q) ∙ among)) in
     let both : up_to_last (binds (point_of s) r) (read_of s).line ≡ max (up_to_last (touches_any (read_of s) s.grips (commands_of s.setting.runs r)) (read_of s).line) (up_to_last (is_followed s.setting (read_of s) r) (read_of s).line) =
-    up_to_same (binds (point_of s) r) (λ i. touches_any (read_of s) s.grips (commands_of s.setting.runs r) i || is_followed s.setting (read_of s) r i) (binds_by s.setting (read_of s) s.grips r parts.allowed) (read_of s).line
+    up_to_same (binds (point_of s) r) (λ i. touches_any (read_of s) s.grips (commands_of s.setting.runs r) i || is_followed s.setting (read_of s) r i) (binds_by s.setting (read_of s) s.grips r stands.allowed) (read_of s).line
     ∙ up_to_either (touches_any (read_of s) s.grips (commands_of s.setting.runs r)) (is_followed s.setting (read_of s) r) (read_of s).line in
     e4 ∙ ap₂ max (ap₂ max by_touch by_follow ∙ sym both) by_live
   where

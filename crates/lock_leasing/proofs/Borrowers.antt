@@ -1,5 +1,5 @@
 -- Leases, as parts that belong to one window tell them.
-use Rattle.command_rules.specs.Rosters.{Run, commands_of, estimate_to_last, is_on, run_no}
+use Rattle.command_rules.specs.Rosters.{commands_of, estimate_to_last, is_on, run_no}
 use Rattle.history_book.proofs.Cited.{doom_is, placing_is}
 use Rattle.history_book.specs.Books.{doom_of}
 use Rattle.history_book.specs.Plans.{greatest}
@@ -11,17 +11,16 @@ use Rattle.home_types.specs.declared.commands.Command.{Command}
 use Rattle.home_types.specs.declared.numbers.RunNo.{RunNo}
 use Rattle.lineage_table.proofs.Cited.{found_has, has_homed}
 use Rattle.lineage_table.specs.Accesses.{access_of, accesses_before, first_before, has_access, is_released}
-use Rattle.lineage_table.specs.Lineages.{LineageState, accesses_at}
+use Rattle.lineage_table.specs.Lineages.{accesses_at}
 use Rattle.lineage_table.specs.declared.accesses.Access.{Access}
 use Rattle.lock_leasing.proofs.Facts.{Facts, facts_of}
 use Rattle.lock_leasing.proofs.Holding.{TellsTest, first_holder, sound_holds}
 use Rattle.lock_leasing.proofs.Meetings.{asking_opens}
 use Rattle.lock_leasing.specs.Configurations.{Configuration, Grips, point, point_of, read_of}
 use Rattle.lock_leasing.specs.Leases.{IsBorrowedFrom, IsDeadlineOf, IsNeverOverdue, IsOverdueOf, access_borrows, access_deadline, access_is_overdue, placed_at}
-use Rattle.lock_leasing.specs.Standings.{Asking, IsAsking, IsStandingOf, Leasing, MayAsk, MayLease}
+use Rattle.lock_leasing.specs.Standings.{Asking, IsAsking, IsStandingOf, Leasing, MayAsk, MayLease, WindowParts}
 use Rattle.lock_leasing.specs.Tables.{EachTellsOfRun, TellsOfRun}
 use Rattle.lock_leasing.specs.Words.{borrower_from, holds_device, is_borrower, is_overdue, lease_deadline, live_before, overdue_for, stamp_of, tenth_up}
-use Rattle.serial_line.specs.Marks.{Mark}
 use Rattle.std.proofs.Common.{ap, ap₂, arith, cond, refl, subst, sym, ◌∙◌}
 use Rattle.std.proofs.lemmas.Grind.{common_steps}
 use Rattle.std.specs.Prelude.{Bool, List, None, Option, Some, [], false, find, is_none, is_some, length, min, nat_lt, not, option_map, slice_get, true, unwrap_or, ℕ, ◌&&◌, ◌+◌, ◌<◌, ◌==◌, ◌||◌, ◌∷◌, ◌≡◌}
@@ -124,10 +123,10 @@ found_access test r (x ∷ xs) q found = at (x.run.0 == r) (test x) refl (found_
 
 -- A configuration to which the parts belong
 
-told_of : (s : Configuration) (table : List LineageState) (line : List Mark) (history : List Kept) (runs : List Run) → IsStandingOf s table line history runs → IsTold (read_of s) history
-told_of s table line history runs parts = record {
-  dooms = λ q. ap (λ h. is_some (doom_of h q)) (sym parts.its_history) ∙ ap is_some (doom_is s.setting s.history q parts.well_formed);
-  placings = λ q. ap (λ h. placed_at h q) (sym parts.its_history) ∙ ap (λ o. unwrap_or o 0) (placing_is s.setting s.history q parts.well_formed);
+told_of : (s : Configuration) (parts : WindowParts) → IsStandingOf s parts → IsTold (read_of s) parts.history
+told_of s parts stands = record {
+  dooms = λ q. ap (λ h. is_some (doom_of h q)) (sym stands.its_history) ∙ ap is_some (doom_is s.setting s.history q stands.well_formed);
+  placings = λ q. ap (λ h. placed_at h q) (sym stands.its_history) ∙ ap (λ o. unwrap_or o 0) (placing_is s.setting s.history q stands.well_formed);
 }
 
 -- the device for which a run asks is one of the home
@@ -138,68 +137,68 @@ next_homed devices d k cs homed on = at (slice_get cs k) refl on
     at None e on = absurd (cc)
     at (Some c) e on = let own : c.device.0 ≡ d = grind (arith, common_steps) in subst (λ i. i < devices) own (homed k c e)
 
-asking_homed : (s : Configuration) (table : List LineageState) (line : List Mark) (history : List Kept) (runs : List Run) (r d : ℕ) → IsStandingOf s table line history runs → IsAsking s r d → d < length s.setting.first
-asking_homed s table line history runs r d parts turn = next_homed (length s.setting.first) d (next_of (read_of s) r) (commands_of s.setting.runs r) (parts.allowed.homed r) turn.next
+asking_homed : (s : Configuration) (parts : WindowParts) (r d : ℕ) → IsStandingOf s parts → IsAsking s r d → d < length s.setting.first
+asking_homed s parts r d stands turn = next_homed (length s.setting.first) d (next_of (read_of s) r) (commands_of s.setting.runs r) (stands.allowed.homed r) turn.next
 
 -- the run that is found has a lease
-pub found_leases : (table : List LineageState) (line : List Mark) (history : List Kept) (runs : List Run) (test : Access → Bool) (r d : ℕ) (x : RunNo) → MayAsk table line history runs r d → Some x ≡ first_before test r (accesses_at table d) → MayLease table line history runs x.0 d
-found_leases table line history runs test r d x (Asking s parts turn) found = Leasing s parts (found_access test r (accesses_at table d) x (sym found))
+pub found_leases : (parts : WindowParts) (test : Access → Bool) (r d : ℕ) (x : RunNo) → MayAsk parts r d → Some x ≡ first_before test r (accesses_at parts.table d) → MayLease parts x.0 d
+found_leases parts test r d x (Asking s stands turn) found = Leasing s stands (found_access test r (accesses_at parts.table d) x (sym found))
 
 -- What is found
 
-overdue_is : (table : List LineageState) (line : List Mark) (history : List Kept) (runs : List Run) (r d m : ℕ) (s : Configuration) → IsStandingOf s table line history runs → IsAsking s r d
-    → option_map (λ q. q.0) (first_before (access_is_overdue runs history (placed_at history r) d m) r (accesses_at table d)) ≡ overdue_for (point_of s) r d m
-overdue_is table line history runs r d m s parts turn =
-    let f = facts_of s table line history runs parts in
-    let told = told_of s table line history runs parts in
-    let its = parts.its_table.each d (asking_homed s table line history runs r d parts turn) in
-    ap (λ rs. option_map (λ q. q.0) (first_before (access_is_overdue rs history (placed_at history r) d m) r (accesses_at table d))) (sym parts.its_roster)
-    ∙ first_holder s.setting (read_of s) s.grips f d (is_overdue (point_of s) r d m) (access_is_overdue s.setting.runs history (placed_at history r) d m) r (accesses_at table d)
-    (overdue_holds s.setting (read_of s) s.grips f d history told r m) (tells_overdue s.setting (read_of s) s.grips f d history told r m) (asking_opens s r d turn) its.runs its.each
+overdue_is : (parts : WindowParts) (r d m : ℕ) (s : Configuration) → IsStandingOf s parts → IsAsking s r d
+    → option_map (λ q. q.0) (first_before (access_is_overdue parts.runs parts.history (placed_at parts.history r) d m) r (accesses_at parts.table d)) ≡ overdue_for (point_of s) r d m
+overdue_is parts r d m s stands turn =
+    let f = facts_of s parts stands in
+    let told = told_of s parts stands in
+    let its = stands.its_table.each d (asking_homed s parts r d stands turn) in
+    ap (λ rs. option_map (λ q. q.0) (first_before (access_is_overdue rs parts.history (placed_at parts.history r) d m) r (accesses_at parts.table d))) (sym stands.its_roster)
+    ∙ first_holder s.setting (read_of s) s.grips f d (is_overdue (point_of s) r d m) (access_is_overdue s.setting.runs parts.history (placed_at parts.history r) d m) r (accesses_at parts.table d)
+    (overdue_holds s.setting (read_of s) s.grips f d parts.history told r m) (tells_overdue s.setting (read_of s) s.grips f d parts.history told r m) (asking_opens s r d turn) its.runs its.each
 
-pub overdue_none : (table : List LineageState) (line : List Mark) (history : List Kept) (runs : List Run) (r d m : ℕ) → None ≡ first_before (access_is_overdue runs history (placed_at history r) d m) r (accesses_at table d) → IsOverdueOf table line history runs r d m None
-overdue_none table line history runs r d m none s parts turn =
+pub overdue_none : (parts : WindowParts) (r d m : ℕ) → None ≡ first_before (access_is_overdue parts.runs parts.history (placed_at parts.history r) d m) r (accesses_at parts.table d) → IsOverdueOf parts r d m None
+overdue_none parts r d m none s stands turn =
     ap (λ o. option_map (λ x. (run_no x, lease_deadline s.setting (read_of s) x d)) (option_map (λ (q : RunNo). q.0) o)) none
-    ∙ ap (option_map (λ x. (run_no x, lease_deadline s.setting (read_of s) x d))) (overdue_is table line history runs r d m s parts turn)
+    ∙ ap (option_map (λ x. (run_no x, lease_deadline s.setting (read_of s) x d))) (overdue_is parts r d m s stands turn)
 
-pub overdue_some : (table : List LineageState) (line : List Mark) (history : List Kept) (runs : List Run) (r d m : ℕ) (x : RunNo) (t : ℕ) → Some x ≡ first_before (access_is_overdue runs history (placed_at history r) d m) r (accesses_at table d)
-    → IsDeadlineOf table line history runs x.0 d t → IsOverdueOf table line history runs r d m (Some (x, t))
-overdue_some table line history runs r d m x t found deadline s parts turn =
-    ap (λ k. Some (x, k)) (deadline s parts)
+pub overdue_some : (parts : WindowParts) (r d m : ℕ) (x : RunNo) (t : ℕ) → Some x ≡ first_before (access_is_overdue parts.runs parts.history (placed_at parts.history r) d m) r (accesses_at parts.table d)
+    → IsDeadlineOf parts x.0 d t → IsOverdueOf parts r d m (Some (x, t))
+overdue_some parts r d m x t found deadline s stands turn =
+    ap (λ k. Some (x, k)) (deadline s stands)
     ∙ ap (λ o. option_map (λ y. (run_no y, lease_deadline s.setting (read_of s) y d)) (option_map (λ (q : RunNo). q.0) o)) found
-    ∙ ap (option_map (λ y. (run_no y, lease_deadline s.setting (read_of s) y d))) (overdue_is table line history runs r d m s parts turn)
+    ∙ ap (option_map (λ y. (run_no y, lease_deadline s.setting (read_of s) y d))) (overdue_is parts r d m s stands turn)
 
-borrower_is : (table : List LineageState) (line : List Mark) (history : List Kept) (runs : List Run) (r d : ℕ) (s : Configuration) → IsStandingOf s table line history runs → IsAsking s r d
-    → option_map (λ q. q.0) (first_before (access_borrows history (placed_at history r)) r (accesses_at table d)) ≡ borrower_from (point_of s) r d
-borrower_is table line history runs r d s parts turn =
-    let f = facts_of s table line history runs parts in
-    let told = told_of s table line history runs parts in
-    let its = parts.its_table.each d (asking_homed s table line history runs r d parts turn) in
-    first_holder s.setting (read_of s) s.grips f d (is_borrower (point_of s) r d) (access_borrows history (placed_at history r)) r (accesses_at table d)
-    (borrower_holds s.setting (read_of s) s.grips f d history told r) (tells_borrower s.setting (read_of s) s.grips f d history told r) (asking_opens s r d turn) its.runs its.each
+borrower_is : (parts : WindowParts) (r d : ℕ) (s : Configuration) → IsStandingOf s parts → IsAsking s r d
+    → option_map (λ q. q.0) (first_before (access_borrows parts.history (placed_at parts.history r)) r (accesses_at parts.table d)) ≡ borrower_from (point_of s) r d
+borrower_is parts r d s stands turn =
+    let f = facts_of s parts stands in
+    let told = told_of s parts stands in
+    let its = stands.its_table.each d (asking_homed s parts r d stands turn) in
+    first_holder s.setting (read_of s) s.grips f d (is_borrower (point_of s) r d) (access_borrows parts.history (placed_at parts.history r)) r (accesses_at parts.table d)
+    (borrower_holds s.setting (read_of s) s.grips f d parts.history told r) (tells_borrower s.setting (read_of s) s.grips f d parts.history told r) (asking_opens s r d turn) its.runs its.each
 
-pub borrowed_is : (table : List LineageState) (line : List Mark) (history : List Kept) (runs : List Run) (r d : ℕ) (o : Option RunNo) → o ≡ first_before (access_borrows history (placed_at history r)) r (accesses_at table d) → IsBorrowedFrom table line history runs r d (is_some o)
-borrowed_is table line history runs r d o found s parts turn = kept_some o ∙ ap (λ x. is_some (option_map (λ q. q.0) x)) found ∙ ap is_some (borrower_is table line history runs r d s parts turn)
+pub borrowed_is : (parts : WindowParts) (r d : ℕ) (o : Option RunNo) → o ≡ first_before (access_borrows parts.history (placed_at parts.history r)) r (accesses_at parts.table d) → IsBorrowedFrom parts r d (is_some o)
+borrowed_is parts r d o found s stands turn = kept_some o ∙ ap (λ x. is_some (option_map (λ q. q.0) x)) found ∙ ap is_some (borrower_is parts r d s stands turn)
   where
     kept_some : (x : Option RunNo) → is_some x ≡ is_some (option_map (λ q. q.0) x)
     kept_some None = refl
     kept_some (Some q) = refl
 
-pub unborrowed : (table : List LineageState) (line : List Mark) (history : List Kept) (runs : List Run) (r d : ℕ) (some : Bool) → IsBorrowedFrom table line history runs r d some → some ≡ false → IsNeverOverdue table line history runs r d
-unborrowed table line history runs r d some exact none s parts turn m = never_overdue s.setting (read_of s) s.grips r d m (sym (exact s parts turn) ∙ none)
+pub unborrowed : (parts : WindowParts) (r d : ℕ) (some : Bool) → IsBorrowedFrom parts r d some → some ≡ false → IsNeverOverdue parts r d
+unborrowed parts r d some exact none s stands turn m = never_overdue s.setting (read_of s) s.grips r d m (sym (exact s stands turn) ∙ none)
 
-pub deadline_is : (table : List LineageState) (line : List Mark) (history : List Kept) (runs : List Run) (r d t : ℕ) (x : Access) → d < length table → access_of r (accesses_at table d) ≡ Some x → t ≡ access_deadline runs d x → IsDeadlineOf table line history runs r d t
-deadline_is table line history runs r d t x within found is s parts =
-    let size = parts.its_table.devices in
+pub deadline_is : (parts : WindowParts) (r d t : ℕ) (x : Access) → d < length parts.table → access_of r (accesses_at parts.table d) ≡ Some x → t ≡ access_deadline parts.runs d x → IsDeadlineOf parts r d t
+deadline_is parts r d t x within found is s stands =
+    let size = stands.its_table.devices in
     let homed : d < length s.setting.first = omega (arith, within, size) in
     is
-    ∙ ap (λ rs. access_deadline rs d x) (sym parts.its_roster)
-    ∙ own_deadline s.setting (read_of s) s.grips (facts_of s table line history runs parts) d history (told_of s table line history runs parts) r (accesses_at table d) x (parts.its_table.each d homed).each found
+    ∙ ap (λ rs. access_deadline rs d x) (sym stands.its_roster)
+    ∙ own_deadline s.setting (read_of s) s.grips (facts_of s parts stands) d parts.history (told_of s parts stands) r (accesses_at parts.table d) x (stands.its_table.each d homed).each found
 
 -- A run with an access: the device is one of the table, and the access is found
 
-pub may_reach_leased : (table : List LineageState) (line : List Mark) (history : List Kept) (runs : List Run) (r d : ℕ) → MayLease table line history runs r d → d < length table
-may_reach_leased table line history runs r d (Leasing s parts access) = has_homed table d r access
+pub may_reach_leased : (parts : WindowParts) (r d : ℕ) → MayLease parts r d → d < length parts.table
+may_reach_leased parts r d (Leasing s stands access) = has_homed parts.table d r access
 
-pub leased_found : (table : List LineageState) (line : List Mark) (history : List Kept) (runs : List Run) (r d : ℕ) (o : Option Access) → MayLease table line history runs r d → o ≡ access_of r (accesses_at table d) → is_some o ≡ true
-leased_found table line history runs r d o (Leasing s parts access) is = ap is_some is ∙ sym (found_has r (accesses_at table d)) ∙ access
+pub leased_found : (parts : WindowParts) (r d : ℕ) (o : Option Access) → MayLease parts r d → o ≡ access_of r (accesses_at parts.table d) → is_some o ≡ true
+leased_found parts r d o (Leasing s stands access) is = ap is_some is ∙ sym (found_has r (accesses_at parts.table d)) ∙ access

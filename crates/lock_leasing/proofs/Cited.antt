@@ -1,7 +1,7 @@
--- The lemmas of this crate that proofs of other crates cite, and words of theirs, by the file in
--- which they stand. No other file of proofs/ can be named there.
+-- What proofs of other crates cite of this one: lemmas, and the words in which these are said, by
+-- the file in which they stand. Every other file of proofs/ is private.
 
--- Placing a run leaves every effective write, wherever it is placed.
+-- The last value that the items of a list give stays where items that give none are left out.
 pub use Rattle.lock_leasing.proofs.Places.{last_filter}
 -- Live runs, and runs with an effective write.
 pub use Rattle.lock_leasing.proofs.Effects.{effect_is, last_some_of, live_runs_live}
@@ -20,9 +20,10 @@ pub use Rattle.lock_leasing.proofs.Undoing.{next_device, stands_without, writes_
 -- The runs that hold a device, or wrote it, before a run: the accesses tell them as the history
 -- does.
 pub use Rattle.lock_leasing.proofs.Holding.{TellsTest, sound_holds}
--- What a run meets at its next command, as parts that belong to one window tell it.
+-- A run at a command asks for its device; and an item of a list, by its place.
 pub use Rattle.lock_leasing.proofs.Meetings.{asks_at, item_there}
--- The first place, as parts that belong to one window tell it.
+-- How many items of the line stand before its first live run; the devices of a run, by its
+-- commands; whether a test holds of some item of a part, or of some number of a range.
 pub use Rattle.lock_leasing.proofs.Bindings.{any_filter, any_range, devices_by_commands, front_is}
 -- The places behind which nothing must stand before a run: those of every scheduler are such
 -- places.

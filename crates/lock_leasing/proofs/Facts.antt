@@ -6,19 +6,15 @@ use Rattle.history_book.specs.Readings.{OfRun, PlacedAt, Reading, asks_on, did, 
 use Rattle.history_book.specs.Settings.{Setting}
 use Rattle.history_book.specs.declared.entries.End.TheVariants.{Aborted, Committed}
 use Rattle.history_book.specs.declared.entries.End.{End}
-use Rattle.history_book.specs.declared.entries.Kept.{Kept}
 use Rattle.home_types.specs.declared.commands.Command.{Command}
-use Rattle.lineage_table.specs.Lineages.{LineageState}
-use Rattle.command_rules.specs.Rosters.{Run}
 use Rattle.lock_leasing.specs.Configurations.{Configuration, Grip, Grips, grips_command, grips_undo, is_command, is_undo, point, read_of}
 use Rattle.lock_leasing.specs.declared.purposes.Purpose.TheVariants.{Commands, Probes, Undoes}
 use Rattle.lock_leasing.specs.declared.purposes.Purpose.{Purpose}
 use Rattle.lock_leasing.specs.Order.{open_runs_are_last}
 use Rattle.lock_leasing.specs.Places.{MayBeOut}
-use Rattle.lock_leasing.specs.Standings.{IsStandingOf}
+use Rattle.lock_leasing.specs.Standings.{IsStandingOf, WindowParts}
 use Rattle.lock_leasing.specs.Tables.{uses}
 use Rattle.lock_leasing.specs.Words.{is_undone}
-use Rattle.serial_line.specs.Marks.{Mark}
 use Rattle.std.proofs.Common.{ap, arith, refl, ◌∙◌}
 use Rattle.std.proofs.lemmas.Grind.{common_steps}
 use Rattle.std.specs.List.{list_any}
@@ -31,8 +27,8 @@ pub record Facts (w : Setting) (n : Reading) (g : Grips) : Type 0 where
   pub grips : MayBeOut (point w n g)
   pub last : (d : ℕ) → IsTrue (open_runs_are_last (point w n g) d n.line)
 
-pub facts_of : (s : Configuration) (table : List LineageState) (line : List Mark) (history : List Kept) (runs : List Run) → IsStandingOf s table line history runs → Facts s.setting (read_of s) s.grips
-facts_of s table line history runs is = record {
+pub facts_of : (s : Configuration) (parts : WindowParts) → IsStandingOf s parts → Facts s.setting (read_of s) s.grips
+facts_of s parts is = record {
   shaped = shapes s.setting (entries_of s.history) is.well_formed;
   line = standing s.setting (entries_of s.history) is.well_formed;
   once = stands_once s.setting (entries_of s.history) is.well_formed;

@@ -1,21 +1,19 @@
 -- What a run meets at its next command, as parts that belong to one window tell it.
 use Rattle.command_rules.specs.Items.{is_ran}
-use Rattle.command_rules.specs.Rosters.{Run, command_at, commands_of, is_on, no_command}
+use Rattle.command_rules.specs.Rosters.{command_at, commands_of, is_on, no_command}
 use Rattle.history_book.proofs.Cited.{doom_is}
 use Rattle.history_book.specs.Readings.{is_open, next_of}
-use Rattle.history_book.specs.declared.entries.Kept.{Kept}
 use Rattle.home_types.specs.declared.commands.Command.{Command}
 use Rattle.home_types.specs.declared.numbers.RunNo.{RunNo}
-use Rattle.lineage_table.specs.Lineages.{LineageState, accesses_at, lineage_at}
+use Rattle.lineage_table.specs.Lineages.{accesses_at, lineage_at}
 use Rattle.lock_leasing.proofs.Facts.{facts_of, live_stands, next_is_left}
 use Rattle.lock_leasing.proofs.Holding.{dirty_is, holder_is}
 use Rattle.lock_leasing.specs.Configurations.{Configuration, point_of, read_of}
 use Rattle.lock_leasing.specs.Holders.{dirty_writer, holder_before}
-use Rattle.lock_leasing.specs.Standings.{IsAsking, IsAtCommand, IsStandingOf}
+use Rattle.lock_leasing.specs.Standings.{IsAsking, IsAtCommand, IsStandingOf, WindowParts}
 use Rattle.lock_leasing.specs.Tables.{IsLineageOf}
 use Rattle.lock_leasing.specs.Touches.{IsTouchOf, touch_by, touch_of}
 use Rattle.lock_leasing.specs.declared.touches.Touch.TheVariants.{Behind, Dirty, Free}
-use Rattle.serial_line.specs.Marks.{Mark}
 use Rattle.std.proofs.Common.{ap, ap₂, arith, refl, subst, sym, ◌∙◌}
 use Rattle.std.proofs.lemmas.Bool.{eq-eqb}
 use Rattle.std.specs.List.{list_any}
@@ -50,75 +48,61 @@ asking_opens s r d turn = let pending = next_is_left d (commands_of s.setting.ru
 
 -- What it meets
 
-module _ (s : Configuration) (table : List LineageState) (line : List Mark) (r c : ℕ) (parts : IsStandingOf s table line s.history s.setting.runs) (turn : IsAtCommand s r c) where
+module _ (s : Configuration) (parts : WindowParts) (r c : ℕ) (stands : IsStandingOf s parts) (turn : IsAtCommand s r c) where
   -- the command's device is one of the home
   homed_at : (command_at s.setting.runs r c).device.0 < length s.setting.first
-  homed_at = parts.allowed.homed r c (command_at s.setting.runs r c) (item_there (commands_of s.setting.runs r) c no_command turn.command)
+  homed_at = stands.allowed.homed r c (command_at s.setting.runs r c) (item_there (commands_of s.setting.runs r) c no_command turn.command)
 
-  lineage : IsLineageOf (point_of s) (command_at s.setting.runs r c).device.0 (lineage_at table (command_at s.setting.runs r c).device.0)
-  lineage = parts.its_table.each (command_at s.setting.runs r c).device.0 homed_at
+  lineage : IsLineageOf (point_of s) (command_at s.setting.runs r c).device.0 (lineage_at parts.table (command_at s.setting.runs r c).device.0)
+  lineage = stands.its_table.each (command_at s.setting.runs r c).device.0 homed_at
 
   opened : is_open s.setting (read_of s) r (command_at s.setting.runs r c).device.0 ≡ true
   opened = asking_opens s r (command_at s.setting.runs r c).device.0 (asks_at s r c turn)
 
   among : list_any (is_ran r) (read_of s).line ≡ true
-  among = let f = facts_of s table line s.history s.setting.runs parts in f.line.line r ∙ live_stands (read_of s) r turn.live
+  among = let f = facts_of s parts stands in f.line.line r ∙ live_stands (read_of s) r turn.live
 
   met : touch_by (command_at s.setting.runs r c).device
-      (option_map (λ q. q.0) (holder_before s.history r (accesses_at table (command_at s.setting.runs r c).device.0)))
-      (option_map (λ q. q.0) (dirty_writer (command_at s.setting.runs r c) r (accesses_at table (command_at s.setting.runs r c).device.0)))
+      (option_map (λ q. q.0) (holder_before s.history r (accesses_at parts.table (command_at s.setting.runs r c).device.0)))
+      (option_map (λ q. q.0) (dirty_writer (command_at s.setting.runs r c) r (accesses_at parts.table (command_at s.setting.runs r c).device.0)))
       ≡ touch_of (point_of s) r (command_at s.setting.runs r c)
   met =
-      let f = facts_of s table line s.history s.setting.runs parts in
+      let f = facts_of s parts stands in
       ap₂ (touch_by (command_at s.setting.runs r c).device)
-      (holder_is s.setting (read_of s) s.grips f (command_at s.setting.runs r c).device.0 s.history r (accesses_at table (command_at s.setting.runs r c).device.0) (λ q. ap is_some (doom_is s.setting s.history q parts.well_formed)) opened lineage.runs lineage.each)
-      (dirty_is s.setting (read_of s) s.grips f (command_at s.setting.runs r c) r (accesses_at table (command_at s.setting.runs r c).device.0) opened among lineage.runs lineage.each)
+      (holder_is s.setting (read_of s) s.grips f (command_at s.setting.runs r c).device.0 s.history r (accesses_at parts.table (command_at s.setting.runs r c).device.0) (λ q. ap is_some (doom_is s.setting s.history q stands.well_formed)) opened lineage.runs lineage.each)
+      (dirty_is s.setting (read_of s) s.grips f (command_at s.setting.runs r c) r (accesses_at parts.table (command_at s.setting.runs r c).device.0) opened among lineage.runs lineage.each)
 
 -- what the parts tell is what the run meets
-pub touch_is : (table : List LineageState) (line : List Mark) (history : List Kept) (runs : List Run) (r c : ℕ)
-    → IsTouchOf table line history runs r c (touch_by (command_at runs r c).device (option_map (λ q. q.0) (holder_before history r (accesses_at table (command_at runs r c).device.0))) (option_map (λ q. q.0) (dirty_writer (command_at runs r c) r (accesses_at table (command_at runs r c).device.0))))
-touch_is table line history runs r c s parts turn = by_history history parts.its_history parts
-  where
-    by_runs : (rs : List Run) → s.setting.runs ≡ rs → IsStandingOf s table line s.history rs
-        → touch_by (command_at rs r c).device (option_map (λ q. q.0) (holder_before s.history r (accesses_at table (command_at rs r c).device.0)))
-        (option_map (λ q. q.0) (dirty_writer (command_at rs r c) r (accesses_at table (command_at rs r c).device.0)))
-        ≡ touch_of (point_of s) r (command_at rs r c)
-    by_runs rs same its =
-        subst (λ xs. IsStandingOf s table line s.history xs
-        → touch_by (command_at xs r c).device (option_map (λ q. q.0) (holder_before s.history r (accesses_at table (command_at xs r c).device.0)))
-        (option_map (λ q. q.0) (dirty_writer (command_at xs r c) r (accesses_at table (command_at xs r c).device.0)))
-        ≡ touch_of (point_of s) r (command_at xs r c))
-        same (λ p. met s table line r c p turn) its
-
-    by_history : (hs : List Kept) → s.history ≡ hs → IsStandingOf s table line hs runs
-        → touch_by (command_at runs r c).device (option_map (λ q. q.0) (holder_before hs r (accesses_at table (command_at runs r c).device.0)))
-        (option_map (λ q. q.0) (dirty_writer (command_at runs r c) r (accesses_at table (command_at runs r c).device.0)))
-        ≡ touch_of (point_of s) r (command_at runs r c)
-    by_history hs same its =
-        subst (λ xs. IsStandingOf s table line xs runs
-        → touch_by (command_at runs r c).device (option_map (λ q. q.0) (holder_before xs r (accesses_at table (command_at runs r c).device.0)))
-        (option_map (λ q. q.0) (dirty_writer (command_at runs r c) r (accesses_at table (command_at runs r c).device.0)))
-        ≡ touch_of (point_of s) r (command_at runs r c))
-        same (λ p. by_runs runs p.its_roster p) its
+pub touch_is : (parts : WindowParts) (r c : ℕ)
+    → IsTouchOf parts r c (touch_by (command_at parts.runs r c).device
+    (option_map (λ q. q.0) (holder_before parts.history r (accesses_at parts.table (command_at parts.runs r c).device.0)))
+    (option_map (λ q. q.0) (dirty_writer (command_at parts.runs r c) r (accesses_at parts.table (command_at parts.runs r c).device.0))))
+touch_is parts r c s stands turn =
+    subst (λ hs. touch_by (command_at parts.runs r c).device (option_map (λ q. q.0) (holder_before hs r (accesses_at parts.table (command_at parts.runs r c).device.0)))
+    (option_map (λ q. q.0) (dirty_writer (command_at parts.runs r c) r (accesses_at parts.table (command_at parts.runs r c).device.0)))
+    ≡ touch_of (point_of s) r (command_at parts.runs r c)) stands.its_history
+    (subst (λ rs. touch_by (command_at rs r c).device (option_map (λ q. q.0) (holder_before s.history r (accesses_at parts.table (command_at rs r c).device.0)))
+    (option_map (λ q. q.0) (dirty_writer (command_at rs r c) r (accesses_at parts.table (command_at rs r c).device.0)))
+    ≡ touch_of (point_of s) r (command_at rs r c)) stands.its_roster (met s parts r c stands turn))
 
 -- the three answers
 
-pub met_holder : (table : List LineageState) (line : List Mark) (history : List Kept) (runs : List Run) (r c : ℕ) (command : Command) (x : RunNo) → command ≡ command_at runs r c
-    → Some x ≡ holder_before history r (accesses_at table command.device.0) → IsTouchOf table line history runs r c (Behind command.device x)
-met_holder table line history runs r c command x same held s parts turn =
-    subst (λ y. Some x ≡ holder_before history r (accesses_at table y.device.0) → Behind y.device x ≡ touch_of (point_of s) r (command_at runs r c)) (sym same)
-    (λ h. ap (λ o. touch_by (command_at runs r c).device (option_map (λ q. q.0) o) (option_map (λ q. q.0) (dirty_writer (command_at runs r c) r (accesses_at table (command_at runs r c).device.0)))) h ∙ touch_is table line history runs r c s parts turn) held
+pub met_holder : (parts : WindowParts) (r c : ℕ) (command : Command) (x : RunNo) → command ≡ command_at parts.runs r c
+    → Some x ≡ holder_before parts.history r (accesses_at parts.table command.device.0) → IsTouchOf parts r c (Behind command.device x)
+met_holder parts r c command x same held s stands turn =
+    subst (λ y. Some x ≡ holder_before parts.history r (accesses_at parts.table y.device.0) → Behind y.device x ≡ touch_of (point_of s) r (command_at parts.runs r c)) (sym same)
+    (λ h. ap (λ o. touch_by (command_at parts.runs r c).device (option_map (λ q. q.0) o) (option_map (λ q. q.0) (dirty_writer (command_at parts.runs r c) r (accesses_at parts.table (command_at parts.runs r c).device.0)))) h ∙ touch_is parts r c s stands turn) held
 
-pub met_writer : (table : List LineageState) (line : List Mark) (history : List Kept) (runs : List Run) (r c : ℕ) (command : Command) (x : RunNo) → command ≡ command_at runs r c
-    → None ≡ holder_before history r (accesses_at table command.device.0) → Some x ≡ dirty_writer command r (accesses_at table command.device.0) → IsTouchOf table line history runs r c (Dirty command.device x)
-met_writer table line history runs r c command x same none wrote s parts turn =
-    subst (λ y. None ≡ holder_before history r (accesses_at table y.device.0) → Some x ≡ dirty_writer y r (accesses_at table y.device.0) → Dirty y.device x ≡ touch_of (point_of s) r (command_at runs r c)) (sym same)
-    (λ h k. ap₂ (λ o q. touch_by (command_at runs r c).device (option_map (λ z. z.0) o) (option_map (λ z. z.0) q)) h k ∙ touch_is table line history runs r c s parts turn) none wrote
+pub met_writer : (parts : WindowParts) (r c : ℕ) (command : Command) (x : RunNo) → command ≡ command_at parts.runs r c
+    → None ≡ holder_before parts.history r (accesses_at parts.table command.device.0) → Some x ≡ dirty_writer command r (accesses_at parts.table command.device.0) → IsTouchOf parts r c (Dirty command.device x)
+met_writer parts r c command x same none wrote s stands turn =
+    subst (λ y. None ≡ holder_before parts.history r (accesses_at parts.table y.device.0) → Some x ≡ dirty_writer y r (accesses_at parts.table y.device.0) → Dirty y.device x ≡ touch_of (point_of s) r (command_at parts.runs r c)) (sym same)
+    (λ h k. ap₂ (λ o q. touch_by (command_at parts.runs r c).device (option_map (λ z. z.0) o) (option_map (λ z. z.0) q)) h k ∙ touch_is parts r c s stands turn) none wrote
 
-pub met_none : (table : List LineageState) (line : List Mark) (history : List Kept) (runs : List Run) (r c : ℕ) (command : Command) → command ≡ command_at runs r c
-    → None ≡ holder_before history r (accesses_at table command.device.0) → None ≡ dirty_writer command r (accesses_at table command.device.0) → IsTouchOf table line history runs r c Free
-met_none table line history runs r c command same none unwritten s parts turn =
-    subst (λ y. None ≡ holder_before history r (accesses_at table y.device.0) → None ≡ dirty_writer y r (accesses_at table y.device.0) → Free ≡ touch_of (point_of s) r (command_at runs r c)) (sym same)
-    (λ h k. ap₂ (λ o q. touch_by (command_at runs r c).device (option_map (λ z. z.0) o) (option_map (λ z. z.0) q)) h k ∙ touch_is table line history runs r c s parts turn) none unwritten
+pub met_none : (parts : WindowParts) (r c : ℕ) (command : Command) → command ≡ command_at parts.runs r c
+    → None ≡ holder_before parts.history r (accesses_at parts.table command.device.0) → None ≡ dirty_writer command r (accesses_at parts.table command.device.0) → IsTouchOf parts r c Free
+met_none parts r c command same none unwritten s stands turn =
+    subst (λ y. None ≡ holder_before parts.history r (accesses_at parts.table y.device.0) → None ≡ dirty_writer y r (accesses_at parts.table y.device.0) → Free ≡ touch_of (point_of s) r (command_at parts.runs r c)) (sym same)
+    (λ h k. ap₂ (λ o q. touch_by (command_at parts.runs r c).device (option_map (λ z. z.0) o) (option_map (λ z. z.0) q)) h k ∙ touch_is parts r c s stands turn) none unwritten
 
 -- A run that may do its command

@@ -6,12 +6,10 @@ use Rattle.history_book.specs.declared.entries.Kept.{Kept}
 use Rattle.home_types.specs.Numbers.{DeviceId, Moment, RunId}
 use Rattle.home_types.specs.declared.numbers.RunNo.{RunNo}
 use Rattle.lineage_table.specs.Accesses.{is_released}
-use Rattle.lineage_table.specs.Lineages.{LineageState}
 use Rattle.lineage_table.specs.declared.accesses.Access.{Access}
 use Rattle.lock_leasing.specs.Configurations.{Configuration, Point, point_of, read_of}
-use Rattle.lock_leasing.specs.Standings.{IsAsking, IsStandingOf}
+use Rattle.lock_leasing.specs.Standings.{IsAsking, IsStandingOf, WindowParts}
 use Rattle.lock_leasing.specs.Words.{borrower_from, lease_deadline, overdue_for, tenth_up}
-use Rattle.serial_line.specs.Marks.{Mark}
 use Rattle.std.specs.Prelude.{Bool, List, None, Option, is_none, is_some, min, nat_lt, not, option_map, unwrap_or, ℕ, ◌&&◌, ◌+◌, ◌≡◌}
 
 -- By the parts
@@ -47,17 +45,15 @@ overdue_lease p r d m =
 
 -- this is the run, with the deadline, in each configuration to which the parts belong and in which
 -- r asks for the device
-abbrev pub IsOverdueOf : List LineageState → List Mark → List Kept → List Run → RunId → DeviceId
-    → Moment → Option (RunNo × Moment) → Type 0
-IsOverdueOf table line history runs r d m found =
-    (s : Configuration) → IsStandingOf s table line history runs → IsAsking s r d
+abbrev pub IsOverdueOf : WindowParts → RunId → DeviceId → Moment → Option (RunNo × Moment) → Type 0
+IsOverdueOf parts r d m found =
+    (s : Configuration) → IsStandingOf s parts → IsAsking s r d
     → found ≡ overdue_lease (point_of s) r d m
 
 -- the answer is whether some run has the device on a lease from r, in each such configuration
-abbrev pub IsBorrowedFrom : List LineageState → List Mark → List Kept → List Run → RunId
-    → DeviceId → Bool → Type 0
-IsBorrowedFrom table line history runs r d some =
-    (s : Configuration) → IsStandingOf s table line history runs → IsAsking s r d
+abbrev pub IsBorrowedFrom : WindowParts → RunId → DeviceId → Bool → Type 0
+IsBorrowedFrom parts r d some =
+    (s : Configuration) → IsStandingOf s parts → IsAsking s r d
     → some ≡ is_some (borrower_from (point_of s) r d)
 
 -- no lease on the device is overdue for r, at any moment
@@ -65,15 +61,11 @@ abbrev pub NeverOverdue : Point → RunId → DeviceId → Type 0
 NeverOverdue p r d = (m : Moment) → overdue_for p r d m ≡ None
 
 -- .. in each such configuration
-abbrev pub IsNeverOverdue : List LineageState → List Mark → List Kept → List Run → RunId
-    → DeviceId → Type 0
-IsNeverOverdue table line history runs r d =
-    (s : Configuration) → IsStandingOf s table line history runs → IsAsking s r d
-    → NeverOverdue (point_of s) r d
+abbrev pub IsNeverOverdue : WindowParts → RunId → DeviceId → Type 0
+IsNeverOverdue parts r d =
+    (s : Configuration) → IsStandingOf s parts → IsAsking s r d → NeverOverdue (point_of s) r d
 
 -- this is the deadline of the run's lease in each configuration to which the parts belong
-abbrev pub IsDeadlineOf : List LineageState → List Mark → List Kept → List Run → RunId → DeviceId
-    → Moment → Type 0
-IsDeadlineOf table line history runs r d deadline =
-    (s : Configuration) → IsStandingOf s table line history runs
-    → deadline ≡ lease_deadline s.setting (read_of s) r d
+abbrev pub IsDeadlineOf : WindowParts → RunId → DeviceId → Moment → Type 0
+IsDeadlineOf parts r d deadline =
+    (s : Configuration) → IsStandingOf s parts → deadline ≡ lease_deadline s.setting (read_of s) r d

@@ -34,6 +34,18 @@ item_has_touched n g (Back e k) d = e.0 == d
 abbrev pub has_ended : Reading → RunId → Bool
 has_ended n r = is_some (n.run r).ended
 
+-- what the steps of a window are decided by
+pub record WindowParts : Type 0 where
+  pub table : List LineageState
+  pub line : List Mark
+  pub history : List Kept
+  pub runs : List Run
+
+-- table, line and history, with the runs of the configuration
+abbrev pub window_parts : Configuration → List LineageState → List Mark → List Kept → WindowParts
+window_parts s table line history =
+    record { table = table; line = line; history = history; runs = s.setting.runs }
+
 -- a window of these runs may be opened on a home of so many devices
 pub record IsRosterFor (devices : ℕ) (runs : List Run) : Type 0 where
   pub few_devices : devices ≤ most_devices
@@ -47,28 +59,26 @@ pub record IsRosterFor (devices : ℕ) (runs : List Run) : Type 0 where
 
 -- the parts are those of the configuration, which is not of the weak model: its runs may be opened,
 -- its history is well formed, its grips may be out, and the four clauses of the order hold
-pub record IsStandingOf (s : Configuration) (table : List LineageState) (line : List Mark)
-    (history : List Kept) (runs : List Run) : Type 0 where
+pub record IsStandingOf (s : Configuration) (parts : WindowParts) : Type 0 where
   pub ordered : is_weak s.setting.mode ≡ false
   pub allowed : IsRosterFor (length s.setting.first) s.setting.runs
   pub grips : MayBeOut (point_of s)
   pub well_formed : IsWellFormed s.setting (entries_of s.history)
   pub order : OrderStands (point_of s)
-  pub its_roster : s.setting.runs ≡ runs
-  pub its_history : s.history ≡ history
+  pub its_roster : s.setting.runs ≡ parts.runs
+  pub its_history : s.history ≡ parts.history
   pub its_line : IsLineOf (read_of s).line (item_has_touched (read_of s) s.grips)
-      (has_ended (read_of s)) line
-  pub disciplined : (d : DeviceId) → IsDisciplined (accesses_at table d)
-  pub its_table : Represents (point_of s) table
+      (has_ended (read_of s)) parts.line
+  pub disciplined : (d : DeviceId) → IsDisciplined (accesses_at parts.table d)
+  pub its_table : Represents (point_of s) parts.table
 
 -- the parts are those of a configuration of the weak model, whose table has no accesses
-pub record IsWeakStandingOf (s : Configuration) (table : List LineageState) (history : List Kept)
-    (runs : List Run) : Type 0 where
+pub record IsWeakStandingOf (s : Configuration) (parts : WindowParts) : Type 0 where
   pub weak : is_weak s.setting.mode ≡ true
   pub allowed : IsRosterFor (length s.setting.first) s.setting.runs
-  pub its_roster : s.setting.runs ≡ runs
-  pub its_history : s.history ≡ history
-  pub none : (d : DeviceId) → accesses_at table d ≡ []
+  pub its_roster : s.setting.runs ≡ parts.runs
+  pub its_history : s.history ≡ parts.history
+  pub none : (d : DeviceId) → accesses_at parts.table d ≡ []
 
 -- the run may do its next command, the one of this number: it is live, it is not doomed, it has
 -- such a command, and the command's guard holds
@@ -80,10 +90,9 @@ pub record IsAtCommand (s : Configuration) (r : RunId) (c : CommandIndex) : Type
   pub guard : holds (command_at s.setting.runs r c).when ((read_of s).run r).register ≡ true
 
 -- the parts belong to one window, which is not of the weak model, and the run may do this command
-pub data MayTouch (table : List LineageState) (line : List Mark) (history : List Kept)
-    (runs : List Run) (r : RunId) (c : CommandIndex) : Type 0 where
-  Touching : (s : Configuration) (parts : IsStandingOf s table line history runs)
-      (turn : IsAtCommand s r c) → MayTouch table line history runs r c
+pub data MayTouch (parts : WindowParts) (r : RunId) (c : CommandIndex) : Type 0 where
+  Touching : (s : Configuration) (stands : IsStandingOf s parts) (turn : IsAtCommand s r c)
+      → MayTouch parts r c
 
 -- the run may do its next command, which is on the device
 pub record IsAsking (s : Configuration) (r : RunId) (d : DeviceId) : Type 0 where
@@ -92,14 +101,12 @@ pub record IsAsking (s : Configuration) (r : RunId) (d : DeviceId) : Type 0 wher
   pub next : is_next_on s.setting (read_of s) r d ≡ true
 
 -- the parts belong to one window, which is not of the weak model, and the run asks for the device
-pub data MayAsk (table : List LineageState) (line : List Mark) (history : List Kept)
-    (runs : List Run) (r : RunId) (d : DeviceId) : Type 0 where
-  Asking : (s : Configuration) (parts : IsStandingOf s table line history runs)
-      (turn : IsAsking s r d) → MayAsk table line history runs r d
+pub data MayAsk (parts : WindowParts) (r : RunId) (d : DeviceId) : Type 0 where
+  Asking : (s : Configuration) (stands : IsStandingOf s parts) (turn : IsAsking s r d)
+      → MayAsk parts r d
 
 -- the parts belong to one window, which is not of the weak model, and the run has an access to the
 -- device
-pub data MayLease (table : List LineageState) (line : List Mark) (history : List Kept)
-    (runs : List Run) (r : RunId) (d : DeviceId) : Type 0 where
-  Leasing : (s : Configuration) (parts : IsStandingOf s table line history runs)
-      (access : has_access r (accesses_at table d) ≡ true) → MayLease table line history runs r d
+pub data MayLease (parts : WindowParts) (r : RunId) (d : DeviceId) : Type 0 where
+  Leasing : (s : Configuration) (stands : IsStandingOf s parts)
+      (access : has_access r (accesses_at parts.table d) ≡ true) → MayLease parts r d

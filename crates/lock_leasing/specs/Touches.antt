@@ -1,17 +1,14 @@
 -- What a run meets at the device of its next command.
-use Rattle.command_rules.specs.Rosters.{Run, command_at, run_no}
-use Rattle.history_book.specs.declared.entries.Kept.{Kept}
+use Rattle.command_rules.specs.Rosters.{command_at, run_no}
 use Rattle.home_types.specs.Numbers.{CommandIndex, RunId}
 use Rattle.home_types.specs.declared.commands.Command.{Command}
 use Rattle.home_types.specs.declared.numbers.DeviceNo.{DeviceNo}
-use Rattle.lineage_table.specs.Lineages.{LineageState}
 use Rattle.lock_leasing.specs.Configurations.{Configuration, Point, point_of}
-use Rattle.lock_leasing.specs.Standings.{IsAtCommand, IsStandingOf}
+use Rattle.lock_leasing.specs.Standings.{IsAtCommand, IsStandingOf, WindowParts}
 use Rattle.lock_leasing.specs.Waits.{behind_wait, dirty_wait}
 use Rattle.lock_leasing.specs.declared.touches.Touch.TheVariants.{Behind, Dirty, Free}
 use Rattle.lock_leasing.specs.declared.touches.Touch.{Touch}
-use Rattle.serial_line.specs.Marks.{Mark}
-use Rattle.std.specs.Prelude.{List, None, Option, Some, ◌≡◌}
+use Rattle.std.specs.Prelude.{None, Option, Some, ◌≡◌}
 
 -- at a device: a run that holds it, and one whose write would be read
 abbrev pub touch_by : DeviceNo → Option RunId → Option RunId → Touch
@@ -26,8 +23,7 @@ touch_of p r c = touch_by c.device (behind_wait p r c.device.0) (dirty_wait p r 
 
 -- the touch is that of each configuration to which the parts belong and in which it is the run's
 -- turn
-abbrev pub IsTouchOf : List LineageState → List Mark → List Kept → List Run → RunId → CommandIndex
-    → Touch → Type 0
-IsTouchOf table line history runs r c touch =
-    (s : Configuration) → IsStandingOf s table line history runs → IsAtCommand s r c
-    → touch ≡ touch_of (point_of s) r (command_at runs r c)
+abbrev pub IsTouchOf : WindowParts → RunId → CommandIndex → Touch → Type 0
+IsTouchOf parts r c touch =
+    (s : Configuration) → IsStandingOf s parts → IsAtCommand s r c
+    → touch ≡ touch_of (point_of s) r (command_at parts.runs r c)

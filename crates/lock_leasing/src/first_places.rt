@@ -18,9 +18,8 @@ use serial_line::Line;
 /// The four parts belong to one window, whose model is not the weak one, and `r` is in the roster.
 /// Takes no memory, and reads of the history no more than the end of the run that `r` follows.
 pub fn first_place(s: &Standing, r: RunNo) -> u32
-    requires { IsTrue (is_run (runs_of s.now.roster.now) r.0) }
-    ensures { IsFirstPlaceOf s.now.table.now s.now.line.now.marks s.now.book.now.items
-        (runs_of s.now.roster.now) r.0 result }
+    requires { IsTrue (is_run s.now.runs r.0) }
+    ensures { IsFirstPlaceOf s.now r.0 result }
 {
     let touched = count_to_touched(s.line, s.roster, r);
     let followed = count_to_followed(s, r);
@@ -40,9 +39,8 @@ fn count_to_touched(line: &Line, roster: &IndexedRoster, r: RunNo) -> u32
 
 /// The number of items up to and with the committed run that `r` follows, 0 where there is none.
 fn count_to_followed(s: &Standing, r: RunNo) -> u32
-    requires { IsTrue (is_run (runs_of s.now.roster.now) r.0) }
-    ensures { result
-        ≡ up_to_followed (runs_of s.now.roster.now) s.now.book.now.items r.0 s.now.line.now.marks }
+    requires { IsTrue (is_run s.now.runs r.0) }
+    ensures { result ≡ up_to_followed s.now.runs s.now.history r.0 s.now.line }
 {
     match s.roster.roster().followed_by(r) {
         Some(f) if has_committed(s.book, f) => count_to_run(s.line, f),

@@ -21,10 +21,8 @@ use lineage_table::{Access, Status};
 /// doomed nor ended, and its next command is on `d`. Takes no memory, and reads of the history no
 /// more than its dooms and placings.
 pub fn overdue(s: &Standing, w: RunNo, d: DeviceNo, moment: u64) -> Option<(RunNo, u64)>
-    requires { MayAsk s.now.table.now s.now.line.now.marks s.now.book.now.items
-        (runs_of s.now.roster.now) w.0 d.0 }
-    ensures { IsOverdueOf s.now.table.now s.now.line.now.marks s.now.book.now.items
-        (runs_of s.now.roster.now) w.0 d.0 moment result }
+    requires { MayAsk s.now w.0 d.0 }
+    ensures { IsOverdueOf s.now w.0 d.0 moment result }
 {
     let x = find_overdue(s, w, d, moment)?;
     Some((x, deadline(s, x, d)))
@@ -36,12 +34,9 @@ pub fn overdue(s: &Standing, w: RunNo, d: DeviceNo, moment: u64) -> Option<(RunN
 ///
 /// Asks what [`overdue`] asks, and reads no more.
 pub fn lends(s: &Standing, w: RunNo, d: DeviceNo) -> bool
-    requires { MayAsk s.now.table.now s.now.line.now.marks s.now.book.now.items
-        (runs_of s.now.roster.now) w.0 d.0 }
-    ensures exact { IsBorrowedFrom s.now.table.now s.now.line.now.marks s.now.book.now.items
-        (runs_of s.now.roster.now) w.0 d.0 result }
-    ensures never { result ≡ false → IsNeverOverdue s.now.table.now s.now.line.now.marks
-        s.now.book.now.items (runs_of s.now.roster.now) w.0 d.0 }
+    requires { MayAsk s.now w.0 d.0 }
+    ensures exact { IsBorrowedFrom s.now w.0 d.0 result }
+    ensures never { result ≡ false → IsNeverOverdue s.now w.0 d.0 }
 {
     find_borrower(s, w, d).is_some()
 }
@@ -52,10 +47,8 @@ pub fn lends(s: &Standing, w: RunNo, d: DeviceNo) -> bool
 /// The four parts belong to one window, whose model is not the weak one, and `x` has an access to
 /// the device. Takes no memory, and goes over the accesses to the device and the commands of `x`.
 pub fn deadline(s: &Standing, x: RunNo, d: DeviceNo) -> u64
-    requires { MayLease s.now.table.now s.now.line.now.marks s.now.book.now.items
-        (runs_of s.now.roster.now) x.0 d.0 }
-    ensures { IsDeadlineOf s.now.table.now s.now.line.now.marks s.now.book.now.items
-        (runs_of s.now.roster.now) x.0 d.0 result }
+    requires { MayLease s.now x.0 d.0 }
+    ensures { IsDeadlineOf s.now x.0 d.0 result }
 {
     let access = s.table.access(d, x).unwrap();
     lease_deadline(s.roster, d, access)
@@ -64,11 +57,11 @@ pub fn deadline(s: &Standing, x: RunNo, d: DeviceNo) -> u64
 /// The first run before `w`, among those with an access to the device, whose lease is overdue for
 /// it.
 pub(crate) fn find_overdue(s: &Standing, w: RunNo, d: DeviceNo, moment: u64) -> Option<RunNo>
-    requires device { d.0 < length s.now.table.now }
-    requires few { (r : ℕ) → length (commands_of (runs_of s.now.roster.now) r) ≤ most_commands }
-    ensures { result
-        ≡ first_before (access_is_overdue (runs_of s.now.roster.now) s.now.book.now.items
-        (placed_at s.now.book.now.items w.0) d.0 moment) w.0 (accesses_at s.now.table.now d.0) }
+    requires device { d.0 < length s.now.table }
+    requires few { (r : ℕ) → length (commands_of s.now.runs r) ≤ most_commands }
+    ensures { result ≡ first_before
+        (access_is_overdue s.now.runs s.now.history (placed_at s.now.history w.0) d.0 moment) w.0
+        (accesses_at s.now.table d.0) }
 {
     let placed = placed_at(s.book, w);
     s.table
@@ -77,10 +70,9 @@ pub(crate) fn find_overdue(s: &Standing, w: RunNo, d: DeviceNo, moment: u64) -> 
 
 /// The first run before `w`, among those with an access to the device, that has it on a lease.
 fn find_borrower(s: &Standing, w: RunNo, d: DeviceNo) -> Option<RunNo>
-    requires { d.0 < length s.now.table.now }
-    ensures { result
-        ≡ first_before (access_borrows s.now.book.now.items (placed_at s.now.book.now.items w.0))
-        w.0 (accesses_at s.now.table.now d.0) }
+    requires { d.0 < length s.now.table }
+    ensures { result ≡ first_before (access_borrows s.now.history (placed_at s.now.history w.0)) w.0
+        (accesses_at s.now.table d.0) }
 {
     let placed = placed_at(s.book, w);
     s.table
@@ -90,9 +82,8 @@ fn find_borrower(s: &Standing, w: RunNo, d: DeviceNo) -> Option<RunNo>
 /// Whether the run of an access has the device on a lease that is overdue at this moment for a run
 /// that was placed then.
 fn is_overdue(s: &Standing, placed: u64, d: DeviceNo, moment: u64, access: Access) -> bool
-    requires { (r : ℕ) → length (commands_of (runs_of s.now.roster.now) r) ≤ most_commands }
-    ensures { result ≡ access_is_overdue (runs_of s.now.roster.now) s.now.book.now.items placed
-        d.0 moment access }
+    requires { (r : ℕ) → length (commands_of s.now.runs r) ≤ most_commands }
+    ensures { result ≡ access_is_overdue s.now.runs s.now.history placed d.0 moment access }
 {
     is_borrower(s.book, placed, access) && lease_deadline(s.roster, d, access) < moment
 }

@@ -32,10 +32,8 @@ pub enum Touch {
 /// history no more than its dooms.
 #[inline(always)]
 pub fn test_touch(s: &Standing, r: RunNo, c: u32) -> Touch
-    requires { MayTouch s.now.table.now s.now.line.now.marks s.now.book.now.items
-        (runs_of s.now.roster.now) r.0 c }
-    ensures { IsTouchOf s.now.table.now s.now.line.now.marks s.now.book.now.items
-        (runs_of s.now.roster.now) r.0 c result }
+    requires { MayTouch s.now r.0 c }
+    ensures { IsTouchOf s.now r.0 c result }
 {
     let command = command_at(s.roster, r, c);
     match first_holder(s, command.device, r) {
@@ -62,8 +60,8 @@ fn command_at(roster: &IndexedRoster, r: RunNo, c: u32) -> Command
 /// Takes no memory, and reads of the history no more than its dooms.
 #[inline(always)]
 pub fn first_holder(s: &Standing, d: DeviceNo, r: RunNo) -> Option<RunNo>
-    requires { d.0 < length s.now.table.now }
-    ensures { result ≡ holder_before s.now.book.now.items r.0 (accesses_at s.now.table.now d.0) }
+    requires { d.0 < length s.now.table }
+    ensures { result ≡ holder_before s.now.history r.0 (accesses_at s.now.table d.0) }
 {
     let writer = s.table.effective_writer(d);
     s.table
@@ -83,8 +81,8 @@ fn holds(book: &Book, writer: Option<RunNo>, access: Access) -> bool
 
 /// The effective writer of the command's device before `r`, where the command would read its write.
 fn find_dirty_writer(s: &Standing, command: Command, r: RunNo) -> Option<RunNo>
-    requires { command.device.0 < length s.now.table.now }
-    ensures { result ≡ dirty_writer command r.0 (accesses_at s.now.table.now command.device.0) }
+    requires { command.device.0 < length s.now.table }
+    ensures { result ≡ dirty_writer command r.0 (accesses_at s.now.table command.device.0) }
 {
     let access = s.table.access(command.device, r)?;
     let sees_down = access.view == Some(View::Down);
@@ -97,8 +95,8 @@ fn find_dirty_writer(s: &Standing, command: Command, r: RunNo) -> Option<RunNo>
 
 /// The effective writer of the device, where its access stands before that of `r`.
 fn find_writer(s: &Standing, d: DeviceNo, r: RunNo) -> Option<RunNo>
-    requires { d.0 < length s.now.table.now }
-    ensures { result ≡ writer_before r.0 (accesses_at s.now.table.now d.0) }
+    requires { d.0 < length s.now.table }
+    ensures { result ≡ writer_before r.0 (accesses_at s.now.table d.0) }
 {
     let writer = s.table.effective_writer(d);
     s.table

@@ -1,5 +1,5 @@
--- The lemmas of this crate that proofs of other crates cite, and words of theirs, by the file in
--- which they stand. No other file of proofs/ can be named there.
+-- What proofs of other crates cite of this one: lemmas, and the words in which these are said, by
+-- the file in which they stand. Every other file of proofs/ is private.
 
 -- What `parse` reads in a word of digits.
 pub use Rattle.order_checker.proofs.Numbers.{own}

@@ -1,5 +1,5 @@
--- The lemmas of this crate that proofs of other crates cite, and words of theirs, by the file in
--- which they stand. No other file of proofs/ can be named there.
+-- What proofs of other crates cite of this one: lemmas, and the words in which these are said, by
+-- the file in which they stand. Every other file of proofs/ is private.
 
 -- Places in a list that is made from another.
 pub use Rattle.routine_reader.proofs.NameLemmas.{position-map}

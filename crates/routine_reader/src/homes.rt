@@ -25,7 +25,7 @@ pub fn start_world(alloc: Global, script: &Script) -> Result<World, NoMemory>
     Ok(World { devices })
 }
 
-/// The kinds of the script's devices, for the journal of a home.
+/// The kinds of the script's devices, by their numbers.
 ///
 /// Answers `NoMemory` where there is none to be had.
 pub fn script_kinds(alloc: Global, script: &Script) -> Result<List<Kind>, NoMemory>

@@ -1,4 +1,4 @@
-// A day's script, read from its bytes.
+// A day's script, read from its bytes, and what it says of its home and of its windows.
 #![tactic(auto)]
 
 mod commands;

@@ -10,7 +10,8 @@ use Rattle.history_book.specs.declared.entries.Entry.{Entry}
 use Rattle.hub_core.proofs.Cited.{gave_back, length_with, never_refused}
 use Rattle.hub_core.specs.HubCalls.{SameWindow, carried_by, grip_takes}
 use Rattle.hub_core.specs.HubSteps.{Gave, Give, HubStep, Refused, Returned}
-use Rattle.hub_core.specs.OpenHubs.{OpenHub, carried_in, configuration_of, grip_in, hub_state_of, progress_at}
+use Rattle.hub_core.specs.OpenHubs.{OpenHub, carried_in, configuration_of, hub_state_of}
+use Rattle.window_devices.specs.KnownDevices.{grip_in, progress_at}
 use Rattle.hub_core.specs.Steps.{after_give, at_moment, give_entries}
 use Rattle.lock_leasing.specs.Configurations.{Configuration, is_command, is_undo, point_of, read_of}
 use Rattle.lock_leasing.specs.Places.{GripsFit}

@@ -6,8 +6,10 @@ use Rattle.device_gate.specs.declared.gates.Place.{Place}
 use Rattle.device_gate.specs.declared.grips.Ready.{Ready}
 use Rattle.history_book.proofs.Cited.{Each}
 use Rattle.history_book.specs.Readings.{is_live}
-use Rattle.hub_core.proofs.Cited.{find_none, not_none, run_there}
-use Rattle.hub_core.specs.OpenHubs.{configuration_of, grip_in, progress_at}
+use Rattle.hub_core.proofs.Cited.{run_there}
+use Rattle.window_devices.proofs.Cited.{find_none, not_none}
+use Rattle.hub_core.specs.OpenHubs.{configuration_of}
+use Rattle.window_devices.specs.KnownDevices.{grip_in, progress_at}
 use Rattle.lock_leasing.specs.declared.purposes.Purpose.TheVariants.{Commands, Probes, Undoes}
 use Rattle.lock_leasing.specs.declared.purposes.Purpose.{Purpose}
 use Rattle.hub_core.specs.Steps.{not_quiet}

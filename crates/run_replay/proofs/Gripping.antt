@@ -4,8 +4,9 @@ use Rattle.device_gate.specs.declared.gates.Place.TheVariants.{Home, Out}
 use Rattle.device_gate.specs.declared.gates.Place.{Place}
 use Rattle.device_gate.specs.declared.grips.Ready.{Ready}
 use Rattle.device_gate.specs.declared.slips.Slip.{Slip}
-use Rattle.hub_core.proofs.Cited.{none_found}
-use Rattle.hub_core.specs.OpenHubs.{configuration_of, grip_in, progress_at}
+use Rattle.window_devices.proofs.Cited.{none_found}
+use Rattle.hub_core.specs.OpenHubs.{configuration_of}
+use Rattle.window_devices.specs.KnownDevices.{grip_in, progress_at}
 use Rattle.lock_leasing.specs.declared.purposes.Purpose.{Purpose}
 use Rattle.lock_leasing.specs.Configurations.{has_grip}
 use Rattle.run_replay.proofs.Settings.{find_only}

@@ -6,7 +6,7 @@ use Rattle.device_gate.specs.declared.grips.Ready.{Ready}
 use Rattle.device_gate.specs.declared.slips.Slip.{Slip}
 use Rattle.device_gate.specs.declared.slips.Task.{Task}
 use Rattle.device_states.specs.Devices.{Plan, Shown}
-use Rattle.hub_core.proofs.Cited.{get_set}
+use Rattle.window_devices.proofs.Cited.{get_set}
 use Rattle.run_replay.proofs.Settings.{put_length, put_other_place, put_same_place}
 use Rattle.run_replay.specs.Players.{HavePlans, IsInHand, PlayerIsKept, PlayerState}
 use Rattle.std.proofs.Common.{ap, inl, inr, refl, subst, sym, ◌∙◌}

@@ -8,7 +8,8 @@ use Rattle.device_states.specs.Devices.{Shown}
 use Rattle.history_book.specs.Settings.{Setting}
 use Rattle.hub_core.specs.Homes.{HomeState}
 use Rattle.hub_core.specs.HubCalls.{IsOpened as IsOpenedOn}
-use Rattle.hub_core.specs.OpenHubs.{OpenHub, configuration_of, grip_in, progress_at}
+use Rattle.hub_core.specs.OpenHubs.{OpenHub, configuration_of}
+use Rattle.window_devices.specs.KnownDevices.{grip_in, progress_at}
 use Rattle.hub_core.specs.Steps.{opened}
 use Rattle.run_replay.specs.Players.{HoldNothing, PlayerIsKept, PlayerIsOpened, PlayerState}
 use Rattle.std.proofs.Common.{ap, arith, refl, subst, sym, ◌∙◌}

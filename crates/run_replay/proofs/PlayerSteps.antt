@@ -1,8 +1,10 @@
 -- What a step of an actor leaves of its player, and a pick.
+use Rattle.command_rules.specs.Rosters.{device_no}
 use Rattle.device_gate.specs.Grips.{Gripped}
 use Rattle.device_gate.specs.declared.grips.Done.{Done}
 use Rattle.device_gate.specs.declared.grips.Ready.{Ready}
 use Rattle.device_states.specs.Devices.{Shown}
+use Rattle.history_book.specs.declared.entries.Entry.{Entry}
 use Rattle.home_types.specs.declared.numbers.DeviceNo.{DeviceNo}
 use Rattle.hub_core.specs.Steps.{Choice, Waits}
 use Rattle.hub_core.specs.declared.waits.Why.{Why}
@@ -20,8 +22,6 @@ use Rattle.run_replay.specs.declared.picked.Picked.TheVariants.{Made, Passed, To
 use Rattle.run_replay.specs.declared.picked.Picked.{Picked}
 use Rattle.std.proofs.Common.{ap, refl, subst, sym, ◌∙◌}
 use Rattle.std.specs.Prelude.{List, None, Some, false, length, suc, true, zero, ℕ, ◌+◌, ◌≡◌, ◌≤◌}
-use Rattle.history_book.specs.declared.entries.Entry.{Entry}
-use Rattle.command_rules.specs.Rosters.{device_no}
 
 pub stays_here : {D : Type 0} (shows : D → Shown) (s : PlayerState D) → PlayerStays shows s s
 stays_here shows s = record { window = window_stays s.hub; rounds = refl; plans = λ plans have. have }

@@ -4,8 +4,9 @@ use Rattle.device_gate.specs.declared.gates.Place.TheVariants.{Home, Out}
 use Rattle.device_gate.specs.declared.gates.Place.{Place}
 use Rattle.history_book.proofs.Cited.{Each, none_is}
 use Rattle.history_book.specs.Readings.{is_live}
-use Rattle.hub_core.proofs.Cited.{none_there}
-use Rattle.hub_core.specs.OpenHubs.{configuration_of, grip_in, progress_at}
+use Rattle.window_devices.proofs.Cited.{none_there}
+use Rattle.hub_core.specs.OpenHubs.{configuration_of}
+use Rattle.window_devices.specs.KnownDevices.{grip_in, progress_at}
 use Rattle.lock_leasing.specs.declared.purposes.Purpose.TheVariants.{Commands, Probes, Undoes}
 use Rattle.lock_leasing.specs.declared.purposes.Purpose.{Purpose}
 use Rattle.hub_core.specs.Steps.{Absent, Choice, HandsOut, Moves, Over, Waits, choice_of}

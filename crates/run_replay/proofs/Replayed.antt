@@ -5,7 +5,8 @@ use Rattle.history_book.specs.declared.records.WindowRecord.{WindowRecord}
 use Rattle.hub_core.proofs.Cited.{plan_in, window_worked}
 use Rattle.hub_core.specs.Homes.{HomeState}
 use Rattle.hub_core.specs.HubCalls.{HubStands, SameWindow, WindowIsClosed}
-use Rattle.hub_core.specs.OpenHubs.{OpenHub, configuration_of, progress_at}
+use Rattle.hub_core.specs.OpenHubs.{OpenHub, configuration_of}
+use Rattle.window_devices.specs.KnownDevices.{progress_at}
 use Rattle.hub_core.specs.Steps.{not_quiet}
 use Rattle.run_replay.proofs.Ending.{quiet_at_end}
 use Rattle.run_replay.proofs.Living.{actors_are}

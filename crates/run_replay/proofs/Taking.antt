@@ -4,7 +4,8 @@ use Rattle.device_gate.specs.Grips.{Gripped}
 use Rattle.device_gate.specs.declared.grips.Ready.{Ready}
 use Rattle.device_gate.specs.declared.slips.Slip.{Slip}
 use Rattle.device_states.specs.Devices.{Plan, Shown}
-use Rattle.hub_core.proofs.Cited.{decide_is, length_with, none_there, took_after, took_choice}
+use Rattle.hub_core.proofs.Cited.{decide_is, length_with, took_after, took_choice}
+use Rattle.window_devices.proofs.Cited.{none_there}
 use Rattle.hub_core.specs.HubCalls.{Answers, DeviceGoesOut, SameWindow}
 use Rattle.hub_core.specs.HubSteps.{IsSlipOf, SlipFits}
 use Rattle.hub_core.specs.OpenHubs.{OpenHub, configuration_of, hub_state_of}

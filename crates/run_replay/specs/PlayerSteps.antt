@@ -5,8 +5,8 @@ use Rattle.hub_core.specs.HubCalls.{SameWindow}
 use Rattle.run_replay.specs.Players.{HavePlans, PlayerState, is_ended, play_of, steps_left}
 use Rattle.run_replay.specs.Playing.{IsPicked, IsStepped}
 use Rattle.run_replay.specs.Replays.{is_waiting_pick, moves_after}
-use Rattle.std.specs.Prelude.{false, length, true, ℕ, ◌<◌, ◌≡◌, ◌≢◌}
 use Rattle.run_replay.specs.declared.picked.Picked.{Picked}
+use Rattle.std.specs.Prelude.{false, length, true, ℕ, ◌<◌, ◌≡◌, ◌≢◌}
 
 -- the player is in the same window, its detector comes as often, and the devices have their plans
 pub record PlayerStays {D : Type 0} (shows : D → Shown) (s t : PlayerState D) : Type 0 where

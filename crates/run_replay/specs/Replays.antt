@@ -1,17 +1,17 @@
 -- The replay of a window, given what the devices tell: picks first, then draws until every actor
 -- has ended.
 use Rattle.command_rules.specs.Rosters.{command_at, device_no, is_run}
+use Rattle.device_gate.specs.declared.slips.Told.{Told}
 use Rattle.history_book.specs.Settings.{Setting}
 use Rattle.home_types.specs.Numbers.{ActorId, DeviceId, Moment, RunId}
 use Rattle.hub_core.specs.Steps.{Absent, Choice, HandsOut, Moves, Over, Waits, after_give, after_take, after_take_probe, at_moment, choice_of, give_entries, may_probe, opened}
-use Rattle.device_gate.specs.declared.slips.Told.{Told}
 use Rattle.lock_leasing.specs.Configurations.{Configuration, Grip, read_of}
+use Rattle.lock_leasing.specs.Waits.{grip_wait}
 use Rattle.lock_leasing.specs.declared.purposes.Purpose.TheVariants.{Commands, Probes, Undoes}
 use Rattle.lock_leasing.specs.declared.purposes.Purpose.{Purpose}
-use Rattle.lock_leasing.specs.Waits.{grip_wait}
-use Rattle.seeded_draws.specs.Draws.{below, drawn}
 use Rattle.run_replay.specs.declared.picked.Picked.TheVariants.{Made, Passed, Took, Waits as Waited}
 use Rattle.run_replay.specs.declared.picked.Picked.{Picked}
+use Rattle.seeded_draws.specs.Draws.{below, drawn}
 use Rattle.std.specs.List.{range_with_len}
 use Rattle.std.specs.Prelude.{Bool, List, Option, [], drop, false, filter, fold, if◌then◌else◌, is_none, is_some, length, nat_le, not, option_map, suc, take, true, unwrap_or, zero, ℕ, ◌%◌, ◌&&◌, ◌*◌, ◌++◌, ◌+◌, ◌==◌, ◌||◌, ◌∷◌, ◌≡◌}
 

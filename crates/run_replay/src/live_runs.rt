@@ -2,30 +2,25 @@
 ghost use Rattle.std.specs.Prelude.{false, not, true, ℕ, ◌&&◌, ◌<◌, ◌==◌, ◌≡◌, ◌≢◌, ◌≤◌};
 ghost use Rattle.blocked_runs.specs.RunBits.{has_run};
 
+use blocked_runs::bit_of;
+use home_types::RunNo;
+
 /// One more than the greatest number of a run.
 pub(crate) const END: u32 = 65;
-
-/// The word of the run alone, with no bit for a number that is no run's.
-fn word_of(r: u32) -> u64
-    ensures only { (q : ℕ) → has_run result q ≡ (has_run result r && (q == r)) }
-    ensures own { 0 < r → r < 65 → has_run result r ≡ true }
-{
-    if 1 <= r && r <= 64 { 1 << (r - 1) } else { 0 }
-}
 
 /// These runs, and this one.
 pub(crate) fn with_run(word: u64, r: u32) -> u64
     ensures others { (q : ℕ) → q ≢ r → has_run result q ≡ has_run word q }
     ensures own { 0 < r → r < 65 → has_run result r ≡ true }
 {
-    word | word_of(r)
+    word | bit_of(RunNo(r))
 }
 
 /// These runs but for this one.
 pub(crate) fn without_run(word: u64, r: u32) -> u64
     ensures { (q : ℕ) → has_run result q ≡ (has_run word q && not (q == r)) }
 {
-    word & !word_of(r)
+    word & !bit_of(RunNo(r))
 }
 
 /// The first of these runs from this one on; 65 where there is none.

@@ -1,5 +1,5 @@
--- The lemmas of this crate that proofs of other crates cite, and words of theirs, by the file in
--- which they stand. No other file of proofs/ can be named there.
+-- What proofs of other crates cite of this one: lemmas, and the words in which these are said, by
+-- the file in which they stand. Every other file of proofs/ is private.
 
--- What a command or an item leaves of a refusal, and the devices of a run's commands.
+-- A refusal stays, whatever item comes next.
 pub use Rattle.serial_meaning.proofs.Items.{serve_stays}

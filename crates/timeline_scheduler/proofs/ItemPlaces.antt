@@ -1,8 +1,8 @@
 -- The item at a place of a line, and at one of a list.
 use Rattle.home_types.specs.declared.items.Item.{Item}
 use Rattle.serial_line.specs.Marks.{Mark, items_of}
-use Rattle.std.proofs.Common.{ap, arith, rules, subst, sym, ◌∙◌}
-use Rattle.std.specs.Prelude.{IsSome, List, Option, Some, [], length, slice_get, slice_index_or, suc, take, zero, ℕ, ◌++◌, ◌+◌, ◌<◌, ◌∷◌, ◌≡◌}
+use Rattle.std.proofs.Common.{arith, rules, subst, sym}
+use Rattle.std.specs.Prelude.{IsSome, List, Option, Some, [], length, slice_get, slice_index_or, suc, zero, ℕ, ◌<◌, ◌∷◌, ◌≡◌}
 
 -- there is one at each place of the line
 pub item_there : (marks : List Mark) (k : ℕ) (o : Option Item) → o ≡ slice_get (items_of marks) k → k < length marks → IsSome o
@@ -15,18 +15,3 @@ pub told_at : {A : Type 0} (xs : List A) (k : ℕ) (x : A) → slice_get xs k �
 told_at [] k x there = absurd (cc)
 told_at (y ∷ xs) zero x there = cc
 told_at (y ∷ xs) (suc k) x there = told_at xs k x there
-
--- one more
-pub take_next : {A : Type 0} (xs : List A) (k : ℕ) (x : A) → slice_get xs k ≡ Some x → take (k + 1) xs ≡ take k xs ++ x ∷ []
-take_next {A = A} xs k x there = ap (λ j. take j xs) (next k) ∙ along xs k there
-  where
-    next : (j : ℕ) → j + 1 ≡ suc j
-    next j = omega arith
-
-    along : (ys : List A) (j : ℕ) → slice_get ys j ≡ Some x → take (suc j) ys ≡ take j ys ++ x ∷ []
-    along [] j is = absurd (cc)
-    along (y ∷ ys) zero is = ap (λ z. z ∷ []) (own y is)
-      where
-        own : (z : A) → Some z ≡ Some x → z ≡ x
-        own z e = cc
-    along (y ∷ ys) (suc j) is = ap (λ l. y ∷ l) (along ys j is)

@@ -4,13 +4,11 @@ use Rattle.command_rules.specs.Rosters.{Run, commands_of, is_run, touches}
 use Rattle.history_book.proofs.Cited.{is_stray, none_strays}
 use Rattle.history_book.specs.Histories.{entries_of}
 use Rattle.history_book.specs.Settings.{Setting}
-use Rattle.history_book.specs.declared.entries.Kept.{Kept}
 use Rattle.home_types.specs.declared.items.Item.TheVariants.{Back, Failed, Ran}
 use Rattle.home_types.specs.declared.items.Item.{Item}
-use Rattle.lineage_table.specs.Lineages.{LineageState}
 use Rattle.lock_leasing.specs.Configurations.{Configuration, read_of}
-use Rattle.lock_leasing.specs.Standings.{IsRosterFor, IsStandingOf}
-use Rattle.serial_line.specs.Marks.{Mark, items_of}
+use Rattle.lock_leasing.specs.Standings.{IsRosterFor, IsStandingOf, WindowParts}
+use Rattle.serial_line.specs.Marks.{items_of}
 use Rattle.std.proofs.Common.{ap, arith, subst, sym, ◌∙◌}
 use Rattle.std.proofs.lemmas.Grind.{common_steps}
 use Rattle.std.specs.List.{list_any}
@@ -54,20 +52,20 @@ module _ (w : Setting) (allowed : IsRosterFor (length w.first) w.runs) where
   known_item (Failed d k) own = let few = allowed.few_devices in let homed : d.0 < length w.first = grind (arith, common_steps) in omega (arith, few, homed)
   known_item (Back d k) own = let few = allowed.few_devices in let homed : d.0 < length w.first = grind (arith, common_steps) in omega (arith, few, homed)
 
-module _ (table : List LineageState) (line : List Mark) (history : List Kept) (runs : List Run) (r : ℕ) where
+module _ (parts : WindowParts) (r : ℕ) where
   -- the items of the line are known
-  pub all_known : MayPlan table line history runs r → ItemsAreKnown runs (items_of line)
-  all_known (Planning s parts run) at i there =
-      subst (λ rs. IsKnown rs i) parts.its_roster
-      (known_item s.setting parts.allowed i
-      (not_at (is_stray s.setting) (read_of s).line at i (none_strays s.setting (entries_of s.history) parts.well_formed) (ap (λ is. slice_get is at) (sym parts.its_line.items) ∙ there)))
+  pub all_known : MayPlan parts r → ItemsAreKnown parts.runs (items_of parts.line)
+  all_known (Planning s stands run) at i there =
+      subst (λ rs. IsKnown rs i) stands.its_roster
+      (known_item s.setting stands.allowed i
+      (not_at (is_stray s.setting) (read_of s).line at i (none_strays s.setting (entries_of s.history) stands.well_formed) (ap (λ is. slice_get is at) (sym stands.its_line.items) ∙ there)))
 
-  pub device_within : (s : Configuration) → IsStandingOf s table line history runs → (x d : ℕ) → touches s.setting.runs x d ≡ true → d < length s.setting.first
-  device_within s parts x d on = device_below d (length s.setting.first) (commands_of s.setting.runs x) (λ k c there. parts.allowed.homed x k c there) on
+  pub device_within : (s : Configuration) → IsStandingOf s parts → (x d : ℕ) → touches s.setting.runs x d ≡ true → d < length s.setting.first
+  device_within s stands x d on = device_below d (length s.setting.first) (commands_of s.setting.runs x) (λ k c there. stands.allowed.homed x k c there) on
 
   -- each command is on a device of the table
-  pub all_homed : MayPlan table line history runs r → RunsAreHomed (length table) runs
-  all_homed (Planning s parts run) x d on =
-      let size = parts.its_table.devices in
-      let below = device_within s parts x d (ap (λ rs. touches rs x d) parts.its_roster ∙ on) in
+  pub all_homed : MayPlan parts r → RunsAreHomed (length parts.table) parts.runs
+  all_homed (Planning s stands run) x d on =
+      let size = stands.its_table.devices in
+      let below = device_within s stands x d (ap (λ rs. touches rs x d) stands.its_roster ∙ on) in
       omega (arith, size, below)

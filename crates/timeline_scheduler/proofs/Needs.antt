@@ -14,10 +14,9 @@ use Rattle.home_types.specs.declared.commands.Command.{Command}
 use Rattle.home_types.specs.declared.items.Item.TheVariants.{Back, Failed, Ran}
 use Rattle.home_types.specs.declared.items.Item.{Item}
 use Rattle.home_types.specs.declared.numbers.RunNo.{RunNo}
-use Rattle.lineage_table.specs.Lineages.{LineageState}
 use Rattle.lock_leasing.proofs.Cited.{Facts, any_filter, any_range, command_out, devices_by_commands, facts_of}
 use Rattle.lock_leasing.specs.Configurations.{Configuration, Grips, grips_command, read_of}
-use Rattle.lock_leasing.specs.Standings.{IsRosterFor, IsStandingOf, has_ended, item_has_touched}
+use Rattle.lock_leasing.specs.Standings.{IsRosterFor, IsStandingOf, WindowParts, has_ended, item_has_touched}
 use Rattle.lock_leasing.specs.Words.{has_touched}
 use Rattle.serial_line.proofs.Cited.{meets_by}
 use Rattle.serial_line.specs.Marks.{Mark, front_of, is_open_run, items_of, meets}
@@ -302,20 +301,20 @@ each_placed n (m ∷ ms) among = ((λ x e. among x.0 (ap (λ i. of_run (λ q. q 
     behind : (a b : Bool) → b ≡ true → (a || b) ≡ true
     behind a b e = grind (arith, common_steps)
 
-module _ (table : List LineageState) (line : List Mark) (history : List Kept) (runs : List Run) (r : ℕ) where
+module _ (parts : WindowParts) (r : ℕ) where
   -- the seeds are the base
-  pub base_is : (s : Configuration) → IsStandingOf s table line history runs → seeds history runs r line ≡ gaps.base_of s.setting (read_of s) r
-  base_is s parts =
-      ap (λ rs. seeds history rs r line) (sym parts.its_roster)
-      ∙ seeds_are s.setting (read_of s) s.grips f parts.allowed history ends answers r line parts.its_line.touches parts.its_line.ends
-      (each_placed (read_of s) line (λ q among. placed_if ((read_of s).run q) (sym (f.line.line q) ∙ sym (ap (list_any (λ i. of_run (λ x. x == q) i)) parts.its_line.items) ∙ among)))
-      ∙ ap (gaps.base_flags (of_run (is_live (read_of s))) (gaps.is_needed s.setting (read_of s) r)) parts.its_line.items
+  pub base_is : (s : Configuration) → IsStandingOf s parts → seeds parts.history parts.runs r parts.line ≡ gaps.base_of s.setting (read_of s) r
+  base_is s stands =
+      ap (λ rs. seeds parts.history rs r parts.line) (sym stands.its_roster)
+      ∙ seeds_are s.setting (read_of s) s.grips f stands.allowed parts.history ends answers r parts.line stands.its_line.touches stands.its_line.ends
+      (each_placed (read_of s) parts.line (λ q among. placed_if ((read_of s).run q) (sym (f.line.line q) ∙ sym (ap (list_any (λ i. of_run (λ x. x == q) i)) stands.its_line.items) ∙ among)))
+      ∙ ap (gaps.base_flags (of_run (is_live (read_of s))) (gaps.is_needed s.setting (read_of s) r)) stands.its_line.items
     where
       f : Facts s.setting (read_of s) s.grips
-      f = facts_of s table line history runs parts
+      f = facts_of s parts stands
 
-      ends : (q : ℕ) → end_of history q ≡ ((read_of s).run q).ended
-      ends q = ap (λ h. end_of h q) (sym parts.its_history) ∙ end_is s.setting s.history q parts.well_formed
+      ends : (q : ℕ) → end_of parts.history q ≡ ((read_of s).run q).ended
+      ends q = ap (λ h. end_of h q) (sym stands.its_history) ∙ end_is s.setting s.history q stands.well_formed
 
-      answers : (q : ℕ) → answer_count history q ≡ next_of (read_of s) q
-      answers q = ap (λ h. answer_count h q) (sym parts.its_history) ∙ answer_count_is s.setting s.history q
+      answers : (q : ℕ) → answer_count parts.history q ≡ next_of (read_of s) q
+      answers q = ap (λ h. answer_count h q) (sym stands.its_history) ∙ answer_count_is s.setting s.history q

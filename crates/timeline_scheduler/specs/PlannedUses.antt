@@ -1,4 +1,5 @@
--- The planned times of a run whose commands follow one another.
+-- The planned times of a run whose commands follow one another, and for how long a run is planned
+-- to use a device: by its plan, and as the scratch holds it.
 use Rattle.command_rules.specs.Rosters.{is_on}
 use Rattle.history_book.specs.Plans.{greatest, planned_end, planned_start}
 use Rattle.history_book.specs.Readings.{Planned}

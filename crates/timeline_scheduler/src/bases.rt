@@ -1,7 +1,7 @@
 //! The items that must stand before a run wherever it is placed.
 ghost use Rattle.std.specs.Prelude.{◌≡◌, ◌<◌, IsTrue, Some, length, slice_get};
 ghost use Rattle.command_rules.specs.Items.{of_run};
-ghost use Rattle.command_rules.specs.Rosters.{is_run, runs_of};
+ghost use Rattle.command_rules.specs.Rosters.{is_run};
 ghost use Rattle.serial_line.specs.Marks.{items_of};
 ghost use Rattle.timeline_scheduler.specs.Bases.{goes_on, run_binds, seeds};
 ghost use Rattle.timeline_scheduler.specs.Gathered.{IsKnown, ItemsAreKnown};
@@ -13,12 +13,10 @@ use lock_leasing::Standing;
 /// Whether the item at this place must stand before the run `r`: it stands before each run that has
 /// not ended, has touched a device of `r`, or is a run that must.
 pub(crate) fn is_needed(s: &Standing, r: RunNo, at: u32) -> bool
-    requires run { IsTrue (is_run (runs_of s.now.roster.now) r.0) }
-    requires known { ItemsAreKnown (runs_of s.now.roster.now) (items_of s.now.line.now.marks) }
-    requires there { at < length s.now.line.now.marks }
-    ensures { slice_get
-        (seeds s.now.book.now.items (runs_of s.now.roster.now) r.0 s.now.line.now.marks) at
-        ≡ Some result }
+    requires run { IsTrue (is_run s.now.runs r.0) }
+    requires known { ItemsAreKnown s.now.runs (items_of s.now.line) }
+    requires there { at < length s.now.line }
+    ensures { slice_get (seeds s.now.history s.now.runs r.0 s.now.line) at ≡ Some result }
 {
     if at < s.line.front() {
         return true;
@@ -32,9 +30,9 @@ pub(crate) fn is_needed(s: &Standing, r: RunNo, at: u32) -> bool
 
 /// Whether the item is a run that must stand before the run `r`, whatever it has touched.
 fn binds_item(s: &Standing, r: RunNo, item: Item) -> bool
-    requires run { IsTrue (is_run (runs_of s.now.roster.now) r.0) }
-    requires known { IsKnown (runs_of s.now.roster.now) item }
-    ensures { result ≡ of_run (run_binds s.now.book.now.items (runs_of s.now.roster.now) r.0) item }
+    requires run { IsTrue (is_run s.now.runs r.0) }
+    requires known { IsKnown s.now.runs item }
+    ensures { result ≡ of_run (run_binds s.now.history s.now.runs r.0) item }
 {
     match item {
         Item::Ran(x) => binds(s, r, x),
@@ -46,9 +44,9 @@ fn binds_item(s: &Standing, r: RunNo, item: Item) -> bool
 /// touched: its next command is on one of the devices of `r`, or it is the committed run that `r`
 /// follows.
 fn binds(s: &Standing, r: RunNo, x: RunNo) -> bool
-    requires run { IsTrue (is_run (runs_of s.now.roster.now) r.0) }
-    requires other { IsTrue (is_run (runs_of s.now.roster.now) x.0) }
-    ensures { result ≡ run_binds s.now.book.now.items (runs_of s.now.roster.now) r.0 x.0 }
+    requires run { IsTrue (is_run s.now.runs r.0) }
+    requires other { IsTrue (is_run s.now.runs x.0) }
+    ensures { result ≡ run_binds s.now.history s.now.runs r.0 x.0 }
 {
     match s.book.end_of(x) {
         None => goes_on(s, r, x),
@@ -60,9 +58,9 @@ fn binds(s: &Standing, r: RunNo, x: RunNo) -> bool
 /// Whether the first command of the run `x` without an answer is on one of the devices of the run
 /// `r`.
 fn goes_on(s: &Standing, r: RunNo, x: RunNo) -> bool
-    requires run { IsTrue (is_run (runs_of s.now.roster.now) r.0) }
-    requires other { IsTrue (is_run (runs_of s.now.roster.now) x.0) }
-    ensures { result ≡ goes_on s.now.book.now.items (runs_of s.now.roster.now) r.0 x.0 }
+    requires run { IsTrue (is_run s.now.runs r.0) }
+    requires other { IsTrue (is_run s.now.runs x.0) }
+    ensures { result ≡ goes_on s.now.history s.now.runs r.0 x.0 }
 {
     match s.roster.commands(x).get(s.book.answered(x) as usize) {
         Some(command) => s.roster.touches(r, command.device),

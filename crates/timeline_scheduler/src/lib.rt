@@ -1,5 +1,5 @@
-// The set of items of the line behind which a run is placed so that its plan ends earliest, and the
-// times of that plan.
+// The set of items of the line behind which a run is placed so that its plan ends earliest, the
+// times of that plan, and for how long a run that is placed is planned to use its devices.
 #![tactic(auto)]
 
 mod bases;

@@ -21,22 +21,16 @@ use lock_leasing::Standing;
 /// has. Takes no memory, and goes over the line three times, and again each time that the set
 /// grows.
 pub fn place(s: &Standing, r: RunNo, moment: u64, scratch: &mut Scratch) -> u32
-    requires may { MayPlan s.now.table.now s.now.line.now.marks s.now.book.now.items
-        (runs_of s.now.roster.now) r.0 }
-    requires room { length scratch.old.slots ≡ length s.now.table.now }
-    requires items { length s.now.line.now.marks ≤ scratch.old.items }
-    ensures exact { IsPlaceOf s.now.table.now s.now.line.now.marks s.now.book.now.items
-        (runs_of s.now.roster.now) r.0 moment result }
-    ensures within { result ≤ length s.now.line.now.marks }
-    ensures before { IsSetOf s.now.table.now s.now.line.now.marks s.now.book.now.items
-        (runs_of s.now.roster.now) r.0 moment scratch.new.before }
-    ensures flags { length scratch.new.before ≡ length s.now.line.now.marks }
-    ensures planned { IsPlanOf s.now.table.now s.now.line.now.marks s.now.book.now.items
-        (runs_of s.now.roster.now) r.0 moment scratch.new.slots }
-    ensures least { IsLeastOf s.now.table.now s.now.line.now.marks s.now.book.now.items
-        (runs_of s.now.roster.now) r.0 moment scratch.new.before }
-    ensures earliest { IsEarliestOf s.now.table.now s.now.line.now.marks s.now.book.now.items
-        (runs_of s.now.roster.now) r.0 moment scratch.new.before }
+    requires may { MayPlan s.now r.0 }
+    requires room { length scratch.old.slots ≡ length s.now.table }
+    requires items { length s.now.line ≤ scratch.old.items }
+    ensures exact { IsPlaceOf s.now r.0 moment result }
+    ensures within { result ≤ length s.now.line }
+    ensures before { IsSetOf s.now r.0 moment scratch.new.before }
+    ensures flags { length scratch.new.before ≡ length s.now.line }
+    ensures planned { IsPlanOf s.now r.0 moment scratch.new.slots }
+    ensures least { IsLeastOf s.now r.0 moment scratch.new.before }
+    ensures earliest { IsEarliestOf s.now r.0 moment scratch.new.before }
     ensures size { length scratch.new.slots ≡ length scratch.old.slots }
     ensures room_stays { scratch.new.items ≡ scratch.old.items }
 {

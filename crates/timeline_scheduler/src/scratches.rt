@@ -1,9 +1,9 @@
 //! The room in which the timeline looks for the set of items behind which a run is placed.
-ghost use Rattle.std.specs.Prelude.{◌≡◌, ◌<◌, ◌≤◌, ◌^◌, IfOk, IsTrue, count_by, false, length, map, not, option_map, slice_index_or, true};
+ghost use Rattle.std.specs.Prelude.{IfOk, IsTrue, count_by, false, length, map, not, option_map, slice_index_or, true, ◌<◌, ◌^◌, ◌≡◌, ◌≤◌};
 ghost use Rattle.command_rules.specs.Apart.{meet};
 ghost use Rattle.command_rules.specs.ClosedSets.{chosen, closure, either_of};
 ghost use Rattle.command_rules.specs.Items.{of_run};
-ghost use Rattle.command_rules.specs.Rosters.{commands_of, is_run, runs_of};
+ghost use Rattle.command_rules.specs.Rosters.{commands_of, is_run};
 ghost use Rattle.serial_line.specs.Marks.{items_of};
 ghost use Rattle.timeline_scheduler.specs.Bases.{seeds};
 ghost use Rattle.timeline_scheduler.specs.Gathered.{ItemsAreKnown};
@@ -101,13 +101,13 @@ impl Scratch {
     /// The set is that of the items of the line that must stand before the run `r` wherever it is
     /// placed.
     pub(crate) fn seed(&mut self, s: &Standing, r: RunNo)
-        requires room { length s.now.line.now.marks ≤ self.old.items }
-        requires run { IsTrue (is_run (runs_of s.now.roster.now) r.0) }
-        requires known { ItemsAreKnown (runs_of s.now.roster.now) (items_of s.now.line.now.marks) }
+        requires room { length s.now.line ≤ self.old.items }
+        requires run { IsTrue (is_run s.now.runs r.0) }
+        requires known { ItemsAreKnown s.now.runs (items_of s.now.line) }
         ensures flags { self.new ≡ record self.old {
-          before = seeds s.now.book.now.items (runs_of s.now.roster.now) r.0 s.now.line.now.marks;
+          before = seeds s.now.history s.now.runs r.0 s.now.line;
         } }
-        ensures few { length s.now.line.now.marks < 2 ^ 32 }
+        ensures few { length s.now.line < 2 ^ 32 }
     {
         self.before.clear();
         'items: for at in 0..s.line.len() {
@@ -117,12 +117,12 @@ impl Scratch {
 
     /// The items that must stand before one of the set are put in.
     pub(crate) fn close(&mut self, s: &Standing)
-        requires size { length self.old.before ≡ length s.now.line.now.marks }
-        requires known { ItemsAreKnown (runs_of s.now.roster.now) (items_of s.now.line.now.marks) }
+        requires size { length self.old.before ≡ length s.now.line }
+        requires known { ItemsAreKnown s.now.runs (items_of s.now.line) }
         ensures { self.new ≡ record self.old {
           before =
-              closure (meet (runs_of s.now.roster.now)) self.old.before
-              (items_of s.now.line.now.marks);
+              closure (meet s.now.runs) self.old.before
+              (items_of s.now.line);
         } }
     {
         let mut gathered = Gathered::new();
@@ -138,17 +138,15 @@ impl Scratch {
     /// Plans the run `r` behind the items of the set, its first command from this moment on, in ms.
     /// These devices are followed, all where none are named.
     pub(crate) fn plan(&mut self, s: &Standing, r: RunNo, followed: Option<&DeviceSet>, moment: u64)
-        requires size { length self.old.slots ≡ length s.now.table.now }
-        requires flags { length self.old.before ≡ length s.now.line.now.marks }
-        requires run { IsTrue (is_run (runs_of s.now.roster.now) r.0) }
-        requires known { ItemsAreKnown (runs_of s.now.roster.now) (items_of s.now.line.now.marks) }
-        requires homed { RunsAreHomed (length s.now.table.now) (runs_of s.now.roster.now) }
-        requires followed { AreFollowed (runs_of s.now.roster.now) r.0
-            (option_map (λ b. b.now) followed) }
-        ensures times { HoldsTimes self.new.slots
-            (plan_behind (passed_set s.now.table.now s.now.book.now.items (runs_of s.now.roster.now)
-            r.0 (chosen self.old.before (items_of s.now.line.now.marks)) self.old.slots)
-            (commands_of (runs_of s.now.roster.now) r.0) moment) }
+        requires size { length self.old.slots ≡ length s.now.table }
+        requires flags { length self.old.before ≡ length s.now.line }
+        requires run { IsTrue (is_run s.now.runs r.0) }
+        requires known { ItemsAreKnown s.now.runs (items_of s.now.line) }
+        requires homed { RunsAreHomed (length s.now.table) s.now.runs }
+        requires followed { AreFollowed s.now.runs r.0 (option_map (λ b. b.now) followed) }
+        ensures times { HoldsTimes self.new.slots (plan_behind (passed_set s.now.table s.now.history
+            s.now.runs r.0 (chosen self.old.before (items_of s.now.line)) self.old.slots)
+            (commands_of s.now.runs r.0) moment) }
         ensures rest { self.new ≡ record self.old { slots = self.new.slots } }
         ensures size { length self.new.slots ≡ length self.old.slots }
     {
@@ -166,14 +164,14 @@ impl Scratch {
     /// The runs outside of the set that are planned to start on a device before the run `r`,
     /// planned so, is off it are put in. Answers whether there are some.
     pub(crate) fn take_misfits(&mut self, s: &Standing, r: RunNo) -> bool
-        requires size { length self.old.slots ≡ length s.now.table.now }
-        requires flags { length self.old.before ≡ length s.now.line.now.marks }
-        requires run { IsTrue (is_run (runs_of s.now.roster.now) r.0) }
+        requires size { length self.old.slots ≡ length s.now.table }
+        requires flags { length self.old.before ≡ length s.now.line }
+        requires run { IsTrue (is_run s.now.runs r.0) }
         ensures flags { self.new ≡ record self.old {
           before =
               either_of self.old.before (map
-              (of_run (is_misfit s.now.table.now (runs_of s.now.roster.now) r.0 self.old.slots))
-              (items_of s.now.line.now.marks));
+              (of_run (is_misfit s.now.table s.now.runs r.0 self.old.slots))
+              (items_of s.now.line));
         } }
         ensures none { result ≡ false → self.new.before ≡ self.old.before }
         ensures more { result ≡ true → count_by not self.new.before < count_by not self.old.before }

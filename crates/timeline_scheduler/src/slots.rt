@@ -1,7 +1,7 @@
 //! For each device, when it is free behind the items that stand before a run, and when the run is
 //! planned to use it.
 ghost use Rattle.std.specs.FinSet as set;
-ghost use Rattle.std.specs.Prelude.{◌&&◌, ◌≡◌, ◌-◌, ◌<◌, IfOk, IfSome, IsTrue, None, Some, true, ℕ, is_some, length, max, option_map};
+ghost use Rattle.std.specs.Prelude.{IfOk, IfSome, IsTrue, None, Some, is_some, length, max, option_map, true, ℕ, ◌&&◌, ◌-◌, ◌<◌, ◌≡◌};
 ghost use Rattle.command_rules.specs.Items.{of_run};
 ghost use Rattle.command_rules.specs.Rosters.{commands_of, is_run, runs_of};
 ghost use Rattle.history_book.specs.Books.{doom_of};
@@ -98,14 +98,12 @@ impl Slots {
 
     /// This item stands before the run `r`. These devices are followed, all where none are named.
     pub(crate) fn pass(&mut self, s: &Standing, r: RunNo, followed: Option<&DeviceSet>, item: Item)
-        requires size { length self.old ≡ length s.now.table.now }
-        requires run { IsTrue (is_run (runs_of s.now.roster.now) r.0) }
-        requires known { IsKnown (runs_of s.now.roster.now) item }
-        requires homed { RunsAreHomed (length s.now.table.now) (runs_of s.now.roster.now) }
-        requires followed { AreFollowed (runs_of s.now.roster.now) r.0
-            (option_map (λ b. b.now) followed) }
-        ensures { self.new ≡ passed_item s.now.table.now s.now.book.now.items
-            (runs_of s.now.roster.now) r.0 item self.old }
+        requires size { length self.old ≡ length s.now.table }
+        requires run { IsTrue (is_run s.now.runs r.0) }
+        requires known { IsKnown s.now.runs item }
+        requires homed { RunsAreHomed (length s.now.table) s.now.runs }
+        requires followed { AreFollowed s.now.runs r.0 (option_map (λ b. b.now) followed) }
+        ensures { self.new ≡ passed_item s.now.table s.now.history s.now.runs r.0 item self.old }
     {
         let Item::Ran(x) = item else {
             return;
@@ -126,13 +124,12 @@ impl Slots {
         followed: Option<&DeviceSet>,
         x: RunNo,
     ) -> u64
-        requires size { length self.old ≡ length s.now.table.now }
-        requires followed { AreFollowed (runs_of s.now.roster.now) r.0
-            (option_map (λ b. b.now) followed) }
+        requires size { length self.old ≡ length s.now.table }
+        requires followed { AreFollowed s.now.runs r.0 (option_map (λ b. b.now) followed) }
         ensures slots { self.new
-            ≡ changed (slot_passed s.now.table.now (is_some (doom_of s.now.book.now.items x.0)) x.0)
-            (devices_passed s.now.table.now (runs_of s.now.roster.now) r.0 x.0) self.old }
-        ensures whole { result ≡ whole_passed s.now.table.now (runs_of s.now.roster.now) r.0 x.0 }
+            ≡ changed (slot_passed s.now.table (is_some (doom_of s.now.history x.0)) x.0)
+            (devices_passed s.now.table s.now.runs r.0 x.0) self.old }
+        ensures whole { result ≡ whole_passed s.now.table s.now.runs r.0 x.0 }
     {
         s.table.kept();
         let doomed = s.book.is_doomed(x);
@@ -194,10 +191,9 @@ impl Slots {
     /// Whether the item is a run that is planned to start on a device of the run `r` before `r`,
     /// planned so, is off it.
     pub(crate) fn is_misfit(&mut self, s: &Standing, r: RunNo, item: Item) -> bool
-        requires size { length self.old ≡ length s.now.table.now }
-        requires run { IsTrue (is_run (runs_of s.now.roster.now) r.0) }
-        ensures misfit { result
-            ≡ of_run (is_misfit s.now.table.now (runs_of s.now.roster.now) r.0 self.old) item }
+        requires size { length self.old ≡ length s.now.table }
+        requires run { IsTrue (is_run s.now.runs r.0) }
+        ensures misfit { result ≡ of_run (is_misfit s.now.table s.now.runs r.0 self.old) item }
         ensures slots { self.new ≡ self.old }
     {
         match item {
@@ -208,10 +204,9 @@ impl Slots {
 
     /// Whether that is so of the run `x`.
     fn overlaps(&mut self, s: &Standing, r: RunNo, x: RunNo) -> bool
-        requires size { length self.old ≡ length s.now.table.now }
-        requires run { IsTrue (is_run (runs_of s.now.roster.now) r.0) }
-        ensures misfit { result
-            ≡ is_misfit s.now.table.now (runs_of s.now.roster.now) r.0 self.old x.0 }
+        requires size { length self.old ≡ length s.now.table }
+        requires run { IsTrue (is_run s.now.runs r.0) }
+        ensures misfit { result ≡ is_misfit s.now.table s.now.runs r.0 self.old x.0 }
         ensures slots { self.new ≡ self.old }
     {
         let shared = s.table.devices_among(x, s.roster.devices(r));

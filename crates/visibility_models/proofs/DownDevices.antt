@@ -1,18 +1,17 @@
 -- The device for which a strict model aborts a run is the one that the table, the line and the roster tell.
 use Rattle.command_rules.specs.Items.{is_ran}
-use Rattle.command_rules.specs.Rosters.{Run, touches}
-use Rattle.history_book.specs.declared.entries.Kept.{Kept}
+use Rattle.command_rules.specs.Rosters.{touches}
 use Rattle.home_types.specs.declared.items.Item.TheVariants.{Ran}
 use Rattle.home_types.specs.declared.modes.Visibility.TheVariants.{Eventual, Global, Partitioned, Weak}
 use Rattle.home_types.specs.declared.modes.Visibility.{Visibility}
 use Rattle.home_types.specs.declared.numbers.RunNo.{RunNo}
-use Rattle.lineage_table.specs.Lineages.{LineageState, lineage_at}
+use Rattle.lineage_table.specs.Lineages.{lineage_at}
 use Rattle.lock_leasing.specs.Configurations.{Configuration, point, read_of}
-use Rattle.lock_leasing.specs.Standings.{IsStandingOf}
+use Rattle.lock_leasing.specs.Standings.{IsStandingOf, WindowParts}
 use Rattle.lock_leasing.specs.Waits.{down_at_end}
 use Rattle.lock_leasing.specs.Words.{has_touched}
 use Rattle.serial_line.proofs.Cited.{touched_in_line}
-use Rattle.serial_line.specs.Marks.{Mark, stands}
+use Rattle.serial_line.specs.Marks.{stands}
 use Rattle.serial_line.specs.Marks.{mark_has_touched}
 use Rattle.std.proofs.Common.{ap, arith, refl, sym, ◌∙◌}
 use Rattle.std.proofs.lemmas.Grind.{common_steps}
@@ -35,23 +34,23 @@ find_filtered p q [] = refl
 find_filtered p q (x ∷ xs) = let rest = find_filtered p q xs in grind (arith, common_steps)
 
 -- the test by the parts is that by the configuration
-down_alike : (s : Configuration) (r : RunNo) (table : List LineageState) (line : List Mark) (history : List Kept) (runs : List Run) → IsStandingOf s table line history runs → stands (Ran r) line ≡ true
-    → (d : ℕ) → d < length s.setting.first → is_down_for table line runs r.0 d ≡ (touches s.setting.runs r.0 d && (has_touched (read_of s) s.grips r.0 d && not ((read_of s).up d)))
-down_alike s r table line history runs is there d within =
-    let up : (lineage_at table d).up ≡ (read_of s).up d = (is.its_table.each d within).up in
+down_alike : (s : Configuration) (r : RunNo) (parts : WindowParts) → IsStandingOf s parts → stands (Ran r) parts.line ≡ true
+    → (d : ℕ) → d < length s.setting.first → is_down_for parts.table parts.line parts.runs r.0 d ≡ (touches s.setting.runs r.0 d && (has_touched (read_of s) s.grips r.0 d && not ((read_of s).up d)))
+down_alike s r parts is there d within =
+    let up : (lineage_at parts.table d).up ≡ (read_of s).up d = (is.its_table.each d within).up in
     let among : list_any (is_ran r.0) (read_of s).line ≡ true = ap (list_any (is_ran r.0)) (sym is.its_line.items) ∙ there in
-    let touched : mark_has_touched r.0 d line ≡ has_touched (read_of s) s.grips r.0 d = touched_in_line r d is.its_line among in
-    let footprint : touches runs r.0 d ≡ touches s.setting.runs r.0 d = ap (λ rs. touches rs r.0 d) (sym is.its_roster) in
+    let touched : mark_has_touched r.0 d parts.line ≡ has_touched (read_of s) s.grips r.0 d = touched_in_line r d is.its_line among in
+    let footprint : touches parts.runs r.0 d ≡ touches s.setting.runs r.0 d = ap (λ rs. touches rs r.0 d) (sym is.its_roster) in
     rw (up, touched, footprint) (turned (not ((read_of s).up d)) (touches s.setting.runs r.0 d) (has_touched (read_of s) s.grips r.0 d))
   where
     turned : (a b c : Bool) → (a && b && c) ≡ (b && (c && a))
     turned a b c = grind (arith, common_steps)
 
-pub down_is : (model : Visibility) (s : Configuration) (r : RunNo) (table : List LineageState) (line : List Mark) (history : List Kept) (runs : List Run) → IsStandingOf s table line history runs → stands (Ran r) line ≡ true → is_strict_model model ≡ true
-    → first_down_for table line runs r.0 ≡ down_at_end (point (under model s.setting) (read_of s) s.grips) r.0
-down_is model s r table line history runs is there strict =
-    ap (λ n. find (is_down_for table line runs r.0) (range_with_len 0 n)) is.its_table.devices
-    ∙ find_agree (is_down_for table line runs r.0) (λ d. touches s.setting.runs r.0 d && test d) 0 (length s.setting.first) (λ d within. down_alike s r table line history runs is there d (omega (arith, within)))
+pub down_is : (model : Visibility) (s : Configuration) (r : RunNo) (parts : WindowParts) → IsStandingOf s parts → stands (Ran r) parts.line ≡ true → is_strict_model model ≡ true
+    → first_down_for parts.table parts.line parts.runs r.0 ≡ down_at_end (point (under model s.setting) (read_of s) s.grips) r.0
+down_is model s r parts is there strict =
+    ap (λ n. find (is_down_for parts.table parts.line parts.runs r.0) (range_with_len 0 n)) is.its_table.devices
+    ∙ find_agree (is_down_for parts.table parts.line parts.runs r.0) (λ d. touches s.setting.runs r.0 d && test d) 0 (length s.setting.first) (λ d within. down_alike s r parts is there d (omega (arith, within)))
     ∙ find_filtered test (touches s.setting.runs r.0) (range_with_len 0 (length s.setting.first))
     ∙ by_model model strict
   where

@@ -1,6 +1,5 @@
 -- No run is waited for that stands before the first one which has not ended.
 use Rattle.command_rules.specs.Items.{of_run}
-use Rattle.command_rules.specs.Rosters.{Run}
 use Rattle.history_book.proofs.Cited.{end_is}
 use Rattle.history_book.specs.Books.{end_of}
 use Rattle.history_book.specs.Readings.{OfRun, Reading}
@@ -10,9 +9,8 @@ use Rattle.home_types.specs.declared.items.Item.TheVariants.{Back, Failed, Ran}
 use Rattle.home_types.specs.declared.items.Item.{Item}
 use Rattle.home_types.specs.declared.modes.Visibility.{Visibility}
 use Rattle.home_types.specs.declared.numbers.RunNo.{RunNo}
-use Rattle.lineage_table.specs.Lineages.{LineageState}
 use Rattle.lock_leasing.specs.Configurations.{read_of}
-use Rattle.lock_leasing.specs.Standings.{has_ended}
+use Rattle.lock_leasing.specs.Standings.{WindowParts, has_ended}
 use Rattle.serial_line.specs.Marks.{Mark, front_of, is_open_run, items_of}
 use Rattle.serial_line.specs.Ties.{Each, EndsAs}
 use Rattle.std.proofs.Common.{ap, arith, refl, sym, ◌∙◌}
@@ -59,11 +57,11 @@ from_front test n history r (m ∷ marks) told lives all = by_cases (is_open_run
         pass e ∙ rest ∙ ap (λ k. first_unended_before test history r (drop k (m.item ∷ items_of marks))) (sym next)
 
 -- where a strict model may be asked about the run, the search for the one that it waits for may begin there
-pub waits_from_front : (test : ℕ → Bool) (model : Visibility) (table : List LineageState) (line : List Mark) (history : List Kept) (runs : List Run) (r : ℕ) → MayAskOfModel model table line history runs r → is_strict_model model ≡ true
-    → first_unended_before test history r (items_of line) ≡ first_unended_before test history r (drop (front_of line) (items_of line))
-waits_from_front test model table line history runs r (InOrder s is turn) strict =
-    from_front test (read_of s) history r line (λ x. ap (λ h. end_of h x) (sym is.its_history) ∙ end_is s.setting s.history x is.well_formed) (unended ((read_of s).run r) turn.live) is.its_line.ends
+pub waits_from_front : (test : ℕ → Bool) (model : Visibility) (parts : WindowParts) (r : ℕ) → MayAskOfModel model parts r → is_strict_model model ≡ true
+    → first_unended_before test parts.history r (items_of parts.line) ≡ first_unended_before test parts.history r (drop (front_of parts.line) (items_of parts.line))
+waits_from_front test model parts r (InOrder s is turn) strict =
+    from_front test (read_of s) parts.history r parts.line (λ x. ap (λ h. end_of h x) (sym is.its_history) ∙ end_is s.setting s.history x is.well_formed) (unended ((read_of s).run r) turn.live) is.its_line.ends
   where
     unended : (o : OfRun) → (is_some o.placed && is_none o.ended) ≡ true → is_some o.ended ≡ false
     unended o live = grind (arith, common_steps)
-waits_from_front test model table line history runs r (Weakly s is turn weak) strict = absurd (cc (sym strict ∙ ap is_strict_model weak))
+waits_from_front test model parts r (Weakly s is turn weak) strict = absurd (cc (sym strict ∙ ap is_strict_model weak))

@@ -6,14 +6,12 @@ use Rattle.history_book.specs.Books.{end_of}
 use Rattle.history_book.specs.Histories.{entries_of}
 use Rattle.history_book.specs.Readings.{OfRun, Reading, is_live}
 use Rattle.history_book.specs.declared.entries.End.{End}
-use Rattle.history_book.specs.declared.entries.Kept.{Kept}
 use Rattle.home_types.specs.declared.items.Item.TheVariants.{Back, Failed, Ran}
 use Rattle.home_types.specs.declared.items.Item.{Item}
 use Rattle.home_types.specs.declared.modes.Visibility.{Visibility}
 use Rattle.home_types.specs.declared.numbers.RunNo.{RunNo}
-use Rattle.lineage_table.specs.Lineages.{LineageState}
 use Rattle.lock_leasing.specs.Configurations.{Configuration, read_of}
-use Rattle.lock_leasing.specs.Standings.{IsStandingOf}
+use Rattle.lock_leasing.specs.Standings.{IsStandingOf, WindowParts}
 use Rattle.serial_line.specs.Marks.{Mark, items_of, stands}
 use Rattle.std.proofs.Common.{ap, arith, refl, subst, sym, ◌∙◌}
 use Rattle.std.proofs.lemmas.Bool.{both_ways}
@@ -28,11 +26,11 @@ placed_in_line : (n : Reading) (x : ℕ) → Standing n → list_any (is_ran x) 
 placed_in_line n x s among = let stood : stands_in (n.run x) ≡ true = sym (s.line x) ∙ among in grind (arith, common_steps)
 
 -- .. and is live where the history tells no end of it
-pub live_in_line : (s : Configuration) (x : ℕ) (table : List LineageState) (line : List Mark) (history : List Kept) (runs : List Run) → IsStandingOf s table line history runs
-    → list_any (is_ran x) (read_of s).line ≡ true → is_live (read_of s) x ≡ is_none (end_of history x)
-live_in_line s x table line history runs is among =
+pub live_in_line : (s : Configuration) (x : ℕ) (parts : WindowParts) → IsStandingOf s parts
+    → list_any (is_ran x) (read_of s).line ≡ true → is_live (read_of s) x ≡ is_none (end_of parts.history x)
+live_in_line s x parts is among =
     let placed = placed_in_line (read_of s) x (standing s.setting (entries_of s.history) is.well_formed) among in
-    let told : end_of history x ≡ ((read_of s).run x).ended = ap (λ h. end_of h x) (sym is.its_history) ∙ end_is s.setting s.history x is.well_formed in
+    let told : end_of parts.history x ≡ ((read_of s).run x).ended = ap (λ h. end_of h x) (sym is.its_history) ∙ end_is s.setting s.history x is.well_formed in
     rw placed (ap is_none (sym told))
 
 among_at : (items : List Item) (at : ℕ) (x : RunNo) → slice_get items at ≡ Some (Ran x) → list_any (is_ran x.0) items ≡ true
@@ -41,17 +39,17 @@ among_at (i ∷ items) zero x e = let here : i ≡ Ran x = cc in subst (λ j. (i
 among_at (i ∷ items) (suc at) x e = let rest = among_at items at x e in rw rest (grind (arith, common_steps))
 
 -- each run of the line is one of the window
-pub runs_of_line : (s : Configuration) (table : List LineageState) (line : List Mark) (history : List Kept) (runs : List Run) → IsStandingOf s table line history runs → AreRunsOf runs (items_of line)
-runs_of_line s table line history runs is = λ at i there. each at i there
+pub runs_of_line : (s : Configuration) (parts : WindowParts) → IsStandingOf s parts → AreRunsOf parts.runs (items_of parts.line)
+runs_of_line s parts is = λ at i there. each at i there
   where
-    run_of_line : (x : RunNo) → list_any (is_ran x.0) (items_of line) ≡ true → IsTrue (is_run runs x.0)
+    run_of_line : (x : RunNo) → list_any (is_ran x.0) (items_of parts.line) ≡ true → IsTrue (is_run parts.runs x.0)
     run_of_line x among =
         let shaped : Shaped s.setting (read_of s) = shapes s.setting (entries_of s.history) is.well_formed in
         let placed = placed_in_line (read_of s) x.0 (standing s.setting (entries_of s.history) is.well_formed) (ap (list_any (is_ran x.0)) (sym is.its_line.items) ∙ among) in
         subst (λ rs. IsTrue (is_run rs x.0)) is.its_roster ((shaped x.0).known ((shaped x.0).arrived placed))
 
-    each : (at : ℕ) (i : Item) → slice_get (items_of line) at ≡ Some i → IsRunOf runs i
-    each at (Ran x) there = run_of_line x (among_at (items_of line) at x there)
+    each : (at : ℕ) (i : Item) → slice_get (items_of parts.line) at ≡ Some i → IsRunOf parts.runs i
+    each at (Ran x) there = run_of_line x (among_at (items_of parts.line) at x there)
     each at (Failed d k) there = tt
     each at (Back d k) there = tt
 
@@ -61,8 +59,8 @@ pub record IsOnItsWay (line : List Mark) (runs : List Run) (r : RunNo) : Type 0 
   pub placed : stands (Ran r) line ≡ true
   pub others : AreRunsOf runs (items_of line)
 
-in_order : (s : Configuration) (table : List LineageState) (line : List Mark) (history : List Kept) (runs : List Run) (r : RunNo) → IsStandingOf s table line history runs → IsUnderWay (read_of s) r.0 → IsOnItsWay line runs r
-in_order s table line history runs r is turn =
+in_order : (s : Configuration) (parts : WindowParts) (r : RunNo) → IsStandingOf s parts → IsUnderWay (read_of s) r.0 → IsOnItsWay parts.line parts.runs r
+in_order s parts r is turn =
     let n : Reading = read_of s in
     let shaped : Shaped s.setting n = shapes s.setting (entries_of s.history) is.well_formed in
     let placed : is_some (n.run r.0).placed ≡ true = grind (arith, common_steps, turn.live) in
@@ -70,7 +68,7 @@ in_order s table line history runs r is turn =
     record {
       run = subst (λ rs. IsTrue (is_run rs r.0)) is.its_roster ((shaped r.0).known ((shaped r.0).arrived placed));
       placed = ap (list_any (is_ran r.0)) is.its_line.items ∙ among;
-      others = runs_of_line s table line history runs is;
+      others = runs_of_line s parts is;
     }
   where
     live_stands : (o : OfRun) → (is_some o.placed && is_none o.ended) ≡ true → stands_in o ≡ true
@@ -81,6 +79,6 @@ in_order s table line history runs r is turn =
         at (Some e) live = absurd (grind (arith, common_steps))
 
 -- where a strict model may be asked about the run
-pub on_its_way : (model : Visibility) (table : List LineageState) (line : List Mark) (history : List Kept) (runs : List Run) (r : RunNo) → MayAskOfModel model table line history runs r.0 → is_strict_model model ≡ true → IsOnItsWay line runs r
-on_its_way model table line history runs r (InOrder s is turn) strict = in_order s table line history runs r is turn
-on_its_way model table line history runs r (Weakly s is turn weak) strict = absurd (both_ways (is_strict_model model) (ap is_strict_model weak) strict)
+pub on_its_way : (model : Visibility) (parts : WindowParts) (r : RunNo) → MayAskOfModel model parts r.0 → is_strict_model model ≡ true → IsOnItsWay parts.line parts.runs r
+on_its_way model parts r (InOrder s is turn) strict = in_order s parts r is turn
+on_its_way model parts r (Weakly s is turn weak) strict = absurd (both_ways (is_strict_model model) (ap is_strict_model weak) strict)

@@ -1,6 +1,6 @@
 -- The run for which a model lets a run wait is the one that the line, the ends and the roster tell.
 use Rattle.command_rules.specs.Items.{is_ran}
-use Rattle.command_rules.specs.Rosters.{Run, run_no}
+use Rattle.command_rules.specs.Rosters.{run_no}
 use Rattle.history_book.specs.Books.{end_of}
 use Rattle.history_book.specs.Lines.{before}
 use Rattle.history_book.specs.Readings.{Reading, is_live}
@@ -9,12 +9,11 @@ use Rattle.home_types.specs.declared.items.Item.TheVariants.{Back, Failed, Ran}
 use Rattle.home_types.specs.declared.items.Item.{Item}
 use Rattle.home_types.specs.declared.modes.Visibility.TheVariants.{Eventual, Global, Partitioned, Weak}
 use Rattle.home_types.specs.declared.modes.Visibility.{Visibility}
-use Rattle.lineage_table.specs.Lineages.{LineageState}
 use Rattle.lock_leasing.specs.Configurations.{Configuration, read_of}
-use Rattle.lock_leasing.specs.Standings.{IsStandingOf}
+use Rattle.lock_leasing.specs.Standings.{IsStandingOf, WindowParts}
 use Rattle.lock_leasing.specs.Waits.{model_bars, strict_wait}
 use Rattle.lock_leasing.specs.Words.{live_runs}
-use Rattle.serial_line.specs.Marks.{Mark, items_of}
+use Rattle.serial_line.specs.Marks.{items_of}
 use Rattle.std.proofs.Common.{ap, arith, refl, sym, ◌∙◌}
 use Rattle.std.proofs.lemmas.Grind.{common_steps}
 use Rattle.std.proofs.lemmas.List.Sums.{take_while-cons}
@@ -41,11 +40,11 @@ found_before test n history r (Ran x ∷ items) live =
     at true rest here = refl
     at false rest here = grind (arith, common_steps)
 
-pub wait_is : (model : Visibility) (s : Configuration) (r : ℕ) (table : List LineageState) (line : List Mark) (history : List Kept) (runs : List Run) → IsStandingOf s table line history runs
-    → first_unended_before (model_bars model runs r) history r (items_of line) ≡ option_map run_no (strict_wait (under model s.setting) (read_of s) r)
-wait_is model s r table line history runs is =
-    ap (first_unended_before (model_bars model runs r) history r) is.its_line.items
-    ∙ found_before (model_bars model runs r) (read_of s) history r (read_of s).line (λ x among. live_in_line s x table line history runs is among)
+pub wait_is : (model : Visibility) (s : Configuration) (r : ℕ) (parts : WindowParts) → IsStandingOf s parts
+    → first_unended_before (model_bars model parts.runs r) parts.history r (items_of parts.line) ≡ option_map run_no (strict_wait (under model s.setting) (read_of s) r)
+wait_is model s r parts is =
+    ap (first_unended_before (model_bars model parts.runs r) parts.history r) is.its_line.items
+    ∙ found_before (model_bars model parts.runs r) (read_of s) parts.history r (read_of s).line (λ x among. live_in_line s x parts is among)
     ∙ ap (λ rs. option_map run_no (find (model_bars model rs r) (live_runs (read_of s) (before r (read_of s).line)))) (sym is.its_roster)
     ∙ by_model model
   where

@@ -20,10 +20,8 @@ use lock_leasing::Standing;
 /// no memory, and reads of the history no more than the ends of runs.
 #[inline(always)]
 pub fn may_go(model: Visibility, s: &Standing, r: RunNo) -> Option<RunNo>
-    requires { MayAskOfModel model s.now.table.now s.now.line.now.marks s.now.book.now.items
-        (runs_of s.now.roster.now) r.0 }
-    ensures wait { IsStrictWaitOf model s.now.table.now s.now.line.now.marks s.now.book.now.items
-        (runs_of s.now.roster.now) r.0 result }
+    requires { MayAskOfModel model s.now r.0 }
+    ensures wait { IsStrictWaitOf model s.now r.0 result }
     ensures weak { model ≡ Visibility.Weak → result ≡ None }
 {
     if is_strict(model) {
@@ -37,14 +35,13 @@ pub fn may_go(model: Visibility, s: &Standing, r: RunNo) -> Option<RunNo>
 /// The search begins at the first run of the line that has not ended: before it there is none.
 #[tactic(auto, using(crate::proofs::Found::left_at))]
 fn find_unended(model: Visibility, s: &Standing, r: RunNo) -> Option<RunNo>
-    requires run { IsTrue (is_run (runs_of s.now.roster.now) r.0) }
-    requires known { AreRunsOf (runs_of s.now.roster.now) (items_of s.now.line.now.marks) }
-    requires past { first_unended_before (model_bars model (runs_of s.now.roster.now) r.0)
-        s.now.book.now.items r.0 (items_of s.now.line.now.marks) ≡ first_unended_before
-        (model_bars model (runs_of s.now.roster.now) r.0) s.now.book.now.items r.0
-        (drop (front_of s.now.line.now.marks) (items_of s.now.line.now.marks)) }
-    ensures { result ≡ first_unended_before (model_bars model (runs_of s.now.roster.now) r.0)
-        s.now.book.now.items r.0 (items_of s.now.line.now.marks) }
+    requires run { IsTrue (is_run s.now.runs r.0) }
+    requires known { AreRunsOf s.now.runs (items_of s.now.line) }
+    requires past { first_unended_before (model_bars model s.now.runs r.0) s.now.history r.0
+        (items_of s.now.line) ≡ first_unended_before (model_bars model s.now.runs r.0) s.now.history
+        r.0 (drop (front_of s.now.line) (items_of s.now.line)) }
+    ensures { result ≡ first_unended_before (model_bars model s.now.runs r.0) s.now.history r.0
+        (items_of s.now.line) }
 {
     'items: for at in s.line.front()..s.line.len() {
         let item = s.line.get(at).unwrap();
@@ -70,10 +67,9 @@ fn is_ran(r: RunNo, item: Item) -> bool
 
 /// The item's run, where it has not ended and the model lets `r` wait for it.
 fn unended_run(model: Visibility, s: &Standing, r: RunNo, item: Item) -> Option<RunNo>
-    requires run { IsTrue (is_run (runs_of s.now.roster.now) r.0) }
-    requires known { IsRunOf (runs_of s.now.roster.now) item }
-    ensures { result
-        ≡ unended_run (model_bars model (runs_of s.now.roster.now) r.0) s.now.book.now.items item }
+    requires run { IsTrue (is_run s.now.runs r.0) }
+    requires known { IsRunOf s.now.runs item }
+    ensures { result ≡ unended_run (model_bars model s.now.runs r.0) s.now.history item }
 {
     match item {
         Item::Ran(x) if s.book.end_of(x).is_none() && bars(model, s.roster, r, x) => Some(x),

@@ -1,5 +1,5 @@
--- The lemmas of this crate that proofs of other crates cite, and words of theirs, by the file in
--- which they stand. No other file of proofs/ can be named there.
+-- What proofs of other crates cite of this one: lemmas, and the words in which these are said, by
+-- the file in which they stand. Every other file of proofs/ is private.
 
 -- What the reading of a well-formed history says of each run and of the line, together.
 pub use Rattle.window_order.proofs.ReadFacts.{IsRead, read_facts, rest_drop}
@@ -20,11 +20,11 @@ pub use Rattle.window_order.proofs.CleanValues.{ReadIsOut, finds_clean, none_dir
 pub use Rattle.window_order.proofs.Grips.{HoldsNone, fits_other, fits_same, fits_with, fits_without, held_none, holds_none, may_command, none_left}
 -- What the reading says of the runs of the line.
 pub use Rattle.window_order.proofs.Runs.{both, cut_live, live_run, live_uncommitted, run_positive, three}
--- A run's first answer on a device is the newest there, and so it keeps the order of the history.
+-- A device of the window has a first state.
 pub use Rattle.window_order.proofs.Firsts.{below_home}
--- A run that waits for nothing may have the grip of its next command's device.
+-- Behind a run that is open on a device no run has an answer there.
 pub use Rattle.window_order.proofs.Goes.{open_behind}
--- Where the event of a device stands in the line, and what that means for the runs around it.
+-- That a run is open on a device and has done nothing there.
 pub use Rattle.window_order.proofs.EventPlaces.{awaits_there}
 -- Each kind of change keeps the order of a window.
 pub use Rattle.window_order.proofs.Steps.{IsOut, arrives_kept, commits_kept, found_kept, goes_kept, home_fits, next_is, out_is, starts_kept, wrote_kept}
@@ -83,5 +83,5 @@ pub use Rattle.window_order.proofs.Joined.{joined_order, joined_table, same_part
 pub use Rattle.window_order.proofs.SkippedCommands.{IsSkipped, marks_skipped, skipped_holds, skipped_kept}
 -- The lineage table is kept where a command is skipped by its guard.
 pub use Rattle.window_order.proofs.SkippedTables.{skipped_status, skipped_table}
--- How the calls of a lineage table that note an answer are one change.
+-- A table in which the lineage of one device is changed: how long it is, and that lineage.
 pub use Rattle.window_order.proofs.NotedAnswers.{length_set, lineage_set}

@@ -52,5 +52,4 @@ mod PassedRuns
 mod WaitingAgain
 mod Scheduling
 mod KeptFronts
-mod TakenItems
 pub mod Cited

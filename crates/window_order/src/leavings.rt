@@ -9,7 +9,7 @@ use lineage_table::Table;
 use serial_line::Line;
 
 /// The items of the line, in a list that has room for them.
-pub fn items_in(empty: List<Item>, line: &Line) -> List<Item>
+pub fn line_items(empty: List<Item>, line: &Line) -> List<Item>
     requires room { IsEmptyFor empty (length line.now.marks) }
     ensures { result.items ≡ items_of line.now.marks }
 {

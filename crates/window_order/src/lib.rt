@@ -9,4 +9,4 @@ mod releases;
 mod reschedules;
 
 pub use kept_orders::{KeptOrder, Noted, note_of, seal};
-pub use leavings::{items_in, stands_in};
+pub use leavings::{line_items, stands_in};

@@ -40,7 +40,7 @@ use Rattle.hub_core.specs.KeptOrders.{HasFallen, MayTurn, OrderIsBeside}
 use Rattle.window_order.specs.KeptOrders.{MayNote, is_first, noted_first}
 use Rattle.hub_core.specs.OpenHubs.{configuration_of, held_in}
 use Rattle.window_order.specs.declared.kept_orders.KeptOrder.{KeptOrder}
-use Rattle.hub_core.specs.declared.known.Events.{Events}
+use Rattle.window_devices.specs.declared.known.Events.{Events}
 use Rattle.hub_core.specs.declared.open_windows.OpenWindow.TheInside.{Inside}
 use Rattle.lineage_table.specs.Lineages.{LineageState, counted_up, lineage_at, with_lineage}
 use Rattle.lock_leasing.specs.Configurations.{Grips, grips_command, point}

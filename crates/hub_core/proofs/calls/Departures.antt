@@ -16,8 +16,8 @@ use Rattle.history_book.specs.Readings.{put}
 use Rattle.history_book.specs.Settings.{Setting}
 use Rattle.history_book.specs.declared.entries.Kept.{Kept}
 use Rattle.hub_core.proofs.calls.HubChanges.{few_entries, task_same}
-use Rattle.hub_core.proofs.kept.SetPlaces.{get_set}
-use Rattle.hub_core.proofs.calls.HubStates.{carried_set, device_here, device_there, grips_set, known_same, known_set}
+use Rattle.window_devices.proofs.Cited.{device_here, device_there, get_set, grips_set, known_same, known_set}
+use Rattle.hub_core.proofs.calls.HubStates.{carried_set}
 use Rattle.legal_days.specs.AccountedCalls.{tells_call, told_calls, told_falls}
 use Rattle.hub_core.specs.Homes.{CountsAreLow}
 use Rattle.home_types.specs.Kinds.{has_value, kind_at}
@@ -25,15 +25,16 @@ use Rattle.hub_core.specs.HubKept.{probes_of}
 use Rattle.hub_core.specs.KeptByModel.{IsKeptByModel}
 use Rattle.hub_core.specs.HubCalls.{IsNextGrip, SameWindow}
 use Rattle.hub_core.specs.HubSteps.{carrying, task_of}
-use Rattle.hub_core.specs.Away.{IsSent}
-use Rattle.hub_core.specs.HubsKept.{FitsAtHome, FitsOut, HandsAre, HubIsKept, IsWhole, all_probes_taken, is_away, open_of}
+use Rattle.window_devices.specs.Away.{HandsAre, IsSent}
+use Rattle.hub_core.specs.HubsKept.{FitsAtHome, FitsOut, HubIsKept, IsWhole, all_probes_taken, is_away, open_of}
 use Rattle.hub_core.specs.KeptOrders.{OrderIsBeside}
 use Rattle.hub_core.specs.declared.open_windows.OpenWindow.TheInside.{Inside}
 use Rattle.home_types.specs.declared.numbers.DeviceNo.{DeviceNo}
 use Rattle.command_rules.specs.Rosters.{device_no}
-use Rattle.hub_core.specs.OpenHubs.{OpenHub, configuration_of, grip_in, held_in, hub_state_of, no_device, progress_at}
+use Rattle.hub_core.specs.OpenHubs.{OpenHub, configuration_of, held_in, hub_state_of}
+use Rattle.window_devices.specs.KnownDevices.{grip_in, no_device, progress_at}
 use Rattle.lock_leasing.specs.declared.purposes.Purpose.{Purpose}
-use Rattle.hub_core.specs.declared.known.DeviceProgress.{DeviceProgress}
+use Rattle.window_devices.specs.declared.known.DeviceProgress.{DeviceProgress}
 use Rattle.lock_leasing.specs.Configurations.{Configuration, Grip, Grips, is_out, read_of}
 use Rattle.std.proofs.Common.{ap, ap₂, arith, cond, inl, inr, refl, subst, sym, ◌∙◌}
 use Rattle.std.proofs.lemmas.List.{length-set}

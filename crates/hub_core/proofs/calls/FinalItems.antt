@@ -43,12 +43,11 @@ use Rattle.lock_leasing.specs.declared.purposes.Purpose.TheVariants.{Commands, P
 use Rattle.lock_leasing.specs.declared.purposes.Purpose.{Purpose}
 use Rattle.lock_leasing.specs.Places.{IsScheduled}
 use Rattle.lock_leasing.specs.Waits.{lost_by}
-use Rattle.serial_line.specs.Marks.{Mark, items_of}
+use Rattle.serial_line.specs.Marks.{items_of}
 use Rattle.std.proofs.Common.{ap, arith, refl, subst, sym, ◌∙◌}
 use Rattle.std.proofs.lemmas.Grind.{common_steps}
 use Rattle.std.specs.List.{list_any}
-use Rattle.std.proofs.lemmas.List.{length-map}
-use Rattle.std.specs.Prelude.{Bool, Err, List, None, Ok, Option, Result, Some, [], false, if◌then◌else◌, length, max, not, option_map, option_to_list, slice_get, suc, take, true, zero, ℕ, ◌&&◌, ◌++◌, ◌-◌, ◌<◌, ◌||◌, ◌∷◌, ◌≡◌, ◌≤◌}
+use Rattle.std.specs.Prelude.{Bool, Err, List, None, Ok, Option, Result, Some, [], false, if◌then◌else◌, max, not, option_map, option_to_list, slice_get, suc, take, true, zero, ℕ, ◌&&◌, ◌++◌, ◌-◌, ◌<◌, ◌||◌, ◌∷◌, ◌≡◌, ◌≤◌}
 
 -- The entries of a step place no run but behind what is sealed
 
@@ -295,10 +294,6 @@ module _ {D : Type 0} {shows : D → Shown} (h : Inside D) (s : OpenHub D) (seen
 
   items_here : items_of h.order.line.marks ≡ line_of s.setting (entries_of s.history)
   items_here = k.order.line_is.items ∙ ap (λ (t : OpenHub D). line_of t.setting (entries_of t.history)) seen
-
-  -- the line has as many items as the window's
-  pub long_here : length h.order.line.marks ≡ length (line_of s.setting (entries_of s.history))
-  long_here = sym (length-map h.order.line.marks (λ (x : Mark). x.item)) ∙ ap length items_here
 
   pub final_told : (at : ℕ) → at < h.order.line.sealed → slice_get (items_of h.order.line.marks) at ≡ slice_get final at
   final_told at below =

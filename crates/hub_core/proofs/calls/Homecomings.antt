@@ -19,28 +19,28 @@ use Rattle.history_book.specs.declared.entries.Entry.{Entry}
 use Rattle.home_types.specs.Kinds.{has_value, kind_at}
 use Rattle.hub_core.proofs.calls.Departures.{one_for, other_home, other_out, taken_same}
 use Rattle.hub_core.proofs.calls.HubChanges.{events_same, length_with}
-use Rattle.hub_core.proofs.calls.HubStates.{carried_set, device_here, device_there, grips_set, kept_is, known_same, known_set}
+use Rattle.hub_core.proofs.calls.HubStates.{carried_set, kept_is}
+use Rattle.window_devices.proofs.Cited.{device_here, device_there, get_set, grips_set, hands_come, known_same, known_set}
 use Rattle.hub_core.proofs.calls.OutFor.{IsFor, brings_back, entries_for, out_for, some_entry, value_same}
-use Rattle.hub_core.proofs.kept.Hands.{hands_come}
 use Rattle.hub_core.proofs.kept.KeptByModel.{given_kept}
-use Rattle.hub_core.proofs.kept.SetPlaces.{get_set}
 use Rattle.hub_core.proofs.kept.Sizes.{few_events, history_fits}
 use Rattle.hub_core.proofs.steps.Calls.{calls_told, falls_of, give_calls, give_counted, give_down, give_falls, give_registers, give_rises, is_up_for, rises_of}
-use Rattle.hub_core.specs.Away.{IsHomeAgain, MayComeHome, events_after, known_after, turned, with_hand}
+use Rattle.window_devices.specs.Away.{HandsAre, IsHomeAgain, MayComeHome, with_hand}
+use Rattle.window_devices.specs.KnownDevices.{events_after, grip_in, known_after, progress_at, turned}
 use Rattle.hub_core.specs.Bounds.{most_entries}
 use Rattle.hub_core.specs.Homes.{CountsAreLow}
 use Rattle.hub_core.specs.HubCalls.{IsGiven, IsProbeGiven, SameWindow, carried_by}
 use Rattle.hub_core.specs.HubKept.{is_of_run}
 use Rattle.hub_core.specs.HubSteps.{Carried, Gave, HubState, Returned, RunGiven, give, give_if, give_probe, task_of}
-use Rattle.hub_core.specs.HubsKept.{FitsAtHome, HandsAre, HasRoomLeft, HubIsKept, IsWhole, all_probes_taken, is_away, open_of}
+use Rattle.hub_core.specs.HubsKept.{FitsAtHome, HasRoomLeft, HubIsKept, IsWhole, all_probes_taken, is_away, open_of}
 use Rattle.hub_core.specs.KeptByModel.{IsKeptByModel}
 use Rattle.hub_core.specs.KeptOrders.{OrderIsBeside}
-use Rattle.hub_core.specs.OpenHubs.{OpenHub, configuration_of, events_in, grip_in, held_in, hub_state_of, progress_at}
+use Rattle.hub_core.specs.OpenHubs.{OpenHub, configuration_of, events_in, held_in, hub_state_of}
 use Rattle.lock_leasing.specs.declared.purposes.Purpose.TheVariants.{Commands, Probes, Undoes}
 use Rattle.lock_leasing.specs.declared.purposes.Purpose.{Purpose}
 use Rattle.hub_core.specs.Steps.{after_give, at_moment, give_entries, with_entries, with_grip}
-use Rattle.hub_core.specs.declared.known.DeviceProgress.{DeviceProgress}
-use Rattle.hub_core.specs.declared.known.Events.{Events}
+use Rattle.window_devices.specs.declared.known.DeviceProgress.{DeviceProgress}
+use Rattle.window_devices.specs.declared.known.Events.{Events}
 use Rattle.hub_core.specs.declared.open_windows.OpenWindow.TheInside.{Inside}
 use Rattle.legal_days.proofs.Cited.{count_cons}
 use Rattle.legal_days.specs.AccountedCalls.{told_calls, told_falls}

@@ -8,7 +8,7 @@ use Rattle.home_types.specs.Kinds.{kind_at}
 use Rattle.hub_core.proofs.steps.Choices.{Commanding, IsNext, Skipping, known_by}
 use Rattle.abort_rollback.specs.declared.undos.Undo.TheVariants.{Drive, Drop, Finished}
 use Rattle.abort_rollback.specs.declared.undos.Undo.{Undo}
-use Rattle.command_rules.specs.Rosters.{Run, command_at, commands_of, device_no, is_run, run_no}
+use Rattle.command_rules.specs.Rosters.{command_at, commands_of, device_no, is_run, run_no}
 use Rattle.device_gate.specs.Places.{slip_of}
 use Rattle.device_gate.specs.declared.gates.Place.TheVariants.{Home, Out}
 use Rattle.device_gate.specs.declared.gates.Place.{Place}
@@ -20,38 +20,36 @@ use Rattle.history_book.specs.declared.entries.Cause.TheVariants.{DownAtEnd, Mus
 use Rattle.history_book.specs.declared.entries.Cause.{Cause}
 use Rattle.history_book.specs.declared.entries.End.TheVariants.{Committed}
 use Rattle.history_book.specs.declared.entries.Entry.TheVariants.{Did, Doomed, Ended, Undid}
-use Rattle.history_book.specs.declared.entries.Kept.{Kept}
 use Rattle.home_types.specs.declared.commands.Answer.TheVariants.{Down}
 use Rattle.home_types.specs.declared.commands.Command.{Command}
 use Rattle.home_types.specs.declared.modes.Visibility.{Visibility}
 use Rattle.home_types.specs.declared.numbers.DeviceNo.{DeviceNo}
 use Rattle.home_types.specs.declared.numbers.RunNo.{RunNo}
 use Rattle.hub_core.proofs.calls.NextUndos.{undo_of}
-use Rattle.hub_core.proofs.kept.Finds.{not_none}
+use Rattle.window_devices.proofs.Cited.{not_none}
 use Rattle.hub_core.proofs.windows.StrongChoices.{command_current, command_is, doomed_is, skip_is}
 use Rattle.hub_core.specs.Decisions.{current_command, skipped_command, strong_command, strong_doomed, unbarred_command}
 use Rattle.hub_core.specs.KeptByModel.{IsKeptByModel}
 use Rattle.hub_core.specs.HubsKept.{HubIsKept}
 use Rattle.history_book.specs.Progress.{progress_of}
-use Rattle.hub_core.specs.OpenHubs.{OpenHub, configuration_of, grip_in}
+use Rattle.hub_core.specs.OpenHubs.{OpenHub, configuration_of}
+use Rattle.window_devices.specs.KnownDevices.{grip_in}
 use Rattle.hub_core.specs.Steps.{Absent, Choice, HandsOut, Moves, Over, Waits, aborts, answers_down, choice_of, decide, decide_answered, decide_command, decide_doomed, down_entries, first_case, skip_entries}
 use Rattle.history_book.specs.declared.progress.RunProgress.{RunProgress}
 use Rattle.lock_leasing.specs.declared.purposes.Purpose.TheVariants.{Commands, Undoes}
 use Rattle.lock_leasing.specs.declared.purposes.Purpose.{Purpose}
 use Rattle.hub_core.specs.declared.waits.Why.TheVariants.{Behind, Busy, Dirty, Strict}
-use Rattle.lineage_table.specs.Lineages.{LineageState}
 use Rattle.lock_leasing.specs.Configurations.{Configuration, Grips, Point, is_out, point, point_of, read_of}
 use Rattle.lock_leasing.specs.Leases.{overdue_lease}
-use Rattle.lock_leasing.specs.Standings.{IsAtCommand, IsStandingOf}
+use Rattle.lock_leasing.specs.Standings.{IsAtCommand, IsStandingOf, WindowParts}
 use Rattle.lock_leasing.specs.Touches.{IsTouchOf, touch_of}
 use Rattle.lock_leasing.specs.Waits.{behind_wait, busy_wait, dirty_wait, down_at_end, grip_wait, strict_wait}
 use Rattle.lock_leasing.specs.Words.{lease_deadline, next_undo_of, overdue_for, value_without}
 use Rattle.lock_leasing.specs.declared.touches.Touch.TheVariants.{Behind as TouchBehind, Dirty as TouchDirty, Free}
 use Rattle.lock_leasing.specs.declared.touches.Touch.{Touch}
-use Rattle.serial_line.specs.Marks.{Mark}
 use Rattle.std.proofs.Common.{ap, arith, refl, subst, sym, ◌∙◌}
 use Rattle.std.proofs.lemmas.Grind.{common_steps}
-use Rattle.std.specs.Prelude.{Bool, IsTrue, List, None, Option, Some, [], false, if◌then◌else◌, is_none, is_some, length, max, not, option_map, true, unwrap_or, ℕ, ◌&&◌, ◌<◌, ◌||◌, ◌∷◌, ◌≡◌}
+use Rattle.std.specs.Prelude.{Bool, IsTrue, None, Option, Some, [], false, if◌then◌else◌, is_none, is_some, length, max, not, option_map, true, unwrap_or, ℕ, ◌&&◌, ◌<◌, ◌||◌, ◌∷◌, ◌≡◌}
 use Rattle.visibility_models.specs.Models.{IsDownAtEndOf, IsStrictWaitOf, IsUnderWay, under}
 use Rattle.window_order.proofs.Cited.{IsSkipped, IsToldDown, next_is, read_facts}
 
@@ -173,20 +171,20 @@ command_stays p r m k c x none is = is ∙ sym (command_current p r m k c (at_ (
 
 -- what was told of the hub's own parts
 
-pub touch_said : (s : Configuration) (table : List LineageState) (line : List Mark) (history : List Kept) (runs : List Run) (r k : ℕ) (c : Command)
-    (touch : Touch) → IsStandingOf s table line history runs → IsAtCommand s r k → command_at s.setting.runs r k ≡ c
-    → IsTouchOf table line history runs r k touch
+pub touch_said : (s : Configuration) (parts : WindowParts) (r k : ℕ) (c : Command)
+    (touch : Touch) → IsStandingOf s parts → IsAtCommand s r k → command_at s.setting.runs r k ≡ c
+    → IsTouchOf parts r k touch
     → touch ≡ touch_of (point_of s) r c
-touch_said s table line history runs r k c touch parts turn command told = told s parts turn ∙ ap (touch_of (point_of s) r) (ap (λ x. command_at x r k) (sym parts.its_roster) ∙ command)
+touch_said s parts r k c touch stands turn command told = told s stands turn ∙ ap (touch_of (point_of s) r) (ap (λ x. command_at x r k) (sym stands.its_roster) ∙ command)
 
-pub strict_said : (s : Configuration) (table : List LineageState) (line : List Mark) (history : List Kept) (runs : List Run) (r : ℕ) (model : Visibility) (run : Option RunNo) → IsStandingOf s table line history runs → model ≡ s.setting.mode.model → IsStrictWaitOf model table line history runs r run
+pub strict_said : (s : Configuration) (parts : WindowParts) (r : ℕ) (model : Visibility) (run : Option RunNo) → IsStandingOf s parts → model ≡ s.setting.mode.model → IsStrictWaitOf model parts r run
     → run ≡ option_map run_no (strict_wait s.setting (read_of s) r)
-strict_said s table line history runs r model run parts same told = told s parts ∙ ap (λ m. option_map run_no (strict_wait (under m s.setting) (read_of s) r)) same
+strict_said s parts r model run stands same told = told s stands ∙ ap (λ m. option_map run_no (strict_wait (under m s.setting) (read_of s) r)) same
 
-pub down_said : (s : Configuration) (table : List LineageState) (line : List Mark) (history : List Kept) (runs : List Run) (r : ℕ) (model : Visibility)
-    (device : Option DeviceNo) → IsStandingOf s table line history runs → model ≡ s.setting.mode.model → IsDownAtEndOf model table line history runs r device
+pub down_said : (s : Configuration) (parts : WindowParts) (r : ℕ) (model : Visibility)
+    (device : Option DeviceNo) → IsStandingOf s parts → model ≡ s.setting.mode.model → IsDownAtEndOf model parts r device
     → device ≡ option_map device_no (down_at_end (point_of s) r)
-down_said s table line history runs r model device parts same told = told s parts ∙ ap (λ m. option_map device_no (down_at_end (point (under m s.setting) (read_of s) s.grips) r)) same
+down_said s parts r model device stands same told = told s stands ∙ ap (λ m. option_map device_no (down_at_end (point (under m s.setting) (read_of s) s.grips) r)) same
 
 -- The end of a run with all its commands answered
 

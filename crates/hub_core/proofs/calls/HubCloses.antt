@@ -24,12 +24,11 @@ use Rattle.hub_core.proofs.weak.WeakClosings.{weak_ends, weak_legal_window, weak
 use Rattle.hub_core.proofs.weak.WeakProbes.{weak_standing}
 use Rattle.hub_core.proofs.windows.CalmHistories.{NoneFailed}
 use Rattle.hub_core.proofs.windows.Closings.{IsLastState, IsQuiet, ended_committed, legal_window, none_out, quiet_is, table_leaves}
-use Rattle.hub_core.specs.ClosedHomes.{HaveRisen, NoneFell, all_known_left, known_left}
 use Rattle.hub_core.specs.Homes.{CountsAreLow, HomeIsKept}
 use Rattle.hub_core.specs.HubCalls.{NoneFails, WindowIsClosed, probes_taken}
 use Rattle.hub_core.specs.HubsKept.{FitsAtHome, HubIsKept, IsWhole, open_of}
 use Rattle.hub_core.specs.KeptByModel.{IsKeptByModel}
-use Rattle.hub_core.specs.OpenHubs.{OpenHub, configuration_of, grip_in, held_in, progress_at}
+use Rattle.hub_core.specs.OpenHubs.{OpenHub, configuration_of, held_in}
 use Rattle.hub_core.specs.Steps.{not_quiet}
 use Rattle.hub_core.specs.declared.open_windows.OpenWindow.TheInside.{Inside}
 use Rattle.legal_days.proofs.Cited.{at_place}
@@ -39,12 +38,15 @@ use Rattle.legal_days.specs.LegalWindows.{IsLegalWindow}
 use Rattle.lock_leasing.specs.Configurations.{Configuration, point, point_of, read_of}
 use Rattle.lock_leasing.specs.Words.{standing_value}
 use Rattle.serial_line.specs.Marks.{Mark}
-use Rattle.std.proofs.Common.{ap, arith, length-append, refl, subst, sym, ◌∙◌}
+use Rattle.std.proofs.Common.{ap, arith, refl, subst, sym, ◌∙◌}
 use Rattle.std.proofs.lemmas.Grind.{common_steps}
 use Rattle.std.proofs.lemmas.List.Sums.{count_by-le-length}
 use Rattle.std.proofs.lemmas.List.{length-map}
 use Rattle.std.proofs.lemmas.Option.{slice_get-map, slice_get_within}
-use Rattle.std.specs.Prelude.{Bool, IsTrue, List, None, Some, [], count_by, false, length, map, nat_lt, option_map, slice_get, slice_index_or, suc, true, zero, ℕ, ◌*◌, ◌++◌, ◌+◌, ◌<◌, ◌^◌, ◌∷◌, ◌≡◌, ◌≤◌}
+use Rattle.std.specs.Prelude.{Bool, IsTrue, List, None, Some, [], count_by, false, length, map, nat_lt, option_map, slice_get, slice_index_or, true, ℕ, ◌*◌, ◌+◌, ◌<◌, ◌^◌, ◌≡◌, ◌≤◌}
+use Rattle.window_devices.proofs.Cited.{left_at, left_size}
+use Rattle.window_devices.specs.KnownDevices.{grip_in, progress_at}
+use Rattle.window_devices.specs.LeftDevices.{HaveRisen, NoneFell, all_known_left}
 use Rattle.window_order.specs.Leavings.{IsEmptyFor, stand_left}
 
 -- where nothing is left to do, no device is out
@@ -61,18 +63,6 @@ all_are_home {D = D} shows s kept quiet d lt = by (at_place s.places d lt)
     by : (x : Place D) × (slice_get s.places d ≡ Some x) → (device : D) × (slice_get s.places d ≡ Some (Home device))
     by (Home device, at) = (device, at)
     by (Out slip task, at) = absurd (let gone = ap (λ p. grip_in p (progress_at s.devices d).purpose) at in cc (sym gone ∙ away))
-
--- the stand of a device in a list with one more, before the last place and there
-stand_before : (xs : List Stand) (x : Stand) (d : ℕ) → d < length xs → stand_at (xs ++ x ∷ []) d ≡ stand_at xs d
-stand_before [] x d less = absurd (omega (arith, less))
-stand_before (y ∷ xs) x zero less = refl
-stand_before (y ∷ xs) x (suc d) less = stand_before xs x d (omega (arith, less))
-
-stand_behind : (xs : List Stand) (x : Stand) (n : ℕ) → length xs ≡ n → stand_at (xs ++ x ∷ []) n ≡ x
-stand_behind [] x zero size = refl
-stand_behind [] x (suc n) size = absurd (omega (arith, size))
-stand_behind (y ∷ xs) x zero size = absurd (omega (arith, size))
-stand_behind (y ∷ xs) x (suc n) size = stand_behind xs x n (omega (arith, size))
 
 -- what a window that closes has: nothing is left to do, and these are its devices, each of its number
 pub record Closes {D : Type 0} (shows : D → Shown) (s : OpenHub D) (devices : List D) : Type 0 where
@@ -117,9 +107,9 @@ pub hub_leaves : {D : Type 0} {shows : D → Shown} (h : Inside D) (last : List 
     → (is_weak h.history.setting.mode ≡ true → last ≡ all_known_left h.away.known.items h.order.table (length h.order.table)) → IsLastState (configuration_of (open_of h)) last
 hub_leaves h last k quiet are known = either_model (IsLastState (configuration_of (open_of h)) last) h.history.setting
     (λ weak. record {
-      size = ap length (known weak) ∙ known_size (length h.order.table) ∙ k.order.table_is.devices;
+      size = ap length (known weak) ∙ left_size h.away.known.items h.order.table (length h.order.table) ∙ k.order.table_is.devices;
       each = λ d below.
-          ap (λ l. stand_at l d) (known weak) ∙ known_at (length h.order.table) d (omega (arith, below, k.order.table_is.devices))
+          ap (λ l. stand_at l d) (known weak) ∙ left_at h.away.known.items h.order.table (length h.order.table) d (omega (arith, below, k.order.table_is.devices))
           ∙ (λ i. record {
             value =
                 ((k.shown.configuration.weakly weak).held_is d below
@@ -128,22 +118,6 @@ hub_leaves h last k quiet are known = either_model (IsLastState (configuration_o
           });
     })
     (λ strong. table_leaves (configuration_of (open_of h)) h.rounds h.opened (held_in (open_of h)) h.order.table last (k.shown.configuration.ordered strong) (quiet_is (configuration_of (open_of h)) quiet) (k.order.table_is.ordered strong) (are strong))
-  where
-    known_size : (n : ℕ) → length (all_known_left h.away.known.items h.order.table n) ≡ n
-    known_size zero = refl
-    known_size (suc n) =
-        let long : length (all_known_left h.away.known.items h.order.table n ++ known_left h.away.known.items h.order.table n ∷ [])
-        ≡ length (all_known_left h.away.known.items h.order.table n) + 1 =
-        length-append (all_known_left h.away.known.items h.order.table n) (known_left h.away.known.items h.order.table n ∷ []) in
-        omega (arith, long, known_size n)
-
-    known_at : (n d : ℕ) → d < n → stand_at (all_known_left h.away.known.items h.order.table n) d ≡ known_left h.away.known.items h.order.table d
-    known_at zero d less = absurd (omega (arith, less))
-    known_at (suc n) d less = elim (nat_lt d n) as (λ b. nat_lt d n ≡ b → stand_at (all_known_left h.away.known.items h.order.table (suc n)) d ≡ known_left h.away.known.items h.order.table d) [
-      | true ↦ (λ e. stand_before (all_known_left h.away.known.items h.order.table n) (known_left h.away.known.items h.order.table n) d (let lt : d < n = grind (arith, common_steps) in omega (arith, lt, known_size n)) ∙ known_at n d (grind (arith, common_steps)))
-      | false ↦ (λ e. let same : d ≡ n = grind (arith, common_steps, less) in
-          ap (λ x. stand_at (all_known_left h.away.known.items h.order.table (suc n)) x) same ∙ stand_behind (all_known_left h.away.known.items h.order.table n) (known_left h.away.known.items h.order.table n) n (known_size n) ∙ ap (known_left h.away.known.items h.order.table) (sym same))
-    ] refl
 
 -- the home that is left is as every home is kept
 pub home_left : {D : Type 0} (shows : D → Shown) (s : OpenHub D) (devices : List D) (kinds : List Kind) (world : List Stand) → Closes shows s devices → kinds ≡ s.setting.kinds → IsLastState (configuration_of s) world

@@ -14,7 +14,7 @@ use Rattle.history_book.specs.Readings.{next_of}
 use Rattle.history_book.specs.Settings.{device_numbers, is_device, run_numbers}
 use Rattle.home_types.specs.declared.numbers.DeviceNo.{DeviceNo}
 use Rattle.hub_core.proofs.calls.HubChanges.{few_entries}
-use Rattle.hub_core.proofs.kept.Finds.{find_first, find_none}
+use Rattle.window_devices.proofs.Cited.{find_first, find_none}
 use Rattle.hub_core.proofs.kept.ReturnsKept.{out_is}
 use Rattle.hub_core.proofs.windows.Progress.{some_run_moves}
 use Rattle.hub_core.specs.BlockedRuns.{is_wait}
@@ -24,11 +24,12 @@ use Rattle.hub_core.proofs.steps.Takes.{live_run}
 use Rattle.hub_core.specs.Bounds.{IsBounded}
 use Rattle.hub_core.specs.HubCalls.{HubStands, SomeRunMoves}
 use Rattle.hub_core.specs.HubsKept.{HubIsKept}
-use Rattle.hub_core.specs.OpenHubs.{OpenHub, configuration_of, grip_in, held_in, progress_at}
+use Rattle.hub_core.specs.OpenHubs.{OpenHub, configuration_of, held_in}
+use Rattle.window_devices.specs.KnownDevices.{grip_in, progress_at}
 use Rattle.lock_leasing.specs.declared.purposes.Purpose.TheVariants.{Commands}
 use Rattle.lock_leasing.specs.declared.purposes.Purpose.{Purpose}
 use Rattle.hub_core.specs.Steps.{Waits, not_quiet, opened}
-use Rattle.hub_core.specs.declared.known.DeviceProgress.{DeviceProgress}
+use Rattle.window_devices.specs.declared.known.DeviceProgress.{DeviceProgress}
 use Rattle.hub_core.specs.declared.refusals.NotQuiet.TheVariants.{StillLive, StillOut}
 use Rattle.lock_leasing.specs.Configurations.{Configuration, is_out, read_of}
 use Rattle.std.proofs.Common.{ap, arith, refl, subst, sym, ◌∙◌}

@@ -24,7 +24,8 @@ use Rattle.hub_core.specs.HubCalls.{Answers, DeviceGoesOut, IsGiven, IsProbeGive
 use Rattle.hub_core.specs.HubSteps.{Carried, Gave, HubState, Returned, give_if, is_kept as is_kept_grip, same_carried}
 use Rattle.hub_core.specs.HubsKept.{HubIsKept}
 use Rattle.hub_core.specs.MarkedRuns.{IsAnsweredStill, is_out_for_command}
-use Rattle.hub_core.specs.OpenHubs.{OpenHub, carried_in, configuration_of, grip_in, held_in, hub_state_of, progress_at}
+use Rattle.hub_core.specs.OpenHubs.{OpenHub, carried_in, configuration_of, held_in, hub_state_of}
+use Rattle.window_devices.specs.KnownDevices.{grip_in, progress_at}
 use Rattle.hub_core.specs.Steps.{Absent, Choice, HandsOut, Moves, Over, Waits, after_choice, after_give, after_take, at_moment, choice_of, decide, give_entries, probe_grip, with_entries, with_grip}
 use Rattle.hub_core.specs.declared.waits.Why.{Why}
 use Rattle.lock_leasing.specs.Configurations.{Configuration, Grip, point_of, read_of}

@@ -7,81 +7,41 @@ use Rattle.device_gate.specs.declared.gates.Place.TheVariants.{Home}
 use Rattle.device_gate.specs.declared.gates.Place.{Place}
 use Rattle.device_states.specs.Devices.{Shown}
 use Rattle.history_book.specs.Settings.{Setting}
+use Rattle.history_book.specs.declared.entries.Kept.{Kept}
+use Rattle.home_types.specs.HomeStates.{nowhere, stand_at}
 use Rattle.home_types.specs.Kinds.{has_value, kind_at}
 use Rattle.home_types.specs.declared.kinds.Kind.{Kind}
-use Rattle.history_book.specs.declared.entries.Kept.{Kept}
 use Rattle.home_types.specs.declared.modes.Mode.{Mode}
-use Rattle.hub_core.proofs.kept.Hands.{no_hands}
 use Rattle.home_types.specs.declared.numbers.DeviceNo.{DeviceNo}
-use Rattle.hub_core.proofs.kept.KeptByModel.{starts_kept}
-use Rattle.hub_core.specs.Bounds.{most_entries, most_items}
-use Rattle.hub_core.specs.HubCalls.{IsOpened}
-use Rattle.hub_core.specs.KeptByModel.{IsKeptByModel}
-use Rattle.hub_core.specs.HubsKept.{FitsAtHome, HandsAre, HasRoomLeft, HubIsKept}
-use Rattle.hub_core.specs.OpenHubs.{OpenHub, configuration_of, grip_in, held_in, no_device, no_events, progress_at}
-use Rattle.hub_core.specs.Openings.{MayOpen}
-use Rattle.hub_core.specs.Steps.{opened}
-use Rattle.lock_leasing.specs.declared.purposes.Purpose.{Purpose}
-use Rattle.hub_core.specs.Homes.{CountsAreLow, HomeIsKept, HomeState, setting_for}
-use Rattle.hub_core.specs.OpeningRooms.{AreKnown, IsClosingRoom, IsOrderRoom, IsScratchFor, known_first}
-use Rattle.hub_core.specs.PlannedPlaces.{IsForHome}
-use Rattle.timeline_scheduler.specs.Scratches.{ScratchRoom}
 use Rattle.home_types.specs.declared.worlds.Stand.{Stand}
-use Rattle.hub_core.specs.declared.open_windows.ClosingLists.{ClosingLists}
-use Rattle.hub_core.specs.declared.known.DeviceProgress.{DeviceProgress}
-use Rattle.home_types.specs.HomeStates.{nowhere, stand_at}
+use Rattle.hub_core.proofs.kept.KeptByModel.{starts_kept}
 use Rattle.hub_core.proofs.kept.OrderSteps.{order_begins}
+use Rattle.hub_core.specs.Bounds.{most_entries, most_items}
+use Rattle.hub_core.specs.Homes.{CountsAreLow, HomeIsKept, HomeState, setting_for}
+use Rattle.hub_core.specs.HubCalls.{IsOpened}
+use Rattle.hub_core.specs.HubsKept.{FitsAtHome, HasRoomLeft, HubIsKept}
+use Rattle.hub_core.specs.KeptByModel.{IsKeptByModel}
 use Rattle.hub_core.specs.KeptOrders.{OrderIsBeside}
+use Rattle.hub_core.specs.OpenHubs.{OpenHub, configuration_of, held_in}
+use Rattle.hub_core.specs.OpeningRooms.{IsClosingRoom, IsOrderRoom, IsScratchFor}
+use Rattle.hub_core.specs.Openings.{MayOpen}
+use Rattle.hub_core.specs.PlannedPlaces.{IsForHome}
+use Rattle.hub_core.specs.Steps.{opened}
+use Rattle.hub_core.specs.declared.open_windows.ClosingLists.{ClosingLists}
 use Rattle.lineage_table.specs.Lineages.{LineageState}
 use Rattle.lock_leasing.specs.Configurations.{Configuration, Grips}
 use Rattle.serial_line.specs.Marks.{Marked}
-use Rattle.std.proofs.Common.{ap, arith, inl, inr, refl, subst, sym, ◌∙◌}
+use Rattle.std.proofs.Common.{ap, arith, refl, subst, sym, ◌∙◌}
 use Rattle.std.proofs.lemmas.Bool.{le-ltb, lt-ltb}
-use Rattle.std.proofs.lemmas.Grind.{common_steps}
-use Rattle.std.proofs.lemmas.List.{length-append, length-map, replicate-append-replicate}
-use Rattle.std.proofs.lemmas.Option.{get_or_from_slice_get, slice_get_cases, slice_get_within}
-use Rattle.std.specs.Prelude.{Bool, IsTrue, List, None, Option, Some, [], false, if◌then◌else◌, length, nat_lt, replicate, slice_get, slice_index_or, suc, true, zero, ℕ, ◌++◌, ◌+◌, ◌<◌, ◌∷◌, ◌≡◌, ◌≤◌, ◌⊎◌}
-
-pub replicate_more : {A : Type 0} (n : ℕ) (x : A) → replicate n x ++ x ∷ [] ≡ replicate (n + 1) x
-replicate_more n x = replicate-append-replicate n 1 x
-
--- the places of a list with one item more
-pub get_front : {A : Type 0} (xs : List A) (x : A) (i : ℕ) → i < length xs → slice_get (xs ++ x ∷ []) i ≡ slice_get xs i
-get_front [] x i lt = absurd (omega arith)
-get_front (y ∷ ys) x zero lt = refl
-get_front (y ∷ ys) x (suc i) lt = get_front ys x i (omega arith)
-
-pub get_last : {A : Type 0} (xs : List A) (x : A) → slice_get (xs ++ x ∷ []) (length xs) ≡ Some x
-get_last [] x = refl
-get_last (y ∷ ys) x = get_last ys x
-
--- one device more is known
-pub known_more : {D : Type 0} (shows : D → Shown) (home : HomeState D) (rounds n : ℕ) (known after : List DeviceProgress) (progress : DeviceProgress)
-    → AreKnown shows home rounds n known → after ≡ known ++ progress ∷ []
-    → ((device : D) → slice_get home.devices n ≡ Some device → progress ≡ known_first rounds (stand_at home.world n).value (shows device).turns (shows device).probes (shows device).faults)
-    → AreKnown shows home rounds (n + 1) after
-known_more {D = D} shows home rounds n known after progress are more is = rw more (record {
-  size = omega (arith, length-append known (progress ∷ []), are.size);
-  each = each;
-})
-  where
-    each : (d : ℕ) (device : D) → d < n + 1 → slice_get home.devices d ≡ Some device → slice_get (known ++ progress ∷ []) d ≡ Some (known_first rounds (stand_at home.world d).value (shows device).turns (shows device).probes (shows device).faults)
-    each d device lt at = elim (split d n lt) [
-      | inl before ↦ get_front known progress d (omega (arith, before, are.size)) ∙ are.each d device before at
-      | inr here ↦ (let P : ℕ → Type 0 = λ k. slice_get home.devices k ≡ Some device → slice_get (known ++ progress ∷ []) k ≡ Some (known_first rounds (stand_at home.world k).value (shows device).turns (shows device).probes (shows device).faults) in
-          subst P (sym here) (λ there. ap (λ k. slice_get (known ++ progress ∷ []) k) (sym are.size) ∙ get_last known progress ∙ ap Some (is device there)) at)
-    ]
-      where
-        split : (a b : ℕ) → a < b + 1 → (a < b) ⊎ (a ≡ b)
-        split a b h = grind (arith, common_steps)
+use Rattle.std.proofs.lemmas.List.{length-map}
+use Rattle.std.specs.Prelude.{Bool, IsTrue, List, None, Option, Some, [], false, if◌then◌else◌, length, nat_lt, replicate, slice_get, true, ℕ, ◌≡◌, ◌≤◌}
+use Rattle.timeline_scheduler.specs.Scratches.{ScratchRoom}
+use Rattle.window_devices.proofs.Cited.{There, known_as, known_there, no_hands, none_out, past_end, there, unknown}
+use Rattle.window_devices.specs.Away.{HandsAre}
+use Rattle.window_devices.specs.KnownDevices.{AreKnown, no_events, progress_at}
+use Rattle.window_devices.specs.declared.known.DeviceProgress.{DeviceProgress}
 
 -- A window that opens
-
--- past the end of a list
-past_end : {A : Type 0} (xs : List A) (i : ℕ) (x : A) → length xs ≤ i → slice_index_or xs i x ≡ x
-past_end [] i x le = refl
-past_end (y ∷ ys) zero x le = absurd (omega arith)
-past_end (y ∷ ys) (suc i) x le = past_end ys i x (omega arith)
 
 -- the hub of a window that opens
 abbrev pub first_hub : {D : Type 0} → HomeState D → Roster → Mode → ℕ → List DeviceProgress → OpenHub D
@@ -100,37 +60,7 @@ first_hub home roster mode rounds known = record {
 pub record Opens {D : Type 0} (shows : D → Shown) (home : HomeState D) (roster : Roster) (mode : Mode) (rounds : ℕ) (known : List DeviceProgress) : Type 0 where
   pub kept : HomeIsKept shows home
   pub may : MayOpen (setting_for home roster mode) rounds home.opened
-  pub knows : AreKnown shows home rounds (length home.devices) known
-
--- a device of the home, and what is known of it
-known_there : {D : Type 0} (shows : D → Shown) (home : HomeState D) (rounds : ℕ) (known : List DeviceProgress) (d : ℕ) (device : D)
-    → AreKnown shows home rounds (length home.devices) known → slice_get home.devices d ≡ Some device
-    → progress_at known d ≡ known_first rounds (stand_at home.world d).value (shows device).turns (shows device).probes (shows device).faults
-known_there shows home rounds known d device are at =
-    get_or_from_slice_get known d _ no_device (are.each d device (slice_get_within home.devices d device at) at)
-
--- no device of the home
-unknown_there : {D : Type 0} (shows : D → Shown) (home : HomeState D) (rounds : ℕ) (known : List DeviceProgress) (d : ℕ)
-    → AreKnown shows home rounds (length home.devices) known → length home.devices ≤ d → progress_at known d ≡ no_device
-unknown_there shows home rounds known d are past = past_end known d no_device (omega (arith, are.size, past))
-
--- each device of the home, or none
-data There {D : Type 0} (shows : D → Shown) (home : HomeState D) (rounds : ℕ) (known : List DeviceProgress) (d : ℕ) : Type 0 where
-  known_as : (device : D) → slice_get home.devices d ≡ Some device → d < length home.world → progress_at known d ≡ known_first rounds (stand_at home.world d).value (shows device).turns (shows device).probes (shows device).faults → There shows home rounds known d
-  unknown : length home.world ≤ d → progress_at known d ≡ no_device → There shows home rounds known d
-
-there : {D : Type 0} (shows : D → Shown) (home : HomeState D) (rounds : ℕ) (known : List DeviceProgress) (d : ℕ) → length home.devices ≡ length home.world
-    → AreKnown shows home rounds (length home.devices) known → There shows home rounds known d
-there shows home rounds known d size are = elim (slice_get_cases home.devices d).1 [
-  | inl p ↦ known_as p.0 p.2 (let lt = p.1 in omega (arith, lt, size)) (known_there shows home rounds known d p.0 are p.2)
-  | inr p ↦ unknown (let le = p.0 in omega (arith, le, size)) (unknown_there shows home rounds known d are p.0)
-]
-
--- every place holds a device that is home
-none_out : {D : Type 0} (devices : List D) (d : ℕ) (purpose : Purpose) → grip_in (slice_get (all_home devices) d) purpose ≡ None
-none_out [] d purpose = refl
-none_out (x ∷ xs) zero purpose = refl
-none_out (x ∷ xs) (suc d) purpose = none_out xs d purpose
+  pub knows : AreKnown shows home.devices home.world rounds (length home.devices) known
 
 -- the configuration of a window that opens
 pub first_configuration : {D : Type 0} (shows : D → Shown) (home : HomeState D) (roster : Roster) (mode : Mode) (rounds : ℕ) (known : List DeviceProgress)
@@ -151,19 +81,19 @@ first_configuration shows home roster mode rounds known opens = λ i. record {
     out_home false lt e = refl
     out_home true lt e = absurd (cc)
 
-    left_by : (d : ℕ) → There shows home rounds known d → (progress_at known d).probes_left ≡ (if nat_lt d (length home.world) then rounds else 0)
+    left_by : (d : ℕ) → There shows home.devices home.world rounds known d → (progress_at known d).probes_left ≡ (if nat_lt d (length home.world) then rounds else 0)
     left_by d (known_as device at lt is) = ap (λ (k : DeviceProgress). k.probes_left) is ∙ sym (in_home (nat_lt d (length home.world)) rounds (lt-ltb d (length home.world) lt))
     left_by d (unknown le is) = ap (λ (k : DeviceProgress). k.probes_left) is ∙ sym (out_home (nat_lt d (length home.world)) rounds (le-ltb d (length home.world) le))
 
     left : (d : ℕ) → (progress_at known d).probes_left ≡ (if nat_lt d (length home.world) then rounds else 0)
-    left d = left_by d (there shows home rounds known d opens.kept.size opens.knows)
+    left d = left_by d (there shows home.devices home.world rounds known d opens.kept.size opens.knows)
 
 -- where the devices stand as the window opens
 pub first_held : {D : Type 0} (shows : D → Shown) (home : HomeState D) (roster : Roster) (mode : Mode) (rounds : ℕ) (known : List DeviceProgress) (d : ℕ)
     → Opens shows home roster mode rounds known → (stand_at home.world d).value ≡ held_in (first_hub home roster mode rounds known) d
-first_held shows home roster mode rounds known d opens = by (there shows home rounds known d opens.kept.size opens.knows)
+first_held shows home roster mode rounds known d opens = by (there shows home.devices home.world rounds known d opens.kept.size opens.knows)
   where
-    by : There shows home rounds known d → (stand_at home.world d).value ≡ (progress_at known d).held
+    by : There shows home.devices home.world rounds known d → (stand_at home.world d).value ≡ (progress_at known d).held
     by (known_as device at lt is) = sym (ap (λ (k : DeviceProgress). k.held) is)
     by (unknown le is) = ap (λ (s : Stand). s.value) (past_end home.world d nowhere le) ∙ sym (ap (λ (k : DeviceProgress). k.held) is)
 
@@ -176,9 +106,9 @@ first_kept {D = D} shows home roster mode rounds known opens = record {
   places_size = length-map home.devices (λ device. Home device) ∙ opens.kept.size;
   home = λ d device at. at_home d device (home_there home.devices d device at);
   out = λ d slip task at. absurd (not_out home.devices d slip task at);
-  low = λ d. low d (there shows home rounds known d opens.kept.size opens.knows);
+  low = λ d. low d (there shows home.devices home.world rounds known d opens.kept.size opens.knows);
   values = λ d lt. subst (λ v. IsTrue (has_value (kind_at home.kinds d) v)) (held d) (opens.kept.values d lt);
-  events = λ d lt. none_yet d (there shows home rounds known d opens.kept.size opens.knows);
+  events = λ d lt. none_yet d (there shows home.devices home.world rounds known d opens.kept.size opens.knows);
   few_tickets = omega arith;
 }
   where
@@ -202,7 +132,7 @@ first_kept {D = D} shows home roster mode rounds known opens = record {
 
     at_home : (d : ℕ) (device : D) → slice_get home.devices d ≡ Some device → FitsAtHome shows s d device
     at_home d device at =
-        let is = known_there shows home rounds known d device opens.knows at in
+        let is = known_there shows home.devices home.world rounds known d device opens.knows at in
         record {
           stand = λ up. opens.kept.stand d device at up ∙ held d;
           turns_are = let same : (progress_at known d).at_opening.turns ≡ (shows device).turns = ap (λ (k : DeviceProgress). k.at_opening.turns) is in omega (arith, same);
@@ -213,11 +143,11 @@ first_kept {D = D} shows home roster mode rounds known opens = record {
           few_faults = let same : (progress_at known d).at_opening.faults ≡ (shows device).faults = ap (λ (k : DeviceProgress). k.at_opening.faults) is in omega (arith, same);
         }
 
-    none_yet : (d : ℕ) → There shows home rounds known d → (progress_at known d).events ≡ no_events
+    none_yet : (d : ℕ) → There shows home.devices home.world rounds known d → (progress_at known d).events ≡ no_events
     none_yet d (known_as device at lt is) = ap (λ (k : DeviceProgress). k.events) is
     none_yet d (unknown le is) = ap (λ (k : DeviceProgress). k.events) is
 
-    low : (d : ℕ) → There shows home rounds known d → CountsAreLow home.opened (progress_at known d).at_opening.turns (progress_at known d).at_opening.probes (progress_at known d).at_opening.faults
+    low : (d : ℕ) → There shows home.devices home.world rounds known d → CountsAreLow home.opened (progress_at known d).at_opening.turns (progress_at known d).at_opening.probes (progress_at known d).at_opening.faults
     low d (known_as device at lt is) = rw is (opens.kept.counts d device at)
     low d (unknown le is) = rw is (record { few_turns = omega arith; few_probes = omega arith; few_faults = omega arith })
 
@@ -243,9 +173,9 @@ first_opened shows home roster mode rounds known opens = record {
   rounds_are = refl;
   windows = refl;
   tickets = refl;
-  turns_then = λ d device at. ap (λ (k : DeviceProgress). k.at_opening.turns) (known_there shows home rounds known d device opens.knows at);
-  probes_then = λ d device at. ap (λ (k : DeviceProgress). k.at_opening.probes) (known_there shows home rounds known d device opens.knows at);
-  faults_then = λ d device at. ap (λ (k : DeviceProgress). k.at_opening.faults) (known_there shows home rounds known d device opens.knows at);
+  turns_then = λ d device at. ap (λ (k : DeviceProgress). k.at_opening.turns) (known_there shows home.devices home.world rounds known d device opens.knows at);
+  probes_then = λ d device at. ap (λ (k : DeviceProgress). k.at_opening.probes) (known_there shows home.devices home.world rounds known d device opens.knows at);
+  faults_then = λ d device at. ap (λ (k : DeviceProgress). k.at_opening.faults) (known_there shows home.devices home.world rounds known d device opens.knows at);
 }
 
 -- a setting with the roster that was indexed

@@ -21,7 +21,6 @@ use Rattle.history_book.specs.declared.entries.Cause.{Cause}
 use Rattle.history_book.specs.declared.entries.End.TheVariants.{Aborted, Committed}
 use Rattle.history_book.specs.declared.entries.Entry.TheVariants.{Arrived, Did, Doomed, Ended, Placed, Undid}
 use Rattle.history_book.specs.declared.entries.Entry.{Entry}
-use Rattle.history_book.specs.declared.entries.Kept.{Kept}
 use Rattle.history_book.specs.declared.progress.RunProgress.{RunProgress}
 use Rattle.home_types.specs.Commands.{holds}
 use Rattle.home_types.specs.Kinds.{kind_at}
@@ -41,8 +40,6 @@ use Rattle.hub_core.proofs.calls.NextUndos.{next_undo_is}
 use Rattle.timeline_scheduler.proofs.Cited.{planned_devices}
 use Rattle.hub_core.proofs.calls.Scheduling.{scheduled_as_planned}
 use Rattle.hub_core.proofs.kept.Arranged.{arranged_same, marks_arranged, marks_for, may_arrange}
-use Rattle.hub_core.proofs.kept.Finds.{none_found, none_there}
-use Rattle.hub_core.proofs.kept.Hands.{hand_goes, run_hand}
 use Rattle.hub_core.proofs.kept.Kept.{enters_place}
 use Rattle.hub_core.proofs.kept.KeptByModel.{read_kept}
 use Rattle.hub_core.proofs.kept.OrderSteps.{done_after, last_follows, may_note_down, none_commands, order_aborted, order_arrived, order_committed, order_doomed, order_doomed_if, order_dropped, order_joined, order_out, order_placed, order_told_down, order_told_weakly, order_undo_out, read_more}
@@ -54,20 +51,19 @@ use Rattle.hub_core.proofs.steps.Takes.{live_run}
 use Rattle.hub_core.proofs.windows.StrongChoices.{IsPlacing}
 use Rattle.hub_core.specs.Bounds.{most_items}
 use Rattle.hub_core.specs.HubKept.{ConfigurationIsKept}
-use Rattle.hub_core.specs.HubsKept.{HandsAre, IsWhole, open_of}
+use Rattle.hub_core.specs.HubsKept.{IsWhole, open_of}
 use Rattle.hub_core.specs.KeptByModel.{IsKeptByModel}
 use Rattle.hub_core.specs.KeptOrders.{OrderIsBeside}
 use Rattle.window_order.specs.KeptOrders.{IsSealed, MayArrange, MayNote, arranged, is_first, noted_first, scheduled_with}
 use Rattle.lock_leasing.specs.declared.purposes.Purpose.TheVariants.{Commands, Probes, Undoes}
 use Rattle.lock_leasing.specs.declared.purposes.Purpose.{Purpose}
-use Rattle.hub_core.specs.OpenHubs.{OpenHub, configuration_of, held_in, progress_at}
+use Rattle.hub_core.specs.OpenHubs.{OpenHub, configuration_of, held_in}
 use Rattle.hub_core.specs.Openings.{MayOpen, names_values_of}
 use Rattle.hub_core.specs.PlannedPlaces.{HoldsPlan, IsForHome}
 use Rattle.timeline_scheduler.specs.PlannedUses.{AreUsesOf}
 use Rattle.hub_core.specs.Steps.{HandsOut, Moves, choice_of}
 use Rattle.hub_core.specs.WeakSteps.{weak_rest}
 use Rattle.window_order.specs.declared.kept_orders.KeptOrder.{KeptOrder}
-use Rattle.hub_core.specs.declared.known.DeviceProgress.{DeviceProgress}
 use Rattle.hub_core.specs.declared.open_windows.OpenWindow.TheInside.{Inside}
 use Rattle.history_book.specs.declared.planned_uses.PlannedUse.{PlannedUse}
 use Rattle.lineage_table.specs.Accesses.{IsDisciplined, effective_writer}
@@ -75,7 +71,7 @@ use Rattle.lineage_table.specs.Lineages.{LineageState, accesses_at, committed_li
 use Rattle.lock_leasing.proofs.Cited.{next_is_left}
 use Rattle.lock_leasing.specs.Configurations.{Configuration, Grips, is_command, is_out, is_undo, point, point_of, read_of}
 use Rattle.lock_leasing.specs.Places.{GripsFit, IsClear, MayBeOut, in_order}
-use Rattle.lock_leasing.specs.Standings.{IsRosterFor, IsStandingOf}
+use Rattle.lock_leasing.specs.Standings.{IsRosterFor, IsStandingOf, WindowParts, window_parts}
 use Rattle.serial_line.specs.Marks.{Mark, Marked, items_of, marks_without, settling, stands, touching, with_item}
 use Rattle.std.proofs.Common.{ap, ap₂, arith, length-append, refl, subst, sym, ◌∙◌}
 use Rattle.std.proofs.lemmas.Bool.{and_parts, eq-eqb}
@@ -90,6 +86,10 @@ use Rattle.window_order.specs.MarksKept.{MarksAreKept}
 use Rattle.window_order.specs.TableChanges.{ChangesEach, IsNewOn, doomed_lineage, is_done_there, scheduled_on}
 use Rattle.window_order.specs.TableKept.{TableIsKept}
 use Rattle.history_book.specs.Packed.{entries_made}
+use Rattle.window_devices.proofs.Cited.{hand_goes, none_found, none_there, run_hand}
+use Rattle.window_devices.specs.Away.{HandsAre}
+use Rattle.window_devices.specs.KnownDevices.{progress_at}
+use Rattle.window_devices.specs.declared.known.DeviceProgress.{DeviceProgress}
 
 -- What is kept of the hub's history
 
@@ -121,7 +121,7 @@ index_fits w rounds opened may =
 pub hub_standing : (s : Configuration) (rounds opened : ℕ) (held : ℕ → ℕ) (spare : ℕ) (line : Marked) (table : List LineageState)
     → ((d : ℕ) → IsDisciplined (accesses_at table d)) → ConfigurationIsKept s rounds opened held
     → OrderIsBeside rounds (record { setting = s.setting; history = s.history; spare = spare }) s.grips line table
-    → IsStandingOf s table line.marks s.history s.setting.runs
+    → IsStandingOf s (window_parts s table line.marks s.history)
 hub_standing s rounds opened held spare line table disciplined k order = record {
   ordered = k.strong;
   allowed = roster_allowed s.setting rounds opened k.opens;
@@ -142,7 +142,7 @@ read_whole h k = read_kept _ h.rounds h.opened _ k.shown.configuration
 
 pub standing_whole : {D : Type 0} {shows : D → Shown} (h : Inside D) → ((d : ℕ) → IsDisciplined (accesses_at h.order.table d))
     → is_weak h.history.setting.mode ≡ false → IsWhole shows h
-    → IsStandingOf (configuration_of (open_of h)) h.order.table h.order.line.marks h.history.history h.history.setting.runs
+    → IsStandingOf (configuration_of (open_of h)) (window_parts (configuration_of (open_of h)) h.order.table h.order.line.marks h.history.history)
 standing_whole h disciplined strong k = hub_standing _ h.rounds h.opened _ h.history.spare h.order.line h.order.table disciplined (k.shown.configuration.ordered strong) k.order
 
 -- a device that the table has not has no access
@@ -415,7 +415,7 @@ pub hub_finished : {D : Type 0} {shows : D → Shown} (h : Inside D) (r m : ℕ)
 hub_finished h r m cause disciplined ends k = either_model (next_undo h.order.table r ≡ Finished) h.history.setting
     (λ weak. ap (λ o. unwrap_or (option_map (undo_on h.order.table r) o) Finished) (none_found (has_effective_write h.order.table r) (range_with_len 0 (length h.order.table))
     (λ d. ap (λ xs. unwrap_or (option_map (λ q. q.0 == r) (effective_writer xs)) false) (bare_beyond h.order.table (length h.history.setting.first) d k.order.table_is.devices (λ e below. (k.order.table_is.weakly weak e below).accesses)))))
-    (λ strong. next_undo_is _ _ _ _ _ r (standing_whole h disciplined strong k) ends.live ∙ finished_is _ r cause strong ends)
+    (λ strong. next_undo_is _ _ r (standing_whole h disciplined strong k) ends.live ∙ finished_is _ r cause strong ends)
 
 -- The write of a run is dropped
 
@@ -459,7 +459,6 @@ pub record MayTellDown {D : Type 0} (h : Inside D) (r k : ℕ) : Type 0 where
   pub run : is_run h.history.setting.runs r ≡ true
   pub number : k ≡ next_of (read_in h.history) r
   pub within : k < length (commands_of h.history.setting.runs r)
-  pub few : k < 64
   pub stands : stands (Ran (run_no r)) h.order.line.marks ≡ true
   pub low : (command_at h.history.setting.runs r k).device.0 < 256
   pub homed : (command_at h.history.setting.runs r k).device.0 < length h.order.table
@@ -471,7 +470,6 @@ may_tell_down h r m k must is whole = record {
   run = live_run w (read_in h.history) r (read_whole h whole).shaped down.live;
   number = down.number;
   within = down.within;
-  few = let least : length (commands_of w.runs r) ≤ 64 = whole.shown.configuration.opens.few_commands r in omega (arith, down.within, least);
   stands = live_stands w (read_in h.history) (configuration_of (open_of h)).grips r h.order.line.marks (read_whole h whole) down.live whole.order.line_is;
   low = let few : length w.first ≤ 256 = whole.shown.configuration.opens.few_devices in omega (arith, below, few);
   homed = omega (arith, below, whole.order.table_is.devices);
@@ -600,15 +598,14 @@ told_whole {D = D} h t r m k must c cause mid last between is new told whole = e
     table strong = told.table strong ∙ ap (λ (x : Command). with_lineage h.order.table x.device.0 (noted_first r (is_first r (lineage_at h.order.table x.device.0)) ViewedDown None last)) told.command
 
 -- the line of a window has as many items as its marks
-pub standing_size : (s : Configuration) (table : List LineageState) (line : List Mark) (history : List Kept) (runs : List Run) → IsStandingOf s table line history runs → length line ≡ length (read_of s).line
-standing_size s table line history runs parts = sym (length-map line (λ (x : Mark). x.item)) ∙ ap length parts.its_line.items
+pub standing_size : (s : Configuration) (parts : WindowParts) → IsStandingOf s parts → length parts.line ≡ length (read_of s).line
+standing_size s parts stands = sym (length-map parts.line (λ (x : Mark). x.item)) ∙ ap length stands.its_line.items
 
 -- the line of a hub has no more items than the scratch has room for
-pub standing_fits : {D : Type 0} {shows : D → Shown} (h : Inside D) (s : OpenHub D) (table : List LineageState) (line : List Mark)
-    (history : List Kept) (runs : List Run) (room : ScratchRoom) → open_of h ≡ s → IsStandingOf (configuration_of s) table line history runs
-    → IsForHome s.setting s.rounds room → IsWhole shows h → length line ≤ room.items
-standing_fits {D = D} h s table line history runs room seen parts home k =
-    let size = standing_size (configuration_of s) table line history runs parts in
+pub standing_fits : {D : Type 0} {shows : D → Shown} (h : Inside D) (s : OpenHub D) (parts : WindowParts) (room : ScratchRoom) → open_of h ≡ s → IsStandingOf (configuration_of s) parts
+    → IsForHome s.setting s.rounds room → IsWhole shows h → length parts.line ≤ room.items
+standing_fits {D = D} h s parts room seen stands home k =
+    let size = standing_size (configuration_of s) parts stands in
     let fits = subst (λ (x : OpenHub D). length (read_of (configuration_of x)).line ≤ most_items (length x.setting.runs) (length x.setting.first) x.rounds) seen (line_fits _ h.rounds h.opened _ k.shown.configuration) in
     omega (arith, size, fits, home.items)
 

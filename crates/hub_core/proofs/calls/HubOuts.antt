@@ -18,21 +18,21 @@ use Rattle.home_types.specs.declared.commands.Command.{Command}
 use Rattle.home_types.specs.declared.numbers.DeviceNo.{DeviceNo}
 use Rattle.hub_core.proofs.calls.Departures.{IsGone, few_tickets, gone, gone_carries, gone_configuration, gone_next, gone_shows, gone_window, gone_within, has_room, home_place, one_for}
 use Rattle.hub_core.proofs.calls.HubChanges.{step_is}
-use Rattle.hub_core.proofs.calls.HubStates.{put_at}
-use Rattle.hub_core.proofs.kept.Hands.{run_above}
+use Rattle.window_devices.proofs.Cited.{put_at, run_above}
 use Rattle.hub_core.proofs.kept.KeptByModel.{taken_kept}
 use Rattle.hub_core.proofs.steps.Choices.{Commanding, Known, known_by}
-use Rattle.hub_core.specs.Away.{IsSent, MaySend}
+use Rattle.window_devices.specs.Away.{IsSent, MaySend}
 use Rattle.hub_core.specs.HubCalls.{DeviceGoesOut, SameWindow}
 use Rattle.hub_core.specs.HubSteps.{Chose, HubStep, Take, carried_after, task_of}
 use Rattle.hub_core.specs.HubsKept.{HubIsKept, IsWhole, open_of}
 use Rattle.hub_core.specs.KeptByModel.{IsKeptByModel}
-use Rattle.hub_core.specs.OpenHubs.{OpenHub, configuration_of, held_in, hub_state_of, progress_at}
+use Rattle.hub_core.specs.OpenHubs.{OpenHub, configuration_of, held_in, hub_state_of}
+use Rattle.window_devices.specs.KnownDevices.{progress_at}
 use Rattle.lock_leasing.specs.declared.purposes.Purpose.TheVariants.{Commands, Probes, Undoes}
 use Rattle.lock_leasing.specs.declared.purposes.Purpose.{Purpose}
 use Rattle.hub_core.specs.Openings.{names_values_of}
 use Rattle.hub_core.specs.Steps.{HandsOut, after_choice, answers_down, at_moment, choice_of, with_grip}
-use Rattle.hub_core.specs.declared.known.DeviceProgress.{DeviceProgress}
+use Rattle.window_devices.specs.declared.known.DeviceProgress.{DeviceProgress}
 use Rattle.hub_core.specs.declared.open_windows.OpenWindow.TheInside.{Inside}
 use Rattle.lock_leasing.specs.Configurations.{Configuration, is_out, point_of, read_of}
 use Rattle.lock_leasing.specs.Waits.{busy_wait, grip_wait}

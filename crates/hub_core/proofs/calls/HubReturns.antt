@@ -26,7 +26,8 @@ use Rattle.hub_core.proofs.calls.HubChanges.{answer_entries, answered_more}
 use Rattle.hub_core.proofs.calls.OutFor.{IsForCommand, for_command, out_for}
 use Rattle.history_book.specs.Causes.{refuted_by}
 use Rattle.hub_core.specs.HubsKept.{IsWhole, open_of}
-use Rattle.hub_core.specs.OpenHubs.{OpenHub, progress_at}
+use Rattle.hub_core.specs.OpenHubs.{OpenHub}
+use Rattle.window_devices.specs.KnownDevices.{progress_at}
 use Rattle.lock_leasing.specs.declared.purposes.Purpose.TheVariants.{Commands, Probes, Undoes}
 use Rattle.lock_leasing.specs.declared.purposes.Purpose.{Purpose}
 use Rattle.hub_core.specs.Steps.{give_entries}

@@ -2,50 +2,48 @@
 use Rattle.abort_rollback.specs.Undos.{first_effective, has_effective_write, next_undo, stand_without, undo_on}
 use Rattle.abort_rollback.specs.declared.undos.Undo.TheVariants.{Drive, Drop, Finished}
 use Rattle.abort_rollback.specs.declared.undos.Undo.{Undo}
-use Rattle.command_rules.specs.Rosters.{Run, device_no, touches}
+use Rattle.command_rules.specs.Rosters.{device_no, touches}
 use Rattle.history_book.proofs.Cited.{each_found, own_devices}
 use Rattle.history_book.specs.Readings.{is_live}
 use Rattle.history_book.specs.Settings.{devices_of, is_device}
-use Rattle.history_book.specs.declared.entries.Kept.{Kept}
-use Rattle.lineage_table.specs.Lineages.{LineageState, lineage_at}
+use Rattle.lineage_table.specs.Lineages.{lineage_at}
 use Rattle.lock_leasing.proofs.Cited.{Facts, facts_of, next_device, stands_without, writes_last}
 use Rattle.lock_leasing.specs.Configurations.{Configuration, Point, point_of, read_of}
-use Rattle.lock_leasing.specs.Standings.{IsStandingOf}
+use Rattle.lock_leasing.specs.Standings.{IsStandingOf, WindowParts}
 use Rattle.lock_leasing.specs.Tables.{IsLineageOf}
 use Rattle.lock_leasing.specs.Words.{has_effect, next_undo_of, value_without}
-use Rattle.serial_line.specs.Marks.{Mark}
 use Rattle.std.proofs.Common.{ap, arith, refl, ◌∙◌}
 use Rattle.std.proofs.lemmas.Grind.{common_steps}
 use Rattle.std.specs.List.{range_with_len}
-use Rattle.std.specs.Prelude.{List, None, Option, Some, find, if◌then◌else◌, option_map, true, unwrap_or, ℕ, ◌≡◌}
+use Rattle.std.specs.Prelude.{None, Option, Some, find, if◌then◌else◌, option_map, true, unwrap_or, ℕ, ◌≡◌}
 
 -- what the configuration says of the next undo
 abbrev pub undo_of : Point → ℕ → Undo
 undo_of p r = unwrap_or (option_map (λ d. if p.reading.up d then Drive (device_no d) (value_without p r d) else Drop (device_no d)) (next_undo_of p r)) Finished
 
-module _ (s : Configuration) (table : List LineageState) (line : List Mark) (history : List Kept) (runs : List Run) (r : ℕ) (parts : IsStandingOf s table line history runs) (live : is_live (read_of s) r ≡ true) where
+module _ (s : Configuration) (parts : WindowParts) (r : ℕ) (stands : IsStandingOf s parts) (live : is_live (read_of s) r ≡ true) where
   facts : Facts s.setting (read_of s) s.grips
-  facts = facts_of s table line history runs parts
+  facts = facts_of s parts stands
 
-  lineage : (d : ℕ) → is_device s.setting d ≡ true → IsLineageOf (point_of s) d (lineage_at table d)
-  lineage d home = parts.its_table.each d (grind (arith, common_steps))
+  lineage : (d : ℕ) → is_device s.setting d ≡ true → IsLineageOf (point_of s) d (lineage_at parts.table d)
+  lineage d home = stands.its_table.each d (grind (arith, common_steps))
 
-  effective : (d : ℕ) → is_device s.setting d ≡ true → has_effective_write table r d ≡ has_effect (read_of s) s.grips r d
-  effective d home = let of = lineage d home in writes_last s.setting (read_of s) s.grips facts d r live (lineage_at table d).accesses of.runs of.each
+  effective : (d : ℕ) → is_device s.setting d ≡ true → has_effective_write parts.table r d ≡ has_effect (read_of s) s.grips r d
+  effective d home = let of = lineage d home in writes_last s.setting (read_of s) s.grips facts d r live (lineage_at parts.table d).accesses of.runs of.each
 
-  first_is : first_effective table r ≡ next_undo_of (point_of s) r
-  first_is = ap (λ k. find (has_effective_write table r) (range_with_len 0 k)) parts.its_table.devices ∙ next_device s.setting (read_of s) s.grips r (has_effective_write table r) facts effective
+  first_is : first_effective parts.table r ≡ next_undo_of (point_of s) r
+  first_is = ap (λ k. find (has_effective_write parts.table r) (range_with_len 0 k)) stands.its_table.devices ∙ next_device s.setting (read_of s) s.grips r (has_effective_write parts.table r) facts effective
 
-  undo_at : (d : ℕ) → is_device s.setting d ≡ true → undo_on table r d ≡ (if (read_of s).up d then Drive (device_no d) (value_without (point_of s) r d) else Drop (device_no d))
+  undo_at : (d : ℕ) → is_device s.setting d ≡ true → undo_on parts.table r d ≡ (if (read_of s).up d then Drive (device_no d) (value_without (point_of s) r d) else Drop (device_no d))
   undo_at d home =
       let of = lineage d home in
-      ap (λ b. if b then Drive (device_no d) (stand_without table r d) else Drop (device_no d)) of.up
-      ∙ ap (λ v. if (read_of s).up d then Drive (device_no d) v else Drop (device_no d)) (stands_without s.setting (read_of s) s.grips facts d r live (lineage_at table d).committed (lineage_at table d).accesses of.committed of.runs of.each)
+      ap (λ b. if b then Drive (device_no d) (stand_without parts.table r d) else Drop (device_no d)) of.up
+      ∙ ap (λ v. if (read_of s).up d then Drive (device_no d) v else Drop (device_no d)) (stands_without s.setting (read_of s) s.grips facts d r live (lineage_at parts.table d).committed (lineage_at parts.table d).accesses of.committed of.runs of.each)
 
   -- the next undo of a live run
-  pub next_undo_is : next_undo table r ≡ undo_of (point_of s) r
-  next_undo_is = ap (λ o. unwrap_or (option_map (undo_on table r) o) Finished) first_is ∙ at (next_undo_of (point_of s) r) refl
+  pub next_undo_is : next_undo parts.table r ≡ undo_of (point_of s) r
+  next_undo_is = ap (λ o. unwrap_or (option_map (undo_on parts.table r) o) Finished) first_is ∙ at (next_undo_of (point_of s) r) refl
     where
-      at : (o : Option ℕ) → next_undo_of (point_of s) r ≡ o → unwrap_or (option_map (undo_on table r) o) Finished ≡ unwrap_or (option_map (λ d. if (read_of s).up d then Drive (device_no d) (value_without (point_of s) r d) else Drop (device_no d)) o) Finished
+      at : (o : Option ℕ) → next_undo_of (point_of s) r ≡ o → unwrap_or (option_map (undo_on parts.table r) o) Finished ≡ unwrap_or (option_map (λ d. if (read_of s).up d then Drive (device_no d) (value_without (point_of s) r d) else Drop (device_no d)) o) Finished
       at None e = refl
       at (Some d) e = undo_at d ((each_found (λ x. (is_device s.setting x ≡ true) × (touches s.setting.runs r x ≡ true)) (has_effect (read_of s) s.grips r) (devices_of s.setting r) d (own_devices s.setting r) e).0.0)

@@ -22,7 +22,6 @@ use Rattle.home_types.specs.declared.commands.Job.TheVariants.{Check, Load, Set,
 use Rattle.home_types.specs.declared.commands.Job.{Job}
 use Rattle.home_types.specs.declared.kinds.Kind.{Kind}
 use Rattle.hub_core.proofs.calls.Departures.{one_for}
-use Rattle.hub_core.proofs.kept.Hands.{run_above}
 use Rattle.hub_core.proofs.kept.KeptByModel.{probe_counted, restored_fits, undo_ordered}
 use Rattle.hub_core.proofs.kept.ReturnsKept.{BringsFor, IsOut, out_is}
 use Rattle.hub_core.proofs.kept.WrittenValues.{nearest_has}
@@ -31,7 +30,7 @@ use Rattle.hub_core.proofs.steps.Takes.{command_is, live_run}
 use Rattle.hub_core.specs.HubKept.{is_of_run}
 use Rattle.hub_core.specs.HubSteps.{command_task, task_of}
 use Rattle.hub_core.specs.HubsKept.{FitsOut, HubIsKept}
-use Rattle.hub_core.specs.OpenHubs.{OpenHub, configuration_of, grip_in, held_in, progress_at}
+use Rattle.hub_core.specs.OpenHubs.{OpenHub, configuration_of, held_in}
 use Rattle.lock_leasing.specs.declared.purposes.Purpose.TheVariants.{Commands, Probes, Undoes}
 use Rattle.lock_leasing.specs.declared.purposes.Purpose.{Purpose}
 use Rattle.hub_core.specs.Openings.{names_values_of}
@@ -43,6 +42,8 @@ use Rattle.std.proofs.lemmas.Grind.{common_steps}
 use Rattle.std.proofs.lemmas.Option.{slice_get_within}
 use Rattle.std.specs.Prelude.{Bool, IsTrue, List, None, Option, Some, false, if◌then◌else◌, is_none, length, nat_lt, not, true, ℕ, ◌&&◌, ◌<◌, ◌≡◌, ◌≤◌}
 use Rattle.window_order.proofs.Cited.{IsRead, below_home, read_facts}
+use Rattle.window_devices.proofs.Cited.{run_above}
+use Rattle.window_devices.specs.KnownDevices.{grip_in, progress_at}
 
 -- For what it is out
 
@@ -64,7 +65,6 @@ pub record IsForCommand {D : Type 0} (s : OpenHub D) (slip : Slip) (task : Task)
   pub grip : (configuration_of s).grips slip.device.0 ≡ Some (record { maker = slip.maker; purpose = Commands k })
   pub run : is_run s.setting.runs slip.maker ≡ true
   pub next : k ≡ next_of (read_of (configuration_of s)) slip.maker
-  pub few : k < 64
   pub within : k < length (commands_of s.setting.runs slip.maker)
   pub on : (command_at s.setting.runs slip.maker k).device.0 ≡ slip.device.0
   pub does : task ≡ command_task (configuration_of s) slip.maker (command_at s.setting.runs slip.maker k)
@@ -101,7 +101,6 @@ for_command shows s slip task k kept there purpose =
       grip = grip;
       run = live_run w n r read.shaped (out.1.live);
       next = out.1.number;
-      few = let least : length (commands_of w.runs r) ≤ 64 = kept.configuration.opens.few_commands r in omega (arith, inside, least, out.1.number);
       within = omega (arith, inside, out.1.number);
       on = on;
       does = does;

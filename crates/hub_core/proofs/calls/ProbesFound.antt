@@ -29,19 +29,20 @@ use Rattle.hub_core.proofs.calls.OutFor.{IsFor, probe_purpose}
 use Rattle.hub_core.proofs.calls.Turning.{Falls, Rises, TellsTurn, fallen_number, may_fall, may_rise, risen_number, tells_may}
 use Rattle.hub_core.proofs.kept.EventsTold.{event_told, lost_told, probe_commands, sound_is}
 use Rattle.hub_core.proofs.kept.FallenOrders.{weak_place}
-use Rattle.hub_core.proofs.kept.Finds.{none_does}
+use Rattle.window_devices.proofs.Cited.{none_does}
 use Rattle.hub_core.proofs.kept.OrderSteps.{read_more}
 use Rattle.hub_core.proofs.kept.ProbeSteps.{order_fell, order_lost, order_probe_home, order_rose}
 use Rattle.hub_core.proofs.kept.TableFits.{either_model}
 use Rattle.hub_core.proofs.steps.Calls.{back_entries, dead_entries}
-use Rattle.hub_core.specs.Away.{IsHomeAgain, events_after, with_hand}
-use Rattle.hub_core.specs.HubsKept.{HandsAre, IsWhole, open_of}
+use Rattle.window_devices.specs.Away.{HandsAre, IsHomeAgain, with_hand}
+use Rattle.window_devices.specs.KnownDevices.{events_after, progress_at}
+use Rattle.hub_core.specs.HubsKept.{IsWhole, open_of}
 use Rattle.hub_core.specs.KeptOrders.{HasFallen, HasRisen, IsLostTo, MayTurn, OrderIsBeside, hand_of}
-use Rattle.hub_core.specs.OpenHubs.{OpenHub, configuration_of, held_in, progress_at}
+use Rattle.hub_core.specs.OpenHubs.{OpenHub, configuration_of, held_in}
 use Rattle.hub_core.specs.Steps.{probe_entries}
-use Rattle.hub_core.specs.declared.away.Away.{Away}
+use Rattle.window_devices.specs.declared.away.Away.{Away}
 use Rattle.window_order.specs.declared.kept_orders.KeptOrder.{KeptOrder}
-use Rattle.hub_core.specs.declared.known.Events.{Events}
+use Rattle.window_devices.specs.declared.known.Events.{Events}
 use Rattle.hub_core.specs.declared.open_windows.OpenWindow.TheInside.{Inside}
 use Rattle.lock_leasing.specs.declared.purposes.Purpose.TheVariants.{Commands, Probes, Undoes}
 use Rattle.lock_leasing.specs.declared.purposes.Purpose.{Purpose}

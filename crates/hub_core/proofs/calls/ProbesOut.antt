@@ -12,23 +12,24 @@ use Rattle.history_book.specs.Settings.{is_device, is_weak}
 use Rattle.hub_core.proofs.calls.Departures.{IsGone, few_tickets, gone_carries, gone_configuration, gone_grips, gone_next, gone_shows, gone_whole, gone_window, gone_within, has_room, home_place}
 use Rattle.command_rules.specs.Rosters.{device_no}
 use Rattle.home_types.specs.declared.numbers.DeviceNo.{DeviceNo}
-use Rattle.hub_core.specs.Away.{IsSent, MaySend}
-use Rattle.hub_core.proofs.kept.Hands.{probe_goes}
+use Rattle.window_devices.specs.Away.{HandsAre, IsSent, MaySend}
+use Rattle.window_devices.proofs.Cited.{probe_goes}
 use Rattle.hub_core.proofs.kept.ProbeSteps.{order_probe_out}
 use Rattle.hub_core.proofs.kept.KeptByModel.{probe_taken_kept}
 use Rattle.hub_core.proofs.kept.TableStands.{stand_told}
 use Rattle.hub_core.proofs.calls.HubOrders.{standing_whole}
 use Rattle.hub_core.specs.HubCalls.{IsProbed, SameWindow}
 use Rattle.hub_core.specs.KeptByModel.{IsKeptByModel}
-use Rattle.hub_core.specs.HubSteps.{ProbeTaken, Probed, take_probe, carrying}
-use Rattle.hub_core.specs.HubsKept.{HandsAre, IsWhole, open_of}
+use Rattle.hub_core.specs.HubSteps.{ProbeTaken, Probed, carrying, take_probe}
+use Rattle.hub_core.specs.HubsKept.{IsWhole, open_of}
 use Rattle.hub_core.specs.KeptOrders.{OrderIsBeside}
-use Rattle.hub_core.specs.OpenHubs.{OpenHub, configuration_of, held_in, hub_state_of, progress_at}
+use Rattle.hub_core.specs.OpenHubs.{OpenHub, configuration_of, held_in, hub_state_of}
+use Rattle.window_devices.specs.KnownDevices.{progress_at}
 use Rattle.history_book.specs.ReadHistories.{read_in}
 use Rattle.hub_core.specs.Steps.{after_take_probe, may_probe, probe_grip, restored}
 use Rattle.hub_core.specs.declared.open_windows.OpenWindow.TheInside.{Inside}
 use Rattle.window_order.specs.declared.kept_orders.KeptOrder.{KeptOrder}
-use Rattle.hub_core.specs.declared.known.DeviceProgress.{DeviceProgress}
+use Rattle.window_devices.specs.declared.known.DeviceProgress.{DeviceProgress}
 use Rattle.lock_leasing.specs.declared.purposes.Purpose.TheVariants.{Probes}
 use Rattle.lineage_table.specs.Accesses.{IsDisciplined, value_standing}
 use Rattle.lineage_table.specs.Lineages.{accesses_at, lineage_at}
@@ -71,8 +72,7 @@ restores {D = D} h s d value up seen disciplined device up_is down value_is stro
     as_told : LineageIsKept (point h.history.setting (read_in h.history) (configuration_of (open_of h)).grips) d (lineage_at h.order.table d) → Some value ≡ restored (configuration_of (open_of h)) d
     as_told own =
         ap Some (value_is ∙ stand_told h.history.setting (read_in h.history) (configuration_of (open_of h)).grips d (lineage_at h.order.table d)
-        (facts_of (configuration_of (open_of h)) h.order.table h.order.line.marks h.history.history h.history.setting.runs
-        (standing_whole h disciplined strong k)) strong own)
+        (facts_of (configuration_of (open_of h)) _ (standing_whole h disciplined strong k)) strong own)
         ∙ sym (ap (λ b. if b then None else Some (standing_value (point h.history.setting (read_in h.history) (configuration_of (open_of h)).grips) d)) (sym own.up ∙ sym up_is ∙ down))
 
 -- .. under the weak model where it is known to stand

@@ -32,7 +32,8 @@ use Rattle.hub_core.proofs.steps.Gives.{told_access}
 use Rattle.hub_core.specs.HubsKept.{IsWhole, open_of}
 use Rattle.hub_core.specs.KeptOrders.{OrderIsBeside}
 use Rattle.window_order.specs.KeptOrders.{MayNote, is_first, noted_first}
-use Rattle.hub_core.specs.OpenHubs.{configuration_of, held_in, progress_at}
+use Rattle.hub_core.specs.OpenHubs.{configuration_of, held_in}
+use Rattle.window_devices.specs.KnownDevices.{progress_at}
 use Rattle.history_book.specs.ReadHistories.{HistoryState, read_in, with_doom, with_entry}
 use Rattle.hub_core.specs.declared.open_windows.OpenWindow.TheInside.{Inside}
 use Rattle.window_order.specs.declared.kept_orders.KeptOrder.{KeptOrder}

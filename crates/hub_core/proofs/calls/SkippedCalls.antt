@@ -24,7 +24,7 @@ use Rattle.hub_core.specs.declared.open_windows.OpenWindow.TheInside.{Inside}
 use Rattle.lineage_table.specs.Lineages.{lineage_at, with_lineage}
 use Rattle.lock_leasing.specs.Configurations.{Grips}
 use Rattle.std.proofs.Common.{ap, arith, refl, subst, sym, ◌∙◌}
-use Rattle.std.specs.Prelude.{Bool, false, if◌then◌else◌, length, not, true, ℕ, ◌<◌, ◌||◌, ◌≡◌, ◌≤◌}
+use Rattle.std.specs.Prelude.{Bool, false, if◌then◌else◌, length, not, true, ℕ, ◌<◌, ◌||◌, ◌≡◌}
 use Rattle.window_order.proofs.Cited.{below_home}
 use Rattle.window_order.specs.TableChanges.{is_done_there}
 
@@ -33,7 +33,6 @@ pub record MaySkip {D : Type 0} (h : Inside D) (r k : ℕ) : Type 0 where
   pub run : is_run h.history.setting.runs r ≡ true
   pub number : k ≡ next_of (read_in h.history) r
   pub within : k < length (commands_of h.history.setting.runs r)
-  pub few : k < 64
   pub homed : (command_at h.history.setting.runs r k).device.0 < length h.order.table
   pub turn : is_weak h.history.setting.mode ≡ false → IsUnreleased r (lineage_at h.order.table (command_at h.history.setting.runs r k).device.0)
 
@@ -42,7 +41,6 @@ may_skip h r m k is whole = record {
   run = live_run w n r (read_whole h whole).shaped skip.live;
   number = skip.number;
   within = skip.within;
-  few = let least : length (commands_of w.runs r) ≤ 64 = whole.shown.configuration.opens.few_commands r in omega (arith, skip.within, least);
   homed = subst (λ x. (command_at w.runs r x).device.0 < length h.order.table) (sym skip.number) (omega (arith, below, whole.order.table_is.devices));
   turn = λ strong. subst (λ x. IsUnreleased r (lineage_at h.order.table (command_at w.runs r x).device.0)) (sym skip.number)
       (may_leave w n (configuration_of (open_of h)).grips (held_in (open_of h)) r h.order.table (skip.skipped strong) below (whole.order.table_is.ordered strong)).1;

@@ -23,13 +23,13 @@ use Rattle.hub_core.proofs.kept.Sizes.{line_fits}
 use Rattle.hub_core.proofs.kept.TableFits.{counted_told, no_detector}
 use Rattle.hub_core.proofs.steps.Afters.{read_with}
 use Rattle.hub_core.proofs.steps.Calls.{is_up_for}
-use Rattle.hub_core.specs.Away.{events_after, turned}
+use Rattle.window_devices.specs.KnownDevices.{events_after, progress_at, turned}
 use Rattle.hub_core.specs.Bounds.{most_items}
 use Rattle.hub_core.specs.HubsKept.{IsWhole, open_of}
 use Rattle.hub_core.specs.KeptOrders.{MayTurn}
-use Rattle.hub_core.specs.OpenHubs.{configuration_of, events_in, held_in, progress_at}
+use Rattle.hub_core.specs.OpenHubs.{configuration_of, events_in, held_in}
 use Rattle.lock_leasing.specs.declared.purposes.Purpose.{Purpose}
-use Rattle.hub_core.specs.declared.known.Events.{Events}
+use Rattle.window_devices.specs.declared.known.Events.{Events}
 use Rattle.hub_core.specs.declared.open_windows.OpenWindow.TheInside.{Inside}
 use Rattle.lock_leasing.specs.Configurations.{Grips, point, read_of}
 use Rattle.serial_line.specs.Marks.{Mark, stands as stands_item}

@@ -7,7 +7,8 @@ use Rattle.history_book.specs.Settings.{Setting}
 use Rattle.history_book.specs.declared.records.WindowRecord.{WindowRecord}
 use Rattle.hub_core.specs.Homes.{HomeState}
 use Rattle.hub_core.specs.HubCalls.{HomeAfter, HubStands, NoneFails, RunsHaveEnded, SameWindow, WindowIsClosed, probes_taken}
-use Rattle.hub_core.specs.OpenHubs.{OpenHub, progress_at}
+use Rattle.hub_core.specs.OpenHubs.{OpenHub}
+use Rattle.window_devices.specs.KnownDevices.{progress_at}
 use Rattle.hub_core.specs.WindowWays.{WindowIsWorked}
 use Rattle.legal_days.specs.LegalWindows.{IsLegalWindow}
 use Rattle.std.proofs.Common.{ap, subst, sym, ◌∙◌}

@@ -19,7 +19,7 @@ use Rattle.home_types.specs.declared.commands.View.TheVariants.{Down as ViewedDo
 use Rattle.home_types.specs.declared.items.Item.TheVariants.{Failed}
 use Rattle.home_types.specs.declared.numbers.DeviceNo.{DeviceNo}
 use Rattle.hub_core.proofs.kept.EventsTold.{event_told, line_size, sound_is}
-use Rattle.hub_core.proofs.kept.Finds.{none_found}
+use Rattle.window_devices.proofs.Cited.{none_found}
 use Rattle.hub_core.proofs.kept.OrderSteps.{entry_kept, length_with, may_note, order_answered_weakly, read_more}
 use Rattle.hub_core.specs.KeptOrders.{HasFallen, IsOrderOf, OrderIsBeside}
 use Rattle.window_order.specs.KeptOrders.{MayNote, is_first, noted_first}

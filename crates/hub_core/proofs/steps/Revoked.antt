@@ -5,7 +5,7 @@ use Rattle.history_book.specs.Settings.{Setting}
 use Rattle.history_book.specs.declared.entries.Cause.TheVariants.{Revoked}
 use Rattle.home_types.specs.Commands.{holds}
 use Rattle.home_types.specs.declared.commands.Command.{Command}
-use Rattle.hub_core.proofs.kept.Finds.{find_same}
+use Rattle.window_devices.proofs.Cited.{find_same}
 use Rattle.legal_days.specs.JustifiedAborts.{shows}
 use Rattle.lock_leasing.specs.Configurations.{Grips, Point, no_grips, point}
 use Rattle.lock_leasing.specs.Words.{has_effect, is_overdue, lease_deadline, live_before, overdue_for, stamp_of}

@@ -7,7 +7,7 @@ use Rattle.history_book.specs.Settings.{Setting}
 use Rattle.history_book.specs.WellFormed.{IsWellFormed}
 use Rattle.home_types.specs.Commands.{holds}
 use Rattle.home_types.specs.declared.commands.Command.{Command}
-use Rattle.hub_core.proofs.kept.Finds.{not_none}
+use Rattle.window_devices.proofs.Cited.{not_none}
 use Rattle.hub_core.proofs.steps.Choices.{Acts}
 use Rattle.hub_core.proofs.steps.GiveCauses.{next_pends}
 use Rattle.hub_core.proofs.steps.Takes.{live_run}

@@ -16,8 +16,7 @@ use Rattle.home_types.specs.declared.numbers.RunNo.{RunNo}
 use Rattle.device_gate.specs.declared.slips.Told.{Told}
 use Rattle.device_gate.specs.declared.slips.Told.TheVariants.{Died, Sensed, Worked}
 use Rattle.blocked_runs.proofs.Cited.{all_left}
-use Rattle.hub_core.proofs.kept.Finds.{find_same}
-use Rattle.hub_core.proofs.kept.Hands.{IsOf, others_hold}
+use Rattle.window_devices.proofs.Cited.{IsOf, find_same, others_hold}
 use Rattle.hub_core.proofs.steps.Choices.{decide_is}
 use Rattle.hub_core.proofs.steps.GiveCauses.{next_pends}
 use Rattle.hub_core.proofs.waiting.AtCommands.{at_command}

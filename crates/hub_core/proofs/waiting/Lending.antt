@@ -1,9 +1,8 @@
 -- Whether a lease may fall due on the device of a run's next command, as the code asks it, is what the definition says.
-use Rattle.command_rules.specs.Rosters.{Run, is_on, run_no}
+use Rattle.command_rules.specs.Rosters.{is_on, run_no}
 use Rattle.history_book.specs.Histories.{entries_of}
 use Rattle.history_book.specs.Settings.{is_weak, scheduler_of}
 use Rattle.history_book.specs.WellFormed.{IsWellFormed}
-use Rattle.history_book.specs.declared.entries.Kept.{Kept}
 use Rattle.home_types.specs.declared.modes.Mode.{Mode}
 use Rattle.home_types.specs.declared.modes.Scheduler.TheVariants.{Fcfs, JustInTime, Timeline}
 use Rattle.home_types.specs.declared.modes.Scheduler.{Scheduler}
@@ -14,15 +13,13 @@ use Rattle.hub_core.proofs.waiting.AtCommands.{IsAt, at_command}
 use Rattle.hub_core.specs.BlockedRuns.{NeverRevokes, next_device}
 use Rattle.hub_core.specs.KeptByModel.{IsKeptByModel}
 use Rattle.hub_core.specs.Openings.{is_mode}
-use Rattle.lineage_table.specs.Lineages.{LineageState}
 use Rattle.lock_leasing.specs.Configurations.{Configuration, point_of, read_of}
 use Rattle.lock_leasing.specs.Leases.{IsNeverOverdue, overdue_lease}
-use Rattle.lock_leasing.specs.Standings.{Asking, IsAsking, IsStandingOf, MayAsk}
+use Rattle.lock_leasing.specs.Standings.{Asking, IsAsking, IsStandingOf, MayAsk, WindowParts}
 use Rattle.lock_leasing.specs.Words.{lease_deadline}
-use Rattle.serial_line.specs.Marks.{Mark}
 use Rattle.std.proofs.Common.{ap, arith, inl, inr, refl, sym, ◌∙◌}
 use Rattle.std.proofs.lemmas.Grind.{common_steps}
-use Rattle.std.specs.Prelude.{Bool, IsTrue, List, None, Some, false, is_some, option_map, true, unwrap_or, ℕ, ◌==◌, ◌≡◌, ◌⊎◌}
+use Rattle.std.specs.Prelude.{Bool, IsTrue, None, Some, false, is_some, option_map, true, unwrap_or, ℕ, ◌==◌, ◌≡◌, ◌⊎◌}
 
 -- The scheduler
 
@@ -74,10 +71,10 @@ asks_for s r d formed next =
     record { live = at.act.live; sound = ap is_some at.sound; next = ap (λ o. unwrap_or (option_map (is_on d) o) false) at.next ∙ ap (λ e. e == d) at.device ∙ own }
 
 -- so it may be asked whether one may
-pub may_ask : (s : Configuration) (table : List LineageState) (line : List Mark) (history : List Kept) (runs : List Run) (r d : ℕ) → IsStandingOf s table line history runs → next_device s r ≡ Some d → MayAsk table line history runs r d
-may_ask s table line history runs r d parts next = Asking s parts (asks_for s r d parts.well_formed next)
+pub may_ask : (s : Configuration) (parts : WindowParts) (r d : ℕ) → IsStandingOf s parts → next_device s r ≡ Some d → MayAsk parts r d
+may_ask s parts r d stands next = Asking s stands (asks_for s r d stands.well_formed next)
 
 -- .. and where the answer is no, none does
-pub told_calm : (s : Configuration) (table : List LineageState) (line : List Mark) (history : List Kept) (runs : List Run) (r d : ℕ) (answer : Bool) → (answer ≡ false → IsNeverOverdue table line history runs r d) → IsStandingOf s table line history runs → next_device s r ≡ Some d → answer ≡ false
+pub told_calm : (s : Configuration) (parts : WindowParts) (r d : ℕ) (answer : Bool) → (answer ≡ false → IsNeverOverdue parts r d) → IsStandingOf s parts → next_device s r ≡ Some d → answer ≡ false
     → NeverRevokes s r d
-told_calm s table line history runs r d answer told parts next none strong asks = told none s parts (asks_for s r d parts.well_formed next)
+told_calm s parts r d answer told stands next none strong asks = told none s stands (asks_for s r d stands.well_formed next)

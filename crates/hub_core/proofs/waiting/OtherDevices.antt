@@ -12,7 +12,7 @@ use Rattle.history_book.specs.declared.entries.Entry.{Entry}
 use Rattle.history_book.specs.declared.entries.Kept.{Kept}
 use Rattle.home_types.specs.Commands.{holds, reads}
 use Rattle.home_types.specs.declared.commands.Command.{Command}
-use Rattle.hub_core.proofs.kept.Finds.{none_there}
+use Rattle.window_devices.proofs.Cited.{none_there}
 use Rattle.hub_core.proofs.waiting.QuietEntries.{IsNextOn, SameFor, SameRun, last_placing_ends_no_wait, none_behind, quiet_along, write_same}
 use Rattle.hub_core.specs.BlockedRuns.{EndNoWait, IsBlocked, IsElsewhere, is_wait, next_device}
 use Rattle.hub_core.specs.Steps.{Absent, Choice, HandsOut, Moves, Over, Waits, behind_case, busy_case, command_cases, decide, decide_answered, decide_arrived, decide_command, decide_doomed, dirty_case, down_case, down_entries, first_case, only_if, overdue_case, skip_entries, strict_case}

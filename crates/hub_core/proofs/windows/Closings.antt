@@ -22,7 +22,7 @@ use Rattle.home_types.specs.declared.items.Item.{Item}
 use Rattle.home_types.specs.declared.items.Item.TheVariants.{Back, Failed, Ran}
 use Rattle.home_types.specs.declared.modes.Scheduler.TheVariants.{Fcfs}
 use Rattle.home_types.specs.declared.worlds.Stand.{Stand}
-use Rattle.hub_core.proofs.kept.Finds.{none_does}
+use Rattle.window_devices.proofs.Cited.{none_does}
 use Rattle.hub_core.proofs.kept.Followed.{committed_behind}
 use Rattle.hub_core.proofs.kept.Sizes.{run_there, run_within}
 use Rattle.hub_core.proofs.windows.CalmHistories.{IsPlain, NoneFailed, dooms_are_refuted, is_plain, is_refuted}

@@ -17,7 +17,7 @@ use Rattle.home_types.specs.declared.items.Item.TheVariants.{Back, Failed, Ran}
 use Rattle.home_types.specs.declared.modes.Scheduler.TheVariants.{Fcfs, JustInTime, Timeline}
 use Rattle.home_types.specs.declared.modes.Scheduler.{Scheduler}
 use Rattle.home_types.specs.declared.numbers.RunNo.{RunNo}
-use Rattle.hub_core.proofs.kept.Finds.{find_least, none_does, none_found, not_none}
+use Rattle.window_devices.proofs.Cited.{find_least, none_does, none_found, not_none}
 use Rattle.hub_core.proofs.kept.Sizes.{run_there, run_within}
 use Rattle.hub_core.proofs.windows.StrongChoices.{command_current, live_stands}
 use Rattle.hub_core.proofs.steps.Causes.{never_strict}

@@ -1,4 +1,4 @@
-use Rattle.hub_core.specs.OpenHubs.{progress_at}
+use Rattle.window_devices.specs.KnownDevices.{progress_at}
 use Rattle.hub_threads.proofs.windows.none_is_left.Given as goal
 use Rattle.std.proofs.Common.{ℕ, ◌<◌, ◌≡◌}
 

@@ -1,11 +1,10 @@
-use Rattle.command_rules.specs.Rosters.{runs_of}
 use Rattle.jit_scheduler.proofs.denials.find_denial.Given as goal
 use Rattle.jit_scheduler.specs.Denials.{denial_on}
 use Rattle.std.proofs.Common.{None, length, ℕ, ◌-◌, ◌<◌, ◌≡◌}
 
 -- no device so far is denied
 abbrev pub invariant-devices : goal.invariant-devices
-invariant-devices l = (e : ℕ) → e < l.from.0 → denial_on l.s.table.now l.s.line.now.marks l.s.book.now.items (runs_of l.s.roster.now) l.r.0 l.place e ≡ None
+invariant-devices l = (e : ℕ) → e < l.from.0 → denial_on l.s l.r.0 l.place e ≡ None
 
 abbrev pub decreases-devices : goal.decreases-devices
-decreases-devices l = length l.s.table.now - l.from.0
+decreases-devices l = length l.s.table - l.from.0

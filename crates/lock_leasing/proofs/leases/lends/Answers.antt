@@ -1,4 +1,3 @@
-use Rattle.command_rules.specs.Rosters.{runs_of}
 use Rattle.lock_leasing.proofs.Borrowers.{borrowed_is, unborrowed}
 use Rattle.lock_leasing.proofs.leases.lends.Goals as goal
 use Rattle.lock_leasing.specs.Leases.{IsBorrowedFrom}
@@ -6,8 +5,8 @@ use Rattle.std.proofs.Common.{subst, sym}
 
 pub returns-clause-exact : goal.returns-clause-exact
 returns-clause-exact c =
-    subst (λ b. IsBorrowedFrom c.args.s.now.table.now c.args.s.now.line.now.marks c.args.s.now.book.now.items (runs_of c.args.s.now.roster.now) c.args.w.0 c.args.d.0 b) (sym c.is_some.ensures)
-    (borrowed_is c.args.s.now.table.now c.args.s.now.line.now.marks c.args.s.now.book.now.items (runs_of c.args.s.now.roster.now) c.args.w.0 c.args.d.0 c.find_borrower.result c.find_borrower.ensures)
+    subst (λ b. IsBorrowedFrom c.args.s.now c.args.w.0 c.args.d.0 b) (sym c.is_some.ensures)
+    (borrowed_is c.args.s.now c.args.w.0 c.args.d.0 c.find_borrower.result c.find_borrower.ensures)
 
 pub returns-clause-never : goal.returns-clause-never
-returns-clause-never c = unborrowed c.args.s.now.table.now c.args.s.now.line.now.marks c.args.s.now.book.now.items (runs_of c.args.s.now.roster.now) c.args.w.0 c.args.d.0 c.is_some.result (returns-clause-exact c)
+returns-clause-never c = unborrowed c.args.s.now c.args.w.0 c.args.d.0 c.is_some.result (returns-clause-exact c)

@@ -4,5 +4,5 @@ use Rattle.std.proofs.Common.{rules, ◌<◌, ◌^◌}
 
 pub returns : goal.returns
 returns c q =
-    let small : c.word_of.result < 2 ^ 64 = search rules in
-    without_one c.args.word c.word_of.result c.args.r q small c.word_of.ensures.only c.word_of.ensures.own
+    let small : c.bit_of.result < 2 ^ 64 = search rules in
+    without_one c.args.word c.bit_of.result c.args.r q small c.bit_of.ensures.only c.bit_of.ensures.own

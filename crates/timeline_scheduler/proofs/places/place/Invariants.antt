@@ -1,4 +1,3 @@
-use Rattle.command_rules.specs.Rosters.{runs_of}
 use Rattle.std.proofs.Common.{not, ◌≡◌}
 use Rattle.std.specs.Prelude.{count_by}
 use Rattle.timeline_scheduler.proofs.Rounds.{IsRound}
@@ -6,7 +5,7 @@ use Rattle.timeline_scheduler.proofs.places.place.Given as goal
 
 -- the set so far is closed, holds the base, and is part of the timeline's
 abbrev pub invariant-rounds : goal.invariant-rounds
-invariant-rounds l = IsRound l.s.table.now l.s.line.now.marks l.s.book.now.items (runs_of l.s.roster.now) l.r.0 l.moment l.scratch.before l.scratch.slots × (l.scratch.items ≡ l.initial.scratch.items)
+invariant-rounds l = IsRound l.s l.r.0 l.moment l.scratch.before l.scratch.slots × (l.scratch.items ≡ l.initial.scratch.items)
 
 abbrev pub decreases-rounds : goal.decreases-rounds
 decreases-rounds l = count_by not l.scratch.before

@@ -1,4 +1,3 @@
-use Rattle.command_rules.specs.Rosters.{runs_of}
 use Rattle.std.proofs.Common.{length, ◌-◌, ◌≡◌, ◌≤◌}
 use Rattle.std.specs.List.{range_with_len}
 use Rattle.std.specs.Prelude.{find}
@@ -9,6 +8,6 @@ use Rattle.visibility_models.specs.Searches.{first_down_for, is_down_for}
 abbrev pub invariant-devices : goal.invariant-devices
 invariant-devices l = record {
   few : l.d-end ≤ 65536;
-  size : l.d-end ≡ length l.s.table.now;
-  left : first_down_for l.s.table.now l.s.line.now.marks (runs_of l.s.roster.now) l.r.0 ≡ find (is_down_for l.s.table.now l.s.line.now.marks (runs_of l.s.roster.now) l.r.0) (range_with_len l.d (l.d-end - l.d));
+  size : l.d-end ≡ length l.s.table;
+  left : first_down_for l.s.table l.s.line l.s.runs l.r.0 ≡ find (is_down_for l.s.table l.s.line l.s.runs l.r.0) (range_with_len l.d (l.d-end - l.d));
 }

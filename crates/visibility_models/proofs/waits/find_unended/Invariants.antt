@@ -1,4 +1,3 @@
-use Rattle.command_rules.specs.Rosters.{runs_of}
 use Rattle.lock_leasing.specs.Waits.{model_bars}
 use Rattle.serial_line.specs.Marks.{items_of}
 use Rattle.std.proofs.Common.{drop, length, ◌≡◌}
@@ -8,7 +7,7 @@ use Rattle.visibility_models.specs.Searches.{first_unended_before}
 -- no item so far is the run, nor one for which it waits
 abbrev pub invariant-items : goal.invariant-items
 invariant-items l = record {
-  size : l.at-end ≡ length l.s.line.now.marks;
-  left : first_unended_before (model_bars l.model (runs_of l.s.roster.now) l.r.0) l.s.book.now.items l.r.0 (items_of l.s.line.now.marks)
-      ≡ first_unended_before (model_bars l.model (runs_of l.s.roster.now) l.r.0) l.s.book.now.items l.r.0 (drop l.at (items_of l.s.line.now.marks));
+  size : l.at-end ≡ length l.s.line;
+  left : first_unended_before (model_bars l.model l.s.runs l.r.0) l.s.history l.r.0 (items_of l.s.line)
+      ≡ first_unended_before (model_bars l.model l.s.runs l.r.0) l.s.history l.r.0 (drop l.at (items_of l.s.line));
 }

@@ -1,4 +1,3 @@
-use Rattle.command_rules.specs.Rosters.{runs_of}
 use Rattle.lock_leasing.specs.Waits.{model_bars}
 use Rattle.std.proofs.Common.{sym, ◌∙◌}
 use Rattle.visibility_models.proofs.Fronts.{waits_from_front}
@@ -7,16 +6,15 @@ use Rattle.visibility_models.proofs.StrictWaits.{wait_is}
 use Rattle.visibility_models.proofs.waits.may_go.Goals as goal
 
 pub find_unended-requires-clause-run : goal.find_unended-requires-clause-run
-find_unended-requires-clause-run c = (on_its_way c.args.model c.args.s.now.table.now c.args.s.now.line.now.marks c.args.s.now.book.now.items (runs_of c.args.s.now.roster.now) c.args.r c.requires (sym c.is_strict.ensures ∙ c.if-is_strict.true)).run
+find_unended-requires-clause-run c = (on_its_way c.args.model c.args.s.now c.args.r c.requires (sym c.is_strict.ensures ∙ c.if-is_strict.true)).run
 
 pub find_unended-requires-clause-known : goal.find_unended-requires-clause-known
-find_unended-requires-clause-known c = (on_its_way c.args.model c.args.s.now.table.now c.args.s.now.line.now.marks c.args.s.now.book.now.items (runs_of c.args.s.now.roster.now) c.args.r c.requires (sym c.is_strict.ensures ∙ c.if-is_strict.true)).others
+find_unended-requires-clause-known c = (on_its_way c.args.model c.args.s.now c.args.r c.requires (sym c.is_strict.ensures ∙ c.if-is_strict.true)).others
 
 pub find_unended-requires-clause-past : goal.find_unended-requires-clause-past
 find_unended-requires-clause-past c =
-    waits_from_front (model_bars c.args.model (runs_of c.args.s.now.roster.now) c.args.r.0) c.args.model c.args.s.now.table.now c.args.s.now.line.now.marks
-    c.args.s.now.book.now.items (runs_of c.args.s.now.roster.now) c.args.r.0 c.requires (sym c.is_strict.ensures ∙ c.if-is_strict.true)
+    waits_from_front (model_bars c.args.model c.args.s.now.runs c.args.r.0) c.args.model c.args.s.now c.args.r.0 c.requires (sym c.is_strict.ensures ∙ c.if-is_strict.true)
 
 pub returns-then-is_strict-clause-wait : goal.returns-then-is_strict-clause-wait
 returns-then-is_strict-clause-wait c = λ s is.
-    c.find_unended.ensures ∙ wait_is c.args.model s c.args.r.0 c.args.s.now.table.now c.args.s.now.line.now.marks c.args.s.now.book.now.items (runs_of c.args.s.now.roster.now) is
+    c.find_unended.ensures ∙ wait_is c.args.model s c.args.r.0 c.args.s.now is

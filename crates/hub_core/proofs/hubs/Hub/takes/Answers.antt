@@ -1,6 +1,6 @@
 use Rattle.hub_core.proofs.calls.HubLaws.{command_out}
 use Rattle.hub_core.proofs.hubs.Hub.takes.Goals as goal
-use Rattle.hub_core.specs.declared.known.DeviceProgress.{DeviceProgress}
+use Rattle.window_devices.specs.declared.known.DeviceProgress.{DeviceProgress}
 use Rattle.std.proofs.Common.{ap, sym, ◌∙◌}
 
 pub command-requires : goal.command-requires

@@ -8,7 +8,6 @@ use Rattle.hub_core.specs.HubsKept.{open_of}
 use Rattle.hub_core.specs.OpenHubs.{configuration_of}
 use Rattle.history_book.specs.ReadHistories.{read_in}
 use Rattle.hub_core.specs.declared.decisions.Chosen.TheVariants.{Aborts}
-use Rattle.std.proofs.Common.{ap, ◌∙◌}
 use Rattle.window_order.proofs.Cited.{live_stands}
 
 pub withdraw-requires-clause-run : goal.withdraw-requires-clause-run

@@ -14,7 +14,7 @@ admit-requires g c = Admitting (configuration_of c.args.self.now) c.standing.ens
 
 pub returns-in-At : goal.returns-in-At
 returns-in-At g c =
-    let size = standing_size (configuration_of c.args.self.now) _ _ _ _ c.standing.ensures in
+    let size = standing_size (configuration_of c.args.self.now) _ c.standing.ensures in
     let within = c.in-At.ensures.within in
     placed_so (read_of (configuration_of c.args.self.now)).line c.args.r.0 c.args.moment c.in-At.place _ (omega (arith, within, size)) (c.in-At.ensures.placing (configuration_of c.args.self.now) c.standing.ensures c.requires.turn)
 

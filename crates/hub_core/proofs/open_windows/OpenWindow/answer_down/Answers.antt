@@ -11,7 +11,7 @@ use Rattle.hub_core.proofs.steps.LastAnswers.{just_answered}
 use Rattle.history_book.specs.ReadHistories.{HistoryState}
 use Rattle.hub_core.specs.declared.decisions.Chosen.TheVariants.{AnswersDown}
 use Rattle.hub_core.specs.declared.open_windows.OpenWindow.TheInside.{Inside}
-use Rattle.std.proofs.Common.{ap, arith, refl, sym, ◌∙◌}
+use Rattle.std.proofs.Common.{ap, refl, sym, ◌∙◌}
 use Rattle.std.specs.Prelude.{None, Some}
 
 pub command-requires : goal.command-requires

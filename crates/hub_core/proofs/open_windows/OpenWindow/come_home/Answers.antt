@@ -1,8 +1,8 @@
 use Rattle.device_gate.specs.Calls.{has_died}
 use Rattle.hub_core.proofs.calls.HubReturns.{no_probe}
 use Rattle.hub_core.proofs.open_windows.OpenWindow.come_home.Goals as goal
-use Rattle.hub_core.specs.OpenHubs.{progress_at}
-use Rattle.hub_core.specs.declared.known.DeviceProgress.{DeviceProgress}
+use Rattle.window_devices.specs.KnownDevices.{progress_at}
+use Rattle.window_devices.specs.declared.known.DeviceProgress.{DeviceProgress}
 use Rattle.lock_leasing.specs.Configurations.{is_undo}
 use Rattle.std.proofs.Common.{ap, sym, ◌∙◌}
 

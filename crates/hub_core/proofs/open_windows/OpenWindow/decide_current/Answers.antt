@@ -11,12 +11,13 @@ test_touch-requires g c = Touching (configuration_of c.args.self.now) c.standing
 
 pub returns-in-Behind : goal.returns-in-Behind
 returns-in-Behind g c =
-    λ m. command_behind (point_of (configuration_of c.args.self.now)) c.args.r.0 c.args.k c.args.command c.in-Behind.d c.in-Behind.x (touch_said (configuration_of c.args.self.now) _ _ _
-    _ c.args.r.0 c.args.k c.args.command _ c.standing-standing.ensures c.requires.turn c.requires.command c.in-Behind.ensures)
+    λ m. command_behind (point_of (configuration_of c.args.self.now)) c.args.r.0 c.args.k c.args.command c.in-Behind.d c.in-Behind.x
+    (touch_said (configuration_of c.args.self.now) _ c.args.r.0 c.args.k c.args.command _ c.standing-standing.ensures c.requires.turn c.requires.command
+    c.in-Behind.ensures)
 
 pub returns-in-Dirty : goal.returns-in-Dirty
 returns-in-Dirty g c =
-    λ m. command_dirty (point_of (configuration_of c.args.self.now)) c.args.r.0 c.args.k c.args.command c.in-Dirty.d c.in-Dirty.x (touch_said (configuration_of c.args.self.now) _ _ _ _
+    λ m. command_dirty (point_of (configuration_of c.args.self.now)) c.args.r.0 c.args.k c.args.command c.in-Dirty.d c.in-Dirty.x (touch_said (configuration_of c.args.self.now) _
     c.args.r.0 c.args.k c.args.command _ c.standing-standing.ensures c.requires.turn c.requires.command c.in-Dirty.ensures)
 
 pub may_go-requires : goal.may_go-requires
@@ -24,12 +25,12 @@ may_go-requires g c = InOrder (configuration_of c.args.self.now) c.standing-stan
 
 pub returns-in-Some : goal.returns-in-Some
 returns-in-Some g c =
-    λ m. command_strict (point_of (configuration_of c.args.self.now)) c.args.r.0 c.args.k c.args.command c.in-Some.x (touch_said (configuration_of c.args.self.now) _ _ _ _ c.args.r.0
+    λ m. command_strict (point_of (configuration_of c.args.self.now)) c.args.r.0 c.args.k c.args.command c.in-Some.x (touch_said (configuration_of c.args.self.now) _ c.args.r.0
     c.args.k c.args.command _ c.standing-standing.ensures c.requires.turn c.requires.command c.in-Free.ensures)
-    (strict_said (configuration_of c.args.self.now) _ _ _ _ c.args.r.0 _ _ c.standing-standing.ensures (c.model.ensures ∙ ap (λ s. s.setting.mode.model) c.self.view_is) c.in-Some.ensures.wait)
+    (strict_said (configuration_of c.args.self.now) _ c.args.r.0 _ _ c.standing-standing.ensures (c.model.ensures ∙ ap (λ s. s.setting.mode.model) c.self.view_is) c.in-Some.ensures.wait)
 
 pub returns : goal.returns
 returns g c =
-    λ m. command_unbarred (point_of (configuration_of c.args.self.now)) c.args.r.0 c.args.k c.args.command _ (touch_said (configuration_of c.args.self.now) _ _ _ _ c.args.r.0 c.args.k
+    λ m. command_unbarred (point_of (configuration_of c.args.self.now)) c.args.r.0 c.args.k c.args.command _ (touch_said (configuration_of c.args.self.now) _ c.args.r.0 c.args.k
     c.args.command _ c.standing-standing.ensures c.requires.turn c.requires.command c.in-Free.ensures)
-    (strict_said (configuration_of c.args.self.now) _ _ _ _ c.args.r.0 _ _ c.standing-standing.ensures (c.model.ensures ∙ ap (λ s. s.setting.mode.model) c.self.view_is) c.in_default.ensures.wait) (c.decide_unbarred.ensures m)
+    (strict_said (configuration_of c.args.self.now) _ c.args.r.0 _ _ c.standing-standing.ensures (c.model.ensures ∙ ap (λ s. s.setting.mode.model) c.self.view_is) c.in_default.ensures.wait) (c.decide_unbarred.ensures m)

@@ -14,7 +14,7 @@ pub place-requires-clause-room : goal.place-requires-clause-room
 place-requires-clause-room g c = c.requires.scratch.devices ∙ sym c.standing-standing.ensures.its_table.devices
 
 pub place-requires-clause-items : goal.place-requires-clause-items
-place-requires-clause-items g c = standing_fits c.self.inside c.args.self.now _ _ _ _ c.args.scratch.now c.self.view_is c.standing-standing.ensures c.requires.scratch c.self.invariant
+place-requires-clause-items g c = standing_fits c.self.inside c.args.self.now _ c.args.scratch.now c.self.view_is c.standing-standing.ensures c.requires.scratch c.self.invariant
 
 pub returns-in-Timeline-clause-choice : goal.returns-in-Timeline-clause-choice
 returns-in-Timeline-clause-choice g c =

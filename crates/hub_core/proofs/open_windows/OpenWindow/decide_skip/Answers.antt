@@ -10,8 +10,8 @@ may_go-requires g c = InOrder (configuration_of c.args.self.now) c.standing-stan
 
 pub returns-in-Some : goal.returns-in-Some
 returns-in-Some g c = λ m. skip_waits (point_of (configuration_of c.args.self.now)) c.args.r.0 c.args.k c.in-Some.x
-    (strict_said (configuration_of c.args.self.now) _ _ _ _ c.args.r.0 _ _ c.standing-standing.ensures (c.model.ensures ∙ ap (λ s. s.setting.mode.model) c.self.view_is) c.in-Some.ensures.wait)
+    (strict_said (configuration_of c.args.self.now) _ c.args.r.0 _ _ c.standing-standing.ensures (c.model.ensures ∙ ap (λ s. s.setting.mode.model) c.self.view_is) c.in-Some.ensures.wait)
 
 pub returns-in-None : goal.returns-in-None
 returns-in-None g c = λ m. skip_goes (point_of (configuration_of c.args.self.now)) c.args.r.0 c.args.k
-    (strict_said (configuration_of c.args.self.now) _ _ _ _ c.args.r.0 _ _ c.standing-standing.ensures (c.model.ensures ∙ ap (λ s. s.setting.mode.model) c.self.view_is) c.in-None.ensures.wait)
+    (strict_said (configuration_of c.args.self.now) _ c.args.r.0 _ _ c.standing-standing.ensures (c.model.ensures ∙ ap (λ s. s.setting.mode.model) c.self.view_is) c.in-None.ensures.wait)

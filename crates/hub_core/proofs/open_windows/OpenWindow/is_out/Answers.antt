@@ -1,6 +1,7 @@
 use Rattle.hub_core.proofs.calls.HubChoices.{out_by_slip}
 use Rattle.hub_core.proofs.open_windows.OpenWindow.is_out.Goals as goal
-use Rattle.hub_core.specs.OpenHubs.{configuration_of, progress_at}
+use Rattle.hub_core.specs.OpenHubs.{configuration_of}
+use Rattle.window_devices.specs.KnownDevices.{progress_at}
 use Rattle.lock_leasing.specs.Configurations.{is_out}
 use Rattle.std.proofs.Common.{ap, ◌∙◌}
 

@@ -1,7 +1,7 @@
 use Rattle.hub_core.proofs.calls.ProbesOut.{restores, restores_weakly}
 use Rattle.hub_core.proofs.open_windows.OpenWindow.restored.Goals as goal
-use Rattle.hub_core.specs.OpenHubs.{progress_at}
-use Rattle.hub_core.specs.declared.known.DeviceProgress.{DeviceProgress}
+use Rattle.window_devices.specs.KnownDevices.{progress_at}
+use Rattle.window_devices.specs.declared.known.DeviceProgress.{DeviceProgress}
 use Rattle.std.proofs.Common.{ap, sym, ◌∙◌}
 
 pub returns-then-is_weak : goal.returns-then-is_weak

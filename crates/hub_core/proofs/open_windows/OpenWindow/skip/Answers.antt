@@ -7,8 +7,7 @@ use Rattle.hub_core.proofs.steps.LastAnswers.{just_answered}
 use Rattle.history_book.specs.ReadHistories.{HistoryState}
 use Rattle.hub_core.specs.declared.decisions.Chosen.TheVariants.{Skips}
 use Rattle.hub_core.specs.declared.open_windows.OpenWindow.TheInside.{Inside}
-use Rattle.std.proofs.Common.{ap, arith, refl, sym, ◌∙◌}
-use Rattle.std.specs.Prelude.{[], ◌∷◌}
+use Rattle.std.proofs.Common.{ap, refl, sym, ◌∙◌}
 
 pub command-requires : goal.command-requires
 command-requires g c = let may = may_skip c.self.inside c.args.r.0 c.args.moment c.args.k (chosen_here c.self.inside c.args.self.now c.args.r.0 c.args.moment (Skips c.args.k) c.self.view_is c.requires) c.self.invariant in record { run = may.run; there = may.within }

@@ -8,5 +8,6 @@ use Rattle.std.proofs.Common.{false, subst}
 
 pub returns : goal.returns
 returns g c =
-    subst (λ (t : OpenHub g.row.D.Denot). IsStandingOf (configuration_of t) c.self.inside.order.table c.self.inside.order.line.marks c.book.result.now.items (runs_of c.indexed_roster.result.now)) c.self.view_is
+    subst (λ (t : OpenHub g.row.D.Denot). IsStandingOf (configuration_of t)
+    (record { table = c.self.inside.order.table; line = c.self.inside.order.line.marks; history = c.book.result.now.items; runs = runs_of c.indexed_roster.result.now })) c.self.view_is
     (rw (c.book.ensures, c.indexed_roster.ensures) (standing_whole c.self.inside c.kept.ensures (strong_here c.self.inside c.args.self.now false c.self.view_is c.requires.strong) c.self.invariant))

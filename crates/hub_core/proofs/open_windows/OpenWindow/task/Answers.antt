@@ -1,5 +1,4 @@
 use Rattle.hub_core.proofs.open_windows.OpenWindow.task.Goals as goal
-use Rattle.std.proofs.Common.{ap}
 
 pub command_task-requires-clause-run : goal.command_task-requires-clause-run
 command_task-requires-clause-run g c = (c.requires.command c.in-Commands.k c.in-Commands.is).0

@@ -5,7 +5,7 @@ use Rattle.hub_core.proofs.calls.Deaths.{drop_follows, drop_may, drop_place, dro
 use Rattle.hub_core.proofs.calls.Homecomings.{CameHome, back_given, grip_back, may_come}
 use Rattle.hub_core.proofs.calls.HubReturns.{undone_value}
 use Rattle.hub_core.proofs.open_windows.OpenWindow.undo_died.Goals as goal
-use Rattle.hub_core.specs.OpenHubs.{progress_at}
+use Rattle.window_devices.specs.KnownDevices.{progress_at}
 use Rattle.hub_core.specs.declared.open_windows.OpenWindow.TheInside.{Inside}
 use Rattle.lock_leasing.specs.declared.purposes.Purpose.TheVariants.{Undoes}
 use Rattle.std.proofs.Common.{arith, refl}

@@ -1,5 +1,5 @@
 use Rattle.hub_core.specs.HubCalls.{grip_takes}
-use Rattle.hub_core.specs.OpenHubs.{grip_in, progress_at}
+use Rattle.window_devices.specs.KnownDevices.{grip_in, progress_at}
 use Rattle.run_replay.proofs.Acting.{done_of, full_now, given_keeps, hand_never, not_refused_now}
 use Rattle.run_replay.proofs.PlayerSteps.{given_steps, steps_now}
 use Rattle.run_replay.proofs.hands.Hands.act.Goals as goal

@@ -1,10 +1,12 @@
 use Rattle.command_rules.specs.Apart.{meet}
 use Rattle.command_rules.specs.ClosedSets.{chosen, closure}
-use Rattle.command_rules.specs.Rosters.{runs_of}
 use Rattle.home_types.specs.declared.items.Item.{Item}
+use Rattle.lock_leasing.specs.Standings.{WindowParts}
 use Rattle.serial_line.specs.Marks.{Mark, items_of}
-use Rattle.std.proofs.Common.{List, ap, arith, drop, length, refl, rules, subst, suc, sym, vec_len, ◌-◌, ◌<◌, ◌∙◌, ◌≡◌}
+use Rattle.std.proofs.Common.{List, ap, arith, drop, length, refl, rules, slice_get, subst, suc, sym, vec_len, ◌-◌, ◌<◌, ◌∙◌, ◌≡◌}
 use Rattle.std.proofs.lemmas.List.{length-map}
+use Rattle.std.specs.List.{list_any}
+use Rattle.std.specs.Prelude.{if◌then◌else◌, ◌||◌, ◌∷◌}
 use Rattle.timeline_scheduler.proofs.Closing.{all_closed, chosen_next, closed_next, none_chosen, none_closed}
 use Rattle.timeline_scheduler.proofs.ItemPlaces.{item_there, told_at}
 use Rattle.timeline_scheduler.proofs.scratches.Scratch.close.Goals as goal
@@ -17,13 +19,13 @@ items_length marks = length-map marks (λ (m : Mark). m.item)
 
 pub items-init : goal.items-init
 items-init c =
-    let size : length c.self.inside.before.items ≡ length c.args.s.now.line.now.marks = ap (λ (s : ScratchRoom). length s.before) c.self.view_is ∙ c.requires.size in
-    let end = c.len-at.ensures.len in
-    let many = items_length c.args.s.now.line.now.marks in
+    let size : length c.self.inside.before.items ≡ length c.args.s.now.line = ap (λ (s : ScratchRoom). length s.before) c.self.view_is ∙ c.requires.size in
+    let end = (c.len-at.ensures.len ∙ ap (λ (p : WindowParts). length p.line) c.s.view_is) in
+    let many = items_length c.args.s.now.line in
     record {
       within = omega (arith, end);
-      closed = none_closed (meet (runs_of c.args.s.now.roster.now)) c.self.inside.before.items (items_of c.args.s.now.line.now.marks) c.len-at.result (omega (arith, end, size)) (omega (arith, size, many));
-      gathered = subst (λ l. IsGathered (runs_of c.args.s.now.roster.now) l c.new-gathered.result) (sym (none_chosen c.self.inside.before.items (items_of c.args.s.now.line.now.marks) c.len-at.result (omega (arith, end, many)))) (c.new-gathered.ensures (runs_of c.args.s.now.roster.now));
+      closed = none_closed (meet c.args.s.now.runs) c.self.inside.before.items (items_of c.args.s.now.line) c.len-at.result (omega (arith, end, size)) (omega (arith, size, many));
+      gathered = subst (λ l. IsGathered c.args.s.now.runs l c.new-gathered.result) (sym (none_chosen c.self.inside.before.items (items_of c.args.s.now.line) c.len-at.result (omega (arith, end, many)))) (c.new-gathered.ensures c.args.s.now.runs);
       room = refl;
       slots = refl;
       items = refl;
@@ -32,7 +34,7 @@ items-init c =
 pub unwrap-item-requires : goal.unwrap-item-requires
 unwrap-item-requires c =
     let there = c.items.invariant.within in
-    item_there c.args.s.now.line.now.marks (c.items.at - 1) c.get.result c.get.ensures (omega (arith, there, c.items-test.true))
+    item_there c.args.s.now.line (c.items.at - 1) c.get.result (c.get.ensures ∙ ap (λ (p : WindowParts). slice_get (items_of p.line) (c.items.at - 1)) c.s.view_is) (omega (arith, there, c.items-test.true))
 
 pub index-flag-requires : goal.index-flag-requires
 index-flag-requires c =
@@ -52,25 +54,29 @@ index_mut-requires c =
 
 pub items-preserved : goal.items-preserved
 items-preserved c =
-    let meets = meet (runs_of c.args.s.now.roster.now) in
-    let items : List Item = items_of c.args.s.now.line.now.marks in
+    let meets = meet c.args.s.now.runs in
+    let items : List Item = items_of c.args.s.now.line in
     let flags = c.items.self-inside.before.items in
     let start = c.self.inside.before.items in
-    let own : length start ≡ length c.args.s.now.line.now.marks = ap (λ (s : ScratchRoom). length s.before) c.self.view_is ∙ c.requires.size in
+    let own : length start ≡ length c.args.s.now.line = ap (λ (s : ScratchRoom). length s.before) c.self.view_is ∙ c.requires.size in
     let there = c.items.invariant.within in
     let size = c.items.invariant.closed.size in
-    let many = items_length c.args.s.now.line.now.marks in
+    let many = items_length c.args.s.now.line in
     let within : c.items.at - 1 < length flags = omega (arith, there, size, own, c.items-test.true) in
     let next : c.items.at ≡ suc (c.items.at - 1) = omega (arith, c.items-test.true) in
     let same : length start ≡ length items = omega (arith, own, many) in
-    let item = told_at items (c.items.at - 1) c.unwrap-item.result (sym c.get.ensures ∙ c.unwrap-item.ensures) in
+    let item = told_at items (c.items.at - 1) c.unwrap-item.result (sym (c.get.ensures ∙ ap (λ (p : WindowParts). slice_get (items_of p.line) (c.items.at - 1)) c.s.view_is) ∙ c.unwrap-item.ensures) in
     record {
       within = omega (arith, there);
       closed = closed_next meets start items flags c.items.at (c.items.at - 1) c.index-flag.result.now c.unwrap-item.result c.items.invariant.closed next within same (sym c.index-flag.ensures) item c.take_in.result
-          (c.take_in.ensures.answer (chosen (drop c.items.at flags) (drop c.items.at items)) c.items.invariant.gathered);
-      gathered = subst (λ l. IsGathered (runs_of c.args.s.now.roster.now) l c.take_in.new.self)
+          ((subst (λ (p : WindowParts). (is : List Item) → IsGathered p.runs is c.items.gathered
+          → c.take_in.result ≡ (c.index-flag.result.now || list_any (meet p.runs c.unwrap-item.result) is)) c.s.view_is c.take_in.ensures.answer)
+          (chosen (drop c.items.at flags) (drop c.items.at items)) c.items.invariant.gathered);
+      gathered = subst (λ l. IsGathered c.args.s.now.runs l c.take_in.new.self)
           (sym (chosen_next meets start items flags c.items.at (c.items.at - 1) c.index-flag.result.now c.unwrap-item.result c.items.invariant.closed next within same (sym c.index-flag.ensures) item c.take_in.result))
-          (c.take_in.ensures.gathered (chosen (drop c.items.at flags) (drop c.items.at items)) c.items.invariant.gathered);
+          ((subst (λ (p : WindowParts). (is : List Item) → IsGathered p.runs is c.items.gathered
+          → IsGathered p.runs (if c.take_in.result then c.unwrap-item.result ∷ is else is) c.take_in.new.self) c.s.view_is c.take_in.ensures.gathered)
+          (chosen (drop c.items.at flags) (drop c.items.at items)) c.items.invariant.gathered);
       room = c.items.invariant.room;
       slots = c.items.invariant.slots;
       items = c.items.invariant.items;
@@ -78,6 +84,6 @@ items-preserved c =
 
 pub returns : goal.returns
 returns c =
-    let done = all_closed (meet (runs_of c.args.s.now.roster.now)) c.self.inside.before.items (items_of c.args.s.now.line.now.marks) c.items.self-inside.before.items c.items.at (omega (arith, c.items-test.false)) c.items.invariant.closed in
+    let done = all_closed (meet c.args.s.now.runs) c.self.inside.before.items (items_of c.args.s.now.line) c.items.self-inside.before.items c.items.at (omega (arith, c.items-test.false)) c.items.invariant.closed in
     (λ i. record { slots = c.items.invariant.slots i; before = done i; items = c.items.invariant.items i })
-    ∙ ap (λ (s : ScratchRoom). record s { before = closure (meet (runs_of c.args.s.now.roster.now)) s.before (items_of c.args.s.now.line.now.marks) }) c.self.view_is
+    ∙ ap (λ (s : ScratchRoom). record s { before = closure (meet c.args.s.now.runs) s.before (items_of c.args.s.now.line) }) c.self.view_is

@@ -1,6 +1,5 @@
 use Rattle.command_rules.specs.Apart.{meet}
 use Rattle.command_rules.specs.ClosedSets.{chosen}
-use Rattle.command_rules.specs.Rosters.{runs_of}
 use Rattle.serial_line.specs.Marks.{items_of}
 use Rattle.std.proofs.Common.{drop, length, ◌≡◌, ◌≤◌}
 use Rattle.std.specs.Prelude.{vec_capacity}
@@ -11,9 +10,9 @@ use Rattle.timeline_scheduler.specs.Gathered.{IsGathered}
 -- the items from here on are closed, and those of the set among them gathered
 abbrev pub invariant-items : goal.invariant-items
 invariant-items l = record {
-  within : l.at ≤ length l.s.line.now.marks;
-  closed : IsClosedTo (meet (runs_of l.s.roster.now)) l.initial.self-inside.before.items (items_of l.s.line.now.marks) l.self-inside.before.items l.at;
-  gathered : IsGathered (runs_of l.s.roster.now) (chosen (drop l.at l.self-inside.before.items) (drop l.at (items_of l.s.line.now.marks))) l.gathered;
+  within : l.at ≤ length l.s.line;
+  closed : IsClosedTo (meet l.s.runs) l.initial.self-inside.before.items (items_of l.s.line) l.self-inside.before.items l.at;
+  gathered : IsGathered l.s.runs (chosen (drop l.at l.self-inside.before.items) (drop l.at (items_of l.s.line))) l.gathered;
   room : vec_capacity l.self-inside.before ≡ vec_capacity l.initial.self-inside.before;
   slots : l.self-inside.slots ≡ l.initial.self-inside.slots;
   items : l.self-inside.items ≡ l.initial.self-inside.items;

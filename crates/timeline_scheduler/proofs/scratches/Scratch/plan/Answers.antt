@@ -1,8 +1,9 @@
 use Rattle.command_rules.specs.ClosedSets.{chosen}
-use Rattle.command_rules.specs.Rosters.{commands_of, runs_of}
+use Rattle.command_rules.specs.Rosters.{commands_of, touches}
 use Rattle.home_types.specs.declared.items.Item.{Item}
+use Rattle.lock_leasing.specs.Standings.{WindowParts}
 use Rattle.serial_line.specs.Marks.{Mark, items_of}
-use Rattle.std.proofs.Common.{List, ap, arith, false, length, refl, subst, sym, take, true, ◌<◌, ◌∙◌, ◌≡◌}
+use Rattle.std.proofs.Common.{List, ap, arith, false, length, refl, slice_get, subst, sym, take, true, ◌<◌, ◌∙◌, ◌≡◌}
 use Rattle.std.proofs.lemmas.List.{get_or_default, length-map}
 use Rattle.std.proofs.lemmas.List.Sums.{fold-append}
 use Rattle.std.specs.Prelude.{fold, slice_index_or}
@@ -20,7 +21,7 @@ items_length marks = length-map marks (λ (m : Mark). m.item)
 
 pub items-init : goal.items-init
 items-init c = record {
-  slots = sym (ap (fold (λ ss i. passed_item c.args.s.now.table.now c.args.s.now.book.now.items (runs_of c.args.s.now.roster.now) c.args.r.0 i ss) c.clear.new.self) (first_chosen c.self.inside.before.items (items_of c.args.s.now.line.now.marks)));
+  slots = sym (ap (fold (λ ss i. passed_item c.args.s.now.table c.args.s.now.history c.args.s.now.runs c.args.r.0 i ss) c.clear.new.self) (first_chosen c.self.inside.before.items (items_of c.args.s.now.line)));
   before = refl;
   items = refl;
 }
@@ -28,44 +29,44 @@ items-init c = record {
 pub items-preserved-then-not-index : goal.items-preserved-then-not-index
 items-preserved-then-not-index c =
     let start = c.self.inside.before.items in
-    let own : length start ≡ length c.args.s.now.line.now.marks = ap (λ (s : ScratchRoom). length s.before) c.self.view_is ∙ c.requires.flags in
-    let end = c.len-at-end.ensures.len in
+    let own : length start ≡ length c.args.s.now.line = ap (λ (s : ScratchRoom). length s.before) c.self.view_is ∙ c.requires.flags in
+    let end = (c.len-at-end.ensures.len ∙ ap (λ (p : WindowParts). length p.line) c.s.view_is) in
     let within : c.items.at < length start = omega (arith, own, end, c.items-test.true) in
     let same : length c.items.self-inside.before.items ≡ length start = ap (λ v. length v.items) c.items.invariant.before in
     let flag : slice_index_or start c.items.at false ≡ false =
     ap (λ v. slice_index_or v.items c.items.at false) (sym c.items.invariant.before) ∙ get_or_default c.items.self-inside.before.items c.items.at false c.index.result.now (omega (arith, within, same)) ∙ sym c.index.ensures ∙ c.if-not-index.true in
     record {
       slots = c.items.invariant.slots
-          ∙ sym (ap (fold (λ ss i. passed_item c.args.s.now.table.now c.args.s.now.book.now.items (runs_of c.args.s.now.roster.now) c.args.r.0 i ss) c.clear.new.self) (chosen_same start (items_of c.args.s.now.line.now.marks) c.items.at within flag));
+          ∙ sym (ap (fold (λ ss i. passed_item c.args.s.now.table c.args.s.now.history c.args.s.now.runs c.args.r.0 i ss) c.clear.new.self) (chosen_same start (items_of c.args.s.now.line) c.items.at within flag));
       before = c.items.invariant.before;
       items = c.items.invariant.items;
     }
 
 pub unwrap-item-requires : goal.unwrap-item-requires
 unwrap-item-requires c =
-    let end = c.len-at-end.ensures.len in
-    item_there c.args.s.now.line.now.marks c.items.at c.get.result c.get.ensures (omega (arith, end, c.items-test.true))
+    let end = (c.len-at-end.ensures.len ∙ ap (λ (p : WindowParts). length p.line) c.s.view_is) in
+    item_there c.args.s.now.line c.items.at c.get.result (c.get.ensures ∙ ap (λ (p : WindowParts). slice_get (items_of p.line) c.items.at) c.s.view_is) (omega (arith, end, c.items-test.true))
 
 pub pass-requires-clause-size : goal.pass-requires-clause-size
 pass-requires-clause-size c =
-    walk_length c.args.s.now.table.now c.args.s.now.book.now.items (runs_of c.args.s.now.roster.now) c.args.r.0 c.self.inside.before.items (items_of c.args.s.now.line.now.marks) c.self.inside.slots c.items.self-inside.slots c.items.at
+    walk_length c.args.s.now.table c.args.s.now.history c.args.s.now.runs c.args.r.0 c.self.inside.before.items (items_of c.args.s.now.line) c.self.inside.slots c.items.self-inside.slots c.items.at
     (c.items.invariant.slots
-    ∙ ap (λ (start : List Slot). fold (λ ss i. passed_item c.args.s.now.table.now c.args.s.now.book.now.items (runs_of c.args.s.now.roster.now) c.args.r.0 i ss) start (chosen (take c.items.at c.self.inside.before.items) (take c.items.at (items_of c.args.s.now.line.now.marks)))) c.clear.ensures)
+    ∙ ap (λ (start : List Slot). fold (λ ss i. passed_item c.args.s.now.table c.args.s.now.history c.args.s.now.runs c.args.r.0 i ss) start (chosen (take c.items.at c.self.inside.before.items) (take c.items.at (items_of c.args.s.now.line)))) c.clear.ensures)
     ∙ ap (λ (s : ScratchRoom). length s.slots) c.self.view_is ∙ c.requires.size
 
 pub items-preserved : goal.items-preserved
 items-preserved c =
     let start = c.self.inside.before.items in
-    let items : List Item = items_of c.args.s.now.line.now.marks in
-    let own : length start ≡ length c.args.s.now.line.now.marks = ap (λ (s : ScratchRoom). length s.before) c.self.view_is ∙ c.requires.flags in
-    let many = items_length c.args.s.now.line.now.marks in
-    let end = c.len-at-end.ensures.len in
+    let items : List Item = items_of c.args.s.now.line in
+    let own : length start ≡ length c.args.s.now.line = ap (λ (s : ScratchRoom). length s.before) c.self.view_is ∙ c.requires.flags in
+    let many = items_length c.args.s.now.line in
+    let end = (c.len-at-end.ensures.len ∙ ap (λ (p : WindowParts). length p.line) c.s.view_is) in
     let within : c.items.at < length start = omega (arith, own, end, c.items-test.true) in
     let same : length c.items.self-inside.before.items ≡ length start = ap (λ v. length v.items) c.items.invariant.before in
     let flag : slice_index_or start c.items.at false ≡ true =
     ap (λ v. slice_index_or v.items c.items.at false) (sym c.items.invariant.before) ∙ get_or_default c.items.self-inside.before.items c.items.at false c.index.result.now (omega (arith, within, same)) ∙ sym c.index.ensures ∙ c.if-not-index.false in
-    let more = chosen_more start items c.items.at c.unwrap-item.result within (omega (arith, within, own, many)) flag (told_at items c.items.at c.unwrap-item.result (sym c.get.ensures ∙ c.unwrap-item.ensures)) in
-    let step = λ (ss : List Slot) (i : Item). passed_item c.args.s.now.table.now c.args.s.now.book.now.items (runs_of c.args.s.now.roster.now) c.args.r.0 i ss in
+    let more = chosen_more start items c.items.at c.unwrap-item.result within (omega (arith, within, own, many)) flag (told_at items c.items.at c.unwrap-item.result (sym (c.get.ensures ∙ ap (λ (p : WindowParts). slice_get (items_of p.line) c.items.at) c.s.view_is) ∙ c.unwrap-item.ensures)) in
+    let step = λ (ss : List Slot) (i : Item). passed_item c.args.s.now.table c.args.s.now.history c.args.s.now.runs c.args.r.0 i ss in
     record {
       slots = c.pass.ensures ∙ ap (λ ss. step ss c.unwrap-item.result) c.items.invariant.slots
           ∙ sym (ap (fold step c.clear.new.self) more ∙ fold-append step c.clear.new.self (chosen (take c.items.at start) (take c.items.at items)) _);
@@ -75,32 +76,32 @@ items-preserved c =
 
 pub plan-requires-clause-homed : goal.plan-requires-clause-homed
 plan-requires-clause-homed c = λ x d on.
-    let size = walk_length c.args.s.now.table.now c.args.s.now.book.now.items (runs_of c.args.s.now.roster.now) c.args.r.0 c.self.inside.before.items (items_of c.args.s.now.line.now.marks) c.self.inside.slots c.items.self-inside.slots c.items.at
+    let size = walk_length c.args.s.now.table c.args.s.now.history c.args.s.now.runs c.args.r.0 c.self.inside.before.items (items_of c.args.s.now.line) c.self.inside.slots c.items.self-inside.slots c.items.at
     (c.items.invariant.slots
-    ∙ ap (λ (start : List Slot). fold (λ ss i. passed_item c.args.s.now.table.now c.args.s.now.book.now.items (runs_of c.args.s.now.roster.now) c.args.r.0 i ss) start (chosen (take c.items.at c.self.inside.before.items) (take c.items.at (items_of c.args.s.now.line.now.marks)))) c.clear.ensures) in
+    ∙ ap (λ (start : List Slot). fold (λ ss i. passed_item c.args.s.now.table c.args.s.now.history c.args.s.now.runs c.args.r.0 i ss) start (chosen (take c.items.at c.self.inside.before.items) (take c.items.at (items_of c.args.s.now.line)))) c.clear.ensures) in
     let own = ap (λ (s : ScratchRoom). length s.slots) c.self.view_is in
     let table = c.requires.size in
-    let below = c.requires.homed x d on in
+    let below = c.requires.homed x d (ap (λ (p : WindowParts). touches p.runs x d) (sym c.s.view_is) ∙ on) in
     omega (arith, size, own, table, below)
 
 pub plan-requires-clause-none : goal.plan-requires-clause-none
 plan-requires-clause-none c =
-    walk_planned c.args.s.now.table.now c.args.s.now.book.now.items (runs_of c.args.s.now.roster.now) c.args.r.0 c.self.inside.before.items (items_of c.args.s.now.line.now.marks) c.self.inside.slots c.items.self-inside.slots c.items.at
+    walk_planned c.args.s.now.table c.args.s.now.history c.args.s.now.runs c.args.r.0 c.self.inside.before.items (items_of c.args.s.now.line) c.self.inside.slots c.items.self-inside.slots c.items.at
     (c.items.invariant.slots
-    ∙ ap (λ (start : List Slot). fold (λ ss i. passed_item c.args.s.now.table.now c.args.s.now.book.now.items (runs_of c.args.s.now.roster.now) c.args.r.0 i ss) start (chosen (take c.items.at c.self.inside.before.items) (take c.items.at (items_of c.args.s.now.line.now.marks)))) c.clear.ensures)
+    ∙ ap (λ (start : List Slot). fold (λ ss i. passed_item c.args.s.now.table c.args.s.now.history c.args.s.now.runs c.args.r.0 i ss) start (chosen (take c.items.at c.self.inside.before.items) (take c.items.at (items_of c.args.s.now.line)))) c.clear.ensures)
 
 pub returns-clause-times : goal.returns-clause-times
 returns-clause-times c =
-    let own : length c.self.inside.before.items ≡ length c.args.s.now.line.now.marks = ap (λ (s : ScratchRoom). length s.before) c.self.view_is ∙ c.requires.flags in
-    let many = items_length c.args.s.now.line.now.marks in
-    let end = c.len-at-end.ensures.len in
-    let done = walk_done c.args.s.now.table.now c.args.s.now.book.now.items (runs_of c.args.s.now.roster.now) c.args.r.0 c.self.inside.before.items (items_of c.args.s.now.line.now.marks) c.self.inside.slots c.items.self-inside.slots c.items.at
+    let own : length c.self.inside.before.items ≡ length c.args.s.now.line = ap (λ (s : ScratchRoom). length s.before) c.self.view_is ∙ c.requires.flags in
+    let many = items_length c.args.s.now.line in
+    let end = (c.len-at-end.ensures.len ∙ ap (λ (p : WindowParts). length p.line) c.s.view_is) in
+    let done = walk_done c.args.s.now.table c.args.s.now.history c.args.s.now.runs c.args.r.0 c.self.inside.before.items (items_of c.args.s.now.line) c.self.inside.slots c.items.self-inside.slots c.items.at
     (c.items.invariant.slots
-    ∙ ap (λ (start : List Slot). fold (λ ss i. passed_item c.args.s.now.table.now c.args.s.now.book.now.items (runs_of c.args.s.now.roster.now) c.args.r.0 i ss) start (chosen (take c.items.at c.self.inside.before.items) (take c.items.at (items_of c.args.s.now.line.now.marks)))) c.clear.ensures)
+    ∙ ap (λ (start : List Slot). fold (λ ss i. passed_item c.args.s.now.table c.args.s.now.history c.args.s.now.runs c.args.r.0 i ss) start (chosen (take c.items.at c.self.inside.before.items) (take c.items.at (items_of c.args.s.now.line)))) c.clear.ensures)
     (omega (arith, own, end, c.items-test.false)) (omega (arith, many, end, c.items-test.false)) in
-    subst (λ (ss : List Slot). HoldsTimes c.plan.new.self (plan_behind ss (commands_of (runs_of c.args.s.now.roster.now) c.args.r.0) c.args.moment))
-    (done ∙ ap (λ (s : ScratchRoom). passed_set c.args.s.now.table.now c.args.s.now.book.now.items (runs_of c.args.s.now.roster.now) c.args.r.0 (chosen s.before (items_of c.args.s.now.line.now.marks)) s.slots) c.self.view_is)
-    c.plan.ensures.times
+    subst (λ (ss : List Slot). HoldsTimes c.plan.new.self (plan_behind ss (commands_of c.args.s.now.runs c.args.r.0) c.args.moment))
+    (done ∙ ap (λ (s : ScratchRoom). passed_set c.args.s.now.table c.args.s.now.history c.args.s.now.runs c.args.r.0 (chosen s.before (items_of c.args.s.now.line)) s.slots) c.self.view_is)
+    (subst (λ (p : WindowParts). HoldsTimes c.plan.new.self (plan_behind c.items.self-inside.slots (commands_of p.runs c.args.r.0) c.args.moment)) c.s.view_is c.plan.ensures.times)
 
 pub returns-clause-rest : goal.returns-clause-rest
 returns-clause-rest c =
@@ -109,7 +110,7 @@ returns-clause-rest c =
 pub returns-clause-size : goal.returns-clause-size
 returns-clause-size c =
     c.plan.ensures.size
-    ∙ walk_length c.args.s.now.table.now c.args.s.now.book.now.items (runs_of c.args.s.now.roster.now) c.args.r.0 c.self.inside.before.items (items_of c.args.s.now.line.now.marks) c.self.inside.slots c.items.self-inside.slots c.items.at
+    ∙ walk_length c.args.s.now.table c.args.s.now.history c.args.s.now.runs c.args.r.0 c.self.inside.before.items (items_of c.args.s.now.line) c.self.inside.slots c.items.self-inside.slots c.items.at
     (c.items.invariant.slots
-    ∙ ap (λ (start : List Slot). fold (λ ss i. passed_item c.args.s.now.table.now c.args.s.now.book.now.items (runs_of c.args.s.now.roster.now) c.args.r.0 i ss) start (chosen (take c.items.at c.self.inside.before.items) (take c.items.at (items_of c.args.s.now.line.now.marks)))) c.clear.ensures)
+    ∙ ap (λ (start : List Slot). fold (λ ss i. passed_item c.args.s.now.table c.args.s.now.history c.args.s.now.runs c.args.r.0 i ss) start (chosen (take c.items.at c.self.inside.before.items) (take c.items.at (items_of c.args.s.now.line)))) c.clear.ensures)
     ∙ ap (λ (s : ScratchRoom). length s.slots) c.self.view_is

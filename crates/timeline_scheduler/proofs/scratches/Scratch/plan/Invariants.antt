@@ -1,5 +1,4 @@
 use Rattle.command_rules.specs.ClosedSets.{chosen}
-use Rattle.command_rules.specs.Rosters.{runs_of}
 use Rattle.serial_line.specs.Marks.{items_of}
 use Rattle.std.proofs.Common.{take, ◌≡◌}
 use Rattle.std.specs.Prelude.{fold}
@@ -10,7 +9,7 @@ use Rattle.timeline_scheduler.specs.Slots.{passed_item}
 abbrev pub invariant-items : goal.invariant-items
 invariant-items l = record {
   slots : l.self-inside.slots
-      ≡ fold (λ ss i. passed_item l.s.table.now l.s.book.now.items (runs_of l.s.roster.now) l.r.0 i ss) l.initial.self-inside.slots (chosen (take l.at l.initial.self-inside.before.items) (take l.at (items_of l.s.line.now.marks)));
+      ≡ fold (λ ss i. passed_item l.s.table l.s.history l.s.runs l.r.0 i ss) l.initial.self-inside.slots (chosen (take l.at l.initial.self-inside.before.items) (take l.at (items_of l.s.line)));
   before : l.self-inside.before ≡ l.initial.self-inside.before;
   items : l.self-inside.items ≡ l.initial.self-inside.items;
 }

@@ -1,16 +1,17 @@
-use Rattle.command_rules.specs.Rosters.{runs_of}
-use Rattle.std.proofs.Common.{Bool, List, [], ap, arith, sym, ◌++◌, ◌∙◌, ◌∷◌}
+use Rattle.home_types.proofs.Cited.{take_snoc}
+use Rattle.std.proofs.Common.{Bool, List, [], ap, arith, length, subst, sym, ◌++◌, ◌∙◌, ◌∷◌}
 use Rattle.std.proofs.lemmas.List.{take_all}
-use Rattle.timeline_scheduler.proofs.ItemPlaces.{take_next}
 use Rattle.timeline_scheduler.proofs.Needs.{seeds_length}
 use Rattle.timeline_scheduler.proofs.scratches.Scratch.seed.Goals as goal
 use Rattle.timeline_scheduler.specs.Bases.{seeds}
 use Rattle.timeline_scheduler.specs.Scratches.{ScratchRoom}
+use Rattle.lock_leasing.specs.Standings.{WindowParts}
+use Rattle.std.specs.Prelude.{◌+◌, ◌<◌, ◌^◌}
 
 pub items-preserved : goal.items-preserved
 items-preserved c = record {
   flags = c.push_reserved.ensures.items ∙ ap (λ (l : List Bool). l ++ c.is_needed.result ∷ []) c.items.invariant.flags
-      ∙ sym (take_next (seeds c.args.s.now.book.now.items (runs_of c.args.s.now.roster.now) c.args.r.0 c.args.s.now.line.now.marks) c.items.at c.is_needed.result c.is_needed.ensures);
+      ∙ sym (take_snoc (seeds c.args.s.now.history c.args.s.now.runs c.args.r.0 c.args.s.now.line) c.items.at c.is_needed.result c.is_needed.ensures);
   room = c.push_reserved.ensures.capacity ∙ c.items.invariant.room;
   slots = c.items.invariant.slots;
   items = c.items.invariant.items;
@@ -18,11 +19,11 @@ items-preserved c = record {
 
 pub returns-clause-flags : goal.returns-clause-flags
 returns-clause-flags c =
-    let all = seeds_length c.args.s.now.book.now.items (runs_of c.args.s.now.roster.now) c.args.r.0 c.args.s.now.line.now.marks in
-    let end = c.len-at-end.ensures.len in
-    let flags = c.items.invariant.flags ∙ take_all c.items.at (seeds c.args.s.now.book.now.items (runs_of c.args.s.now.roster.now) c.args.r.0 c.args.s.now.line.now.marks) (omega (arith, all, end, c.items-test.false)) in
+    let all = seeds_length c.args.s.now.history c.args.s.now.runs c.args.r.0 c.args.s.now.line in
+    let end = (c.len-at-end.ensures.len ∙ ap (λ (p : WindowParts). length p.line) c.s.view_is) in
+    let flags = c.items.invariant.flags ∙ take_all c.items.at (seeds c.args.s.now.history c.args.s.now.runs c.args.r.0 c.args.s.now.line) (omega (arith, all, end, c.items-test.false)) in
     (λ i. record { slots = c.items.invariant.slots i; before = flags i; items = c.items.invariant.items i })
-    ∙ ap (λ (s : ScratchRoom). record s { before = seeds c.args.s.now.book.now.items (runs_of c.args.s.now.roster.now) c.args.r.0 c.args.s.now.line.now.marks }) c.self.view_is
+    ∙ ap (λ (s : ScratchRoom). record s { before = seeds c.args.s.now.history c.args.s.now.runs c.args.r.0 c.args.s.now.line }) c.self.view_is
 
 pub returns-clause-few : goal.returns-clause-few
-returns-clause-few c = let few = c.len-at-end.ensures.few in omega (arith, few)
+returns-clause-few c = let few : length c.args.s.now.line + c.s.inside.line.now.spare < 2 ^ 32 = subst (λ (p : WindowParts). length p.line + c.s.inside.line.now.spare < 2 ^ 32) c.s.view_is c.len-at-end.ensures.few in omega (arith, few)

@@ -1,4 +1,3 @@
-use Rattle.command_rules.specs.Rosters.{runs_of}
 use Rattle.std.proofs.Common.{take, ◌≡◌}
 use Rattle.std.specs.Prelude.{vec_capacity}
 use Rattle.timeline_scheduler.proofs.scratches.Scratch.seed.Given as goal
@@ -7,7 +6,7 @@ use Rattle.timeline_scheduler.specs.Bases.{seeds}
 -- the flags of the items so far
 abbrev pub invariant-items : goal.invariant-items
 invariant-items l = record {
-  flags : l.self-inside.before.items ≡ take l.at (seeds l.s.book.now.items (runs_of l.s.roster.now) l.r.0 l.s.line.now.marks);
+  flags : l.self-inside.before.items ≡ take l.at (seeds l.s.history l.s.runs l.r.0 l.s.line);
   room : vec_capacity l.self-inside.before ≡ vec_capacity l.initial.self-inside.before;
   slots : l.self-inside.slots ≡ l.initial.self-inside.slots;
   items : l.self-inside.items ≡ l.initial.self-inside.items;

@@ -1,9 +1,9 @@
 use Rattle.command_rules.specs.ClosedSets.{either_of}
 use Rattle.command_rules.specs.Items.{of_run}
-use Rattle.command_rules.specs.Rosters.{runs_of}
 use Rattle.home_types.specs.declared.items.Item.{Item}
+use Rattle.lock_leasing.specs.Standings.{WindowParts}
 use Rattle.serial_line.specs.Marks.{Mark, items_of}
-use Rattle.std.proofs.Common.{Bool, List, ap, arith, false, length, sym, ◌<◌, ◌∙◌, ◌≡◌}
+use Rattle.std.proofs.Common.{Bool, List, ap, arith, false, length, slice_get, sym, ◌<◌, ◌∙◌, ◌≡◌}
 use Rattle.std.proofs.lemmas.List.{get_or_default, length-map}
 use Rattle.std.specs.Prelude.{map}
 use Rattle.timeline_scheduler.proofs.ItemPlaces.{item_there, told_at}
@@ -18,15 +18,15 @@ items_length marks = length-map marks (λ (m : Mark). m.item)
 
 pub items-preserved-then-index : goal.items-preserved-then-index
 items-preserved-then-index c =
-    let test : Item → Bool = of_run (is_misfit c.args.s.now.table.now (runs_of c.args.s.now.roster.now) c.args.r.0 c.self.inside.slots) in
+    let test : Item → Bool = of_run (is_misfit c.args.s.now.table c.args.s.now.runs c.args.r.0 c.self.inside.slots) in
     let flags = c.items.self-inside.before.items in
-    let own : length c.self.inside.before.items ≡ length c.args.s.now.line.now.marks = ap (λ (s : ScratchRoom). length s.before) c.self.view_is ∙ c.requires.flags in
-    let many = items_length c.args.s.now.line.now.marks in
+    let own : length c.self.inside.before.items ≡ length c.args.s.now.line = ap (λ (s : ScratchRoom). length s.before) c.self.view_is ∙ c.requires.flags in
+    let many = items_length c.args.s.now.line in
     let size = c.items.invariant.taken.size in
-    let end = c.len-at-end.ensures.len in
+    let end = (c.len-at-end.ensures.len ∙ ap (λ (p : WindowParts). length p.line) c.s.view_is) in
     let within : c.items.at < length flags = omega (arith, own, size, end, c.items-test.true) in
     record {
-      taken = taken_in test (items_of c.args.s.now.line.now.marks) c.self.inside.before.items flags c.items.at c.items.some (omega (arith, own, many)) c.items.invariant.taken within
+      taken = taken_in test (items_of c.args.s.now.line) c.self.inside.before.items flags c.items.at c.items.some (omega (arith, own, many)) c.items.invariant.taken within
           (get_or_default flags c.items.at false c.index.result.now within ∙ sym c.index.ensures ∙ c.if-index.true);
       room = c.items.invariant.room;
       slots = c.items.invariant.slots;
@@ -35,23 +35,25 @@ items-preserved-then-index c =
 
 pub unwrap-item-requires : goal.unwrap-item-requires
 unwrap-item-requires c =
-    let end = c.len-at-end.ensures.len in
-    item_there c.args.s.now.line.now.marks c.items.at c.get.result c.get.ensures (omega (arith, end, c.items-test.true))
+    let end = (c.len-at-end.ensures.len ∙ ap (λ (p : WindowParts). length p.line) c.s.view_is) in
+    item_there c.args.s.now.line c.items.at c.get.result (c.get.ensures ∙ ap (λ (p : WindowParts). slice_get (items_of p.line) c.items.at) c.s.view_is) (omega (arith, end, c.items-test.true))
 
 pub items-preserved-then-not-is_misfit : goal.items-preserved-then-not-is_misfit
 items-preserved-then-not-is_misfit c =
-    let test : Item → Bool = of_run (is_misfit c.args.s.now.table.now (runs_of c.args.s.now.roster.now) c.args.r.0 c.self.inside.slots) in
-    let items : List Item = items_of c.args.s.now.line.now.marks in
+    let test : Item → Bool = of_run (is_misfit c.args.s.now.table c.args.s.now.runs c.args.r.0 c.self.inside.slots) in
+    let items : List Item = items_of c.args.s.now.line in
     let flags = c.items.self-inside.before.items in
-    let own : length c.self.inside.before.items ≡ length c.args.s.now.line.now.marks = ap (λ (s : ScratchRoom). length s.before) c.self.view_is ∙ c.requires.flags in
-    let many = items_length c.args.s.now.line.now.marks in
+    let own : length c.self.inside.before.items ≡ length c.args.s.now.line = ap (λ (s : ScratchRoom). length s.before) c.self.view_is ∙ c.requires.flags in
+    let many = items_length c.args.s.now.line in
     let size = c.items.invariant.taken.size in
-    let end = c.len-at-end.ensures.len in
+    let end = (c.len-at-end.ensures.len ∙ ap (λ (p : WindowParts). length p.line) c.s.view_is) in
     let within : c.items.at < length flags = omega (arith, own, size, end, c.items-test.true) in
     record {
       taken = taken_not test items c.self.inside.before.items flags c.items.at c.items.some (omega (arith, own, many)) c.items.invariant.taken within
-          c.unwrap-item.result (told_at items c.items.at c.unwrap-item.result (sym c.get.ensures ∙ c.unwrap-item.ensures)) (get_or_default flags c.items.at false c.index.result.now within ∙ sym c.index.ensures ∙ c.if-index.false)
-          (sym c.if-not-is_misfit.true ∙ c.is_misfit.ensures.misfit ∙ ap (λ ss. of_run (is_misfit c.args.s.now.table.now (runs_of c.args.s.now.roster.now) c.args.r.0 ss) c.unwrap-item.result) c.items.invariant.slots);
+          c.unwrap-item.result (told_at items c.items.at c.unwrap-item.result
+          (sym (c.get.ensures ∙ ap (λ (p : WindowParts). slice_get (items_of p.line) c.items.at) c.s.view_is) ∙ c.unwrap-item.ensures))
+          (get_or_default flags c.items.at false c.index.result.now within ∙ sym c.index.ensures ∙ c.if-index.false)
+          (sym c.if-not-is_misfit.true ∙ c.is_misfit.ensures.misfit ∙ ap (λ ss. of_run (is_misfit c.args.s.now.table c.args.s.now.runs c.args.r.0 ss) c.unwrap-item.result) c.items.invariant.slots);
       room = c.items.invariant.room;
       slots = c.is_misfit.ensures.slots ∙ c.items.invariant.slots;
       items = c.items.invariant.items;
@@ -59,18 +61,20 @@ items-preserved-then-not-is_misfit c =
 
 pub items-preserved : goal.items-preserved
 items-preserved c =
-    let test : Item → Bool = of_run (is_misfit c.args.s.now.table.now (runs_of c.args.s.now.roster.now) c.args.r.0 c.self.inside.slots) in
-    let items : List Item = items_of c.args.s.now.line.now.marks in
+    let test : Item → Bool = of_run (is_misfit c.args.s.now.table c.args.s.now.runs c.args.r.0 c.self.inside.slots) in
+    let items : List Item = items_of c.args.s.now.line in
     let flags = c.items.self-inside.before.items in
-    let own : length c.self.inside.before.items ≡ length c.args.s.now.line.now.marks = ap (λ (s : ScratchRoom). length s.before) c.self.view_is ∙ c.requires.flags in
-    let many = items_length c.args.s.now.line.now.marks in
+    let own : length c.self.inside.before.items ≡ length c.args.s.now.line = ap (λ (s : ScratchRoom). length s.before) c.self.view_is ∙ c.requires.flags in
+    let many = items_length c.args.s.now.line in
     let size = c.items.invariant.taken.size in
-    let end = c.len-at-end.ensures.len in
+    let end = (c.len-at-end.ensures.len ∙ ap (λ (p : WindowParts). length p.line) c.s.view_is) in
     let within : c.items.at < length flags = omega (arith, own, size, end, c.items-test.true) in
     record {
       taken = taken_too test items c.self.inside.before.items flags c.items.at c.items.some (omega (arith, own, many)) c.items.invariant.taken within
-          c.unwrap-item.result (told_at items c.items.at c.unwrap-item.result (sym c.get.ensures ∙ c.unwrap-item.ensures)) (get_or_default flags c.items.at false c.index.result.now within ∙ sym c.index.ensures ∙ c.if-index.false)
-          (sym c.if-not-is_misfit.false ∙ c.is_misfit.ensures.misfit ∙ ap (λ ss. of_run (is_misfit c.args.s.now.table.now (runs_of c.args.s.now.roster.now) c.args.r.0 ss) c.unwrap-item.result) c.items.invariant.slots);
+          c.unwrap-item.result (told_at items c.items.at c.unwrap-item.result
+          (sym (c.get.ensures ∙ ap (λ (p : WindowParts). slice_get (items_of p.line) c.items.at) c.s.view_is) ∙ c.unwrap-item.ensures))
+          (get_or_default flags c.items.at false c.index.result.now within ∙ sym c.index.ensures ∙ c.if-index.false)
+          (sym c.if-not-is_misfit.false ∙ c.is_misfit.ensures.misfit ∙ ap (λ ss. of_run (is_misfit c.args.s.now.table c.args.s.now.runs c.args.r.0 ss) c.unwrap-item.result) c.items.invariant.slots);
       room = c.items.invariant.room;
       slots = c.is_misfit.ensures.slots ∙ c.items.invariant.slots;
       items = c.items.invariant.items;
@@ -78,11 +82,11 @@ items-preserved c =
 
 pub returns-clause-flags : goal.returns-clause-flags
 returns-clause-flags c =
-    let test : Item → Bool = of_run (is_misfit c.args.s.now.table.now (runs_of c.args.s.now.roster.now) c.args.r.0 c.self.inside.slots) in
-    let own : length c.self.inside.before.items ≡ length c.args.s.now.line.now.marks = ap (λ (s : ScratchRoom). length s.before) c.self.view_is ∙ c.requires.flags in
-    let many = items_length c.args.s.now.line.now.marks in
+    let test : Item → Bool = of_run (is_misfit c.args.s.now.table c.args.s.now.runs c.args.r.0 c.self.inside.slots) in
+    let own : length c.self.inside.before.items ≡ length c.args.s.now.line = ap (λ (s : ScratchRoom). length s.before) c.self.view_is ∙ c.requires.flags in
+    let many = items_length c.args.s.now.line in
     let size = c.items.invariant.taken.size in
-    let end = c.len-at-end.ensures.len in
-    let all = all_taken test (items_of c.args.s.now.line.now.marks) c.self.inside.before.items c.items.self-inside.before.items c.items.at c.items.some (omega (arith, own, many)) c.items.invariant.taken (omega (arith, own, size, end, c.items-test.false)) in
+    let end = (c.len-at-end.ensures.len ∙ ap (λ (p : WindowParts). length p.line) c.s.view_is) in
+    let all = all_taken test (items_of c.args.s.now.line) c.self.inside.before.items c.items.self-inside.before.items c.items.at c.items.some (omega (arith, own, many)) c.items.invariant.taken (omega (arith, own, size, end, c.items-test.false)) in
     (λ i. record { slots = c.items.invariant.slots i; before = all i; items = c.items.invariant.items i })
-    ∙ ap (λ (s : ScratchRoom). record s { before = either_of s.before (map (of_run (is_misfit c.args.s.now.table.now (runs_of c.args.s.now.roster.now) c.args.r.0 s.slots)) (items_of c.args.s.now.line.now.marks)) }) c.self.view_is
+    ∙ ap (λ (s : ScratchRoom). record s { before = either_of s.before (map (of_run (is_misfit c.args.s.now.table c.args.s.now.runs c.args.r.0 s.slots)) (items_of c.args.s.now.line)) }) c.self.view_is

@@ -1,4 +1,3 @@
-use Rattle.command_rules.specs.Rosters.{runs_of}
 use Rattle.std.proofs.Common.{length, ◌-◌, ◌≡◌}
 use Rattle.std.specs.List.{list_any}
 use Rattle.timeline_scheduler.proofs.DeviceWalks.{rest}
@@ -11,9 +10,9 @@ abbrev pub invariant-shared : goal.invariant-shared
 invariant-shared l = record {
   slots : l.self-inside.slots.items ≡ l.initial.self-inside.slots.items;
   nears : length l.self-inside.nears.items ≡ length l.initial.self-inside.nears.items;
-  left : list_any (overlaps_on l.s.table.now l.initial.self-inside.slots.items l.x.0) (rest (is_shared l.s.table.now (runs_of l.s.roster.now) l.fn.r.0 l.x.0) (length l.s.table.now) l.from.0)
-      ≡ is_misfit l.s.table.now (runs_of l.s.roster.now) l.fn.r.0 l.initial.self-inside.slots.items l.x.0;
+  left : list_any (overlaps_on l.s.table l.initial.self-inside.slots.items l.x.0) (rest (is_shared l.s.table l.s.runs l.fn.r.0 l.x.0) (length l.s.table) l.from.0)
+      ≡ is_misfit l.s.table l.s.runs l.fn.r.0 l.initial.self-inside.slots.items l.x.0;
 }
 
 abbrev pub decreases-shared : goal.decreases-shared
-decreases-shared l = length l.s.table.now - l.from.0
+decreases-shared l = length l.s.table - l.from.0

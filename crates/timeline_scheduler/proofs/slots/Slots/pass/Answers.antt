@@ -1,6 +1,7 @@
-use Rattle.command_rules.specs.Rosters.{runs_of}
-use Rattle.std.proofs.Common.{ap, arith, is_some, length, ◌∙◌, ◌≡◌}
+use Rattle.command_rules.specs.Rosters.{touches}
+use Rattle.std.proofs.Common.{ap, arith, is_some, length, sym, ◌∙◌, ◌≡◌}
 use Rattle.history_book.specs.Books.{doom_of}
+use Rattle.lock_leasing.specs.Standings.{WindowParts}
 use Rattle.timeline_scheduler.proofs.SlotSets.{changed_length}
 use Rattle.timeline_scheduler.proofs.slots.Slots.pass.Goals as goal
 use Rattle.timeline_scheduler.specs.Slots.{devices_passed, slot_passed}
@@ -8,8 +9,8 @@ use Rattle.timeline_scheduler.specs.Slots.{devices_passed, slot_passed}
 pub wait_for_writer-requires-clause-homed : goal.wait_for_writer-requires-clause-homed
 wait_for_writer-requires-clause-homed c = λ x d on.
     let size : length c.pass_accesses-whole.new.self ≡ length c.args.self.now = ap length c.pass_accesses-whole.ensures.slots
-    ∙ changed_length (slot_passed c.args.s.now.table.now (is_some (doom_of c.args.s.now.book.now.items c.in-Ran.x.0)) c.in-Ran.x.0)
-    (devices_passed c.args.s.now.table.now (runs_of c.args.s.now.roster.now) c.args.r.0 c.in-Ran.x.0) c.args.self.now in
+    ∙ changed_length (slot_passed c.args.s.now.table (is_some (doom_of c.args.s.now.history c.in-Ran.x.0)) c.in-Ran.x.0)
+    (devices_passed c.args.s.now.table c.args.s.now.runs c.args.r.0 c.in-Ran.x.0) c.args.self.now in
     let own = c.requires.size in
-    let there = c.requires.homed x d on in
+    let there = c.requires.homed x d (ap (λ (p : WindowParts). touches p.runs x d) (sym c.s.view_is) ∙ on) in
     omega (arith, size, own, there)

@@ -1,4 +1,3 @@
-use Rattle.command_rules.specs.Rosters.{runs_of}
 use Rattle.lineage_table.specs.Accesses.{access_of}
 use Rattle.lineage_table.specs.Lineages.{accesses_at}
 use Rattle.std.proofs.Common.{length, ◌-◌, ◌≡◌}
@@ -10,13 +9,13 @@ use Rattle.timeline_scheduler.specs.Slots.{changed, devices_passed, end_of_acces
 -- the devices that are left make the slots and the end what they must be
 abbrev pub invariant-devices : goal.invariant-devices
 invariant-devices l = record {
-  size : length l.self-inside.slots.items ≡ length l.s.table.now;
-  nears : length l.self-inside.nears.items ≡ length l.s.table.now;
-  slots : changed (slot_passed l.s.table.now l.doomed l.x.0) (rest (is_passed l.s.table.now (runs_of l.s.roster.now) l.fn.r.0 l.x.0) (length l.s.table.now) l.from.0) l.self-inside.slots.items
-      ≡ changed (slot_passed l.s.table.now l.doomed l.x.0) (devices_passed l.s.table.now (runs_of l.s.roster.now) l.fn.r.0 l.x.0) l.initial.self-inside.slots.items;
-  whole : fold (λ t d. max t (end_of_access (access_of l.x.0 (accesses_at l.s.table.now d)))) l.whole (rest (is_passed l.s.table.now (runs_of l.s.roster.now) l.fn.r.0 l.x.0) (length l.s.table.now) l.from.0)
-      ≡ whole_passed l.s.table.now (runs_of l.s.roster.now) l.fn.r.0 l.x.0;
+  size : length l.self-inside.slots.items ≡ length l.s.table;
+  nears : length l.self-inside.nears.items ≡ length l.s.table;
+  slots : changed (slot_passed l.s.table l.doomed l.x.0) (rest (is_passed l.s.table l.s.runs l.fn.r.0 l.x.0) (length l.s.table) l.from.0) l.self-inside.slots.items
+      ≡ changed (slot_passed l.s.table l.doomed l.x.0) (devices_passed l.s.table l.s.runs l.fn.r.0 l.x.0) l.initial.self-inside.slots.items;
+  whole : fold (λ t d. max t (end_of_access (access_of l.x.0 (accesses_at l.s.table d)))) l.whole (rest (is_passed l.s.table l.s.runs l.fn.r.0 l.x.0) (length l.s.table) l.from.0)
+      ≡ whole_passed l.s.table l.s.runs l.fn.r.0 l.x.0;
 }
 
 abbrev pub decreases-devices : goal.decreases-devices
-decreases-devices l = length l.s.table.now - l.from.0
+decreases-devices l = length l.s.table - l.from.0

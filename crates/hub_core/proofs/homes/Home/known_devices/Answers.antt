@@ -1,6 +1,0 @@
-use Rattle.hub_core.proofs.calls.HubOpens.{known_more}
-use Rattle.hub_core.proofs.homes.Home.known_devices.Goals as goal
-
--- one more
-pub devices-preserved : goal.devices-preserved
-devices-preserved g c = known_more g.D.Device.shows c.args.self.now c.args.rounds c.devices.at c.devices.known.items c.push.new.self.items c.known_device.result c.devices.invariant c.in_ok-push.ensures.ok (λ device at. c.known_device.ensures device at)
