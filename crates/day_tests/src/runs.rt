@@ -1,5 +1,7 @@
 //! Days that are run with threads: two runs that meet, a lease that is revoked while nobody else
 //! steps, a device that does not answer its probe, and a day whose record is stored.
+ghost use Rattle.std.specs.Prelude.{◌≤◌};
+
 use day_clock::{BytesSink, BytesSource, Clock, SetClock, StdClock};
 use device_states::{Bench, Dead, Device, SimBench};
 use history_book::{Cause, End, Entry};
@@ -304,8 +306,10 @@ pub struct Playing<'a, C> {
     part: Option<FirstCall>,
     scene: &'a Scene<C>,
     answered: u64,
+    driven: u64,
     probed: u64,
     failed: u64,
+    ghost few_drives: { driven ≤ answered },
 }
 
 impl<'a, C: Clock> Device for Playing<'a, C> {
@@ -316,6 +320,7 @@ impl<'a, C: Clock> Device for Playing<'a, C> {
       plan = None;
       stands = s.value;
       turns = s.answered;
+      drives = s.driven;
       probes = s.probed;
       faults = s.failed;
     } };
@@ -330,6 +335,7 @@ impl<'a, C: Clock> Device for Playing<'a, C> {
         }
         self.value = v;
         self.answered += 1;
+        self.driven += 1;
         Ok(())
     }
 
@@ -352,6 +358,10 @@ impl<'a, C: Clock> Device for Playing<'a, C> {
 
     fn turns(&self) -> u64 {
         self.answered
+    }
+
+    fn drives(&self) -> u64 {
+        self.driven
     }
 
     fn probes(&self) -> u64 {
@@ -412,6 +422,7 @@ impl<'a, C: Clock> Bench for PlayingBench<'a, C> {
             part,
             scene: self.scene,
             answered: 0,
+            driven: 0,
             probed: 0,
             failed: 0,
         })

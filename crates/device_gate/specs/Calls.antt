@@ -66,6 +66,17 @@ turns_of (Probe (Some v)) = 1
 abbrev pub answered_turns : Task → Told → ℕ
 answered_turns task told = if has_died told then 0 else turns_of task
 
+-- the drives of the task
+abbrev pub drives_of : Task → ℕ
+drives_of (Drive v) = 1
+drives_of Sense = 0
+drives_of (Probe None) = 0
+drives_of (Probe (Some v)) = 1
+
+-- how many drives the device answered
+abbrev pub answered_drives : Task → Told → ℕ
+answered_drives task told = if has_died told then 0 else drives_of task
+
 -- how many probes were made
 abbrev pub probed : Task → ℕ
 probed (Drive v) = 0

@@ -185,6 +185,7 @@ impl<D: Device> Gate<D> {
         ensures maker { result.slip.maker ≡ maker }
         ensures stood { result.slip.stood ≡ stood }
         ensures turns { result.slip.turns ≡ (D.shows result.device).turns }
+        ensures drives { result.slip.drives ≡ (D.shows result.device).drives }
         ensures probes { result.slip.probes ≡ (D.shows result.device).probes }
         ensures faults { result.slip.faults ≡ (D.shows result.device).faults }
         ensures tag { (D.shows result.device).tag ≡ d.0 }
@@ -196,6 +197,7 @@ impl<D: Device> Gate<D> {
             maker,
             stood,
             turns: known.turns(),
+            drives: known.drives(),
             probes: known.probes(),
             faults: known.faults(),
         };

@@ -1,7 +1,7 @@
 //! The grip of a device: made ready for one task, done by one call, spent by giving it back.
 ghost use Rattle.std.specs.Prelude.{◌≡◌, ◌+◌, IfSome, IsTrue};
 ghost use Rattle.device_states.specs.Devices.{MayBeCalled, MayBeProbed, Shown};
-ghost use Rattle.device_gate.specs.Calls.{answered_turns, failed, may_tell, probed, stands_after};
+ghost use Rattle.device_gate.specs.Calls.{answered_drives, answered_turns, failed, may_tell, probed, stands_after};
 ghost use Rattle.device_gate.specs.Grips.{Gripped, IsAsLeft, WasCalled};
 ghost use Rattle.device_gate.specs.declared.slips.Slip.{Slip};
 ghost use Rattle.device_gate.specs.declared.slips.Task.{Task};
@@ -185,6 +185,8 @@ fn call<D: Device>(device: &mut D, task: Task) -> Told
         (λ v. (D.shows device.new).stands ≡ v) }
     ensures turns { (D.shows device.new).turns
         ≡ (D.shows device.old).turns + answered_turns task result }
+    ensures drives { (D.shows device.new).drives
+        ≡ (D.shows device.old).drives + answered_drives task result }
     ensures probes { (D.shows device.new).probes ≡ (D.shows device.old).probes + probed task }
     ensures faults { (D.shows device.new).faults ≡ (D.shows device.old).faults + failed result }
     ensures tag { (D.shows device.new).tag ≡ (D.shows device.old).tag }
@@ -209,6 +211,8 @@ fn drive<D: Device>(device: &mut D, value: Value) -> Told
         (λ v. (D.shows device.new).stands ≡ v) }
     ensures turns { (D.shows device.new).turns
         ≡ (D.shows device.old).turns + answered_turns (Task.Drive value) result }
+    ensures drives { (D.shows device.new).drives
+        ≡ (D.shows device.old).drives + answered_drives (Task.Drive value) result }
     ensures probes { (D.shows device.new).probes ≡ (D.shows device.old).probes }
     ensures faults { (D.shows device.new).faults ≡ (D.shows device.old).faults + failed result }
     ensures tag { (D.shows device.new).tag ≡ (D.shows device.old).tag }
@@ -228,6 +232,8 @@ fn probe<D: Device>(device: &mut D, restored: Option<Value>) -> Told
         (λ v. (D.shows device.new).stands ≡ v) }
     ensures turns { (D.shows device.new).turns
         ≡ (D.shows device.old).turns + answered_turns (Task.Probe restored) result }
+    ensures drives { (D.shows device.new).drives
+        ≡ (D.shows device.old).drives + answered_drives (Task.Probe restored) result }
     ensures probes { (D.shows device.new).probes ≡ (D.shows device.old).probes + 1 }
     ensures faults { (D.shows device.new).faults ≡ (D.shows device.old).faults + failed result }
     ensures tag { (D.shows device.new).tag ≡ (D.shows device.old).tag }

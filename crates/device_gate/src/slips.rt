@@ -16,6 +16,8 @@ pub struct Slip {
     pub stood: Value,
     /// Its drives and senses that had worked.
     pub turns: u64,
+    /// Those of them that were drives.
+    pub drives: u64,
     /// Its probes.
     pub probes: u64,
     /// Its faults.

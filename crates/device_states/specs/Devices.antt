@@ -6,13 +6,14 @@ abbrev pub Plan : Type 0
 Plan = Option (List (ℕ × ℕ))
 
 -- its number, the ranges of calls in which it is down, where it tells them, the value at which it
--- stands, how many drives and senses it has answered, how many probes were made of it, whatever it
--- answered, and how many calls it has failed
+-- stands, how many drives and senses it has answered, how many of these were drives, how many
+-- probes were made of it, whatever it answered, and how many calls it has failed
 pub record Shown : Type 0 where
   pub tag : ℕ
   pub plan : Plan
   pub stands : ℕ
   pub turns : ℕ
+  pub drives : ℕ
   pub probes : ℕ
   pub faults : ℕ
 

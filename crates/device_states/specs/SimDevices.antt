@@ -11,13 +11,22 @@ pub record SimState : Type 0 where
   pub stands : ℕ
   pub calls : ℕ
   pub turns : ℕ
+  pub drives : ℕ
   pub probes : ℕ
   pub faults : ℕ
 
 -- a device that was not called yet
 abbrev pub fresh_device : ℕ → ℕ → List (ℕ × ℕ) → SimState
-fresh_device tag start plan =
-    record { tag = tag; plan = plan; stands = start; calls = 0; turns = 0; probes = 0; faults = 0 }
+fresh_device tag start plan = record {
+  tag = tag;
+  plan = plan;
+  stands = start;
+  calls = 0;
+  turns = 0;
+  drives = 0;
+  probes = 0;
+  faults = 0;
+}
 
 -- the range, from its first number to before its second, has this call
 abbrev pub range_covers : ℕ → ℕ × ℕ → Bool
@@ -39,9 +48,14 @@ device_called s = record s { calls = s.calls + 1 }
 abbrev pub died : SimState → SimState
 died s = record (device_called s) { faults = s.faults + 1 }
 
--- one more drive or sense was answered, and left the device at this value
-abbrev pub turned_to : SimState → ℕ → SimState
-turned_to s v = record (device_called s) { stands = v; turns = s.turns + 1 }
+-- one more drive was answered, and left the device at this value
+abbrev pub driven_to : SimState → ℕ → SimState
+driven_to s v =
+    record (device_called s) { stands = v; turns = s.turns + 1; drives = s.drives + 1 }
+
+-- one more sense was answered
+abbrev pub sensed : SimState → SimState
+sensed s = record (device_called s) { turns = s.turns + 1 }
 
 -- what the next drive or probe answers
 abbrev pub next_call_answer : SimState → Result Unit Dead
@@ -53,11 +67,11 @@ sense_answer s = if dies_next s then Err (record {}) else Ok s.stands
 
 -- the device after a drive to this value
 abbrev pub after_drive : SimState → ℕ → SimState
-after_drive s v = if dies_next s then died s else turned_to s v
+after_drive s v = if dies_next s then died s else driven_to s v
 
 -- the device after a sense
 abbrev pub after_sense : SimState → SimState
-after_sense s = if dies_next s then died s else turned_to s s.stands
+after_sense s = if dies_next s then died s else sensed s
 
 -- the device after a probe, which is counted whatever it answers
 abbrev pub after_probe : SimState → SimState

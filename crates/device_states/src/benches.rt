@@ -25,6 +25,7 @@ pub trait Bench {
             (λ device. IfSome (Self.Dev.shows device).plan (λ told. told ≡ downs.now)) }
         ensures stands { IfOk result (λ device. (Self.Dev.shows device).stands ≡ start) }
         ensures turns { IfOk result (λ device. (Self.Dev.shows device).turns ≡ 0) }
+        ensures drives { IfOk result (λ device. (Self.Dev.shows device).drives ≡ 0) }
         ensures probes { IfOk result (λ device. (Self.Dev.shows device).probes ≡ 0) }
         ensures faults { IfOk result (λ device. (Self.Dev.shows device).faults ≡ 0) };
 }

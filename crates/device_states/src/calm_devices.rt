@@ -1,4 +1,6 @@
 //! A device that never fails, and its bench.
+ghost use Rattle.std.specs.Prelude.{◌≤◌};
+
 use crate::benches::Bench;
 use crate::devices::{Dead, Device};
 use home_types::{DeviceNo, NoMemory, Value};
@@ -10,7 +12,9 @@ pub struct CalmDevice {
     number: DeviceNo,
     value: Value,
     answered: u64,
+    driven: u64,
     probed: u64,
+    ghost few_drives: { driven ≤ answered },
 }
 
 impl Device for CalmDevice {
@@ -21,6 +25,7 @@ impl Device for CalmDevice {
       plan = None;
       stands = s.value;
       turns = s.answered;
+      drives = s.driven;
       probes = s.probed;
       faults = 0;
     } };
@@ -28,6 +33,7 @@ impl Device for CalmDevice {
     fn drive(&mut self, v: Value) -> Result<(), Dead> {
         self.value = v;
         self.answered += 1;
+        self.driven += 1;
         Ok(())
     }
 
@@ -43,6 +49,10 @@ impl Device for CalmDevice {
 
     fn turns(&self) -> u64 {
         self.answered
+    }
+
+    fn drives(&self) -> u64 {
+        self.driven
     }
 
     fn probes(&self) -> u64 {
@@ -72,6 +82,7 @@ impl Bench for CalmBench {
             number: d,
             value: start,
             answered: 0,
+            driven: 0,
             probed: 0,
         })
     }

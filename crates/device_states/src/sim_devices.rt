@@ -27,6 +27,8 @@ struct SimParts {
     downs: List<(u32, u32)>,
     value: Value,
     turns: u64,
+    // How many of the turns were drives.
+    drives: u64,
     probes: u64,
     // How many of the probes the device has answered.
     answered: u64,
@@ -46,11 +48,13 @@ impl Model for SimDevice {
       stands = s.parts.value.value;
       calls = s.parts.value.turns + s.parts.value.answered + s.parts.value.faults;
       turns = s.parts.value.turns;
+      drives = s.parts.value.drives;
       probes = s.parts.value.probes;
       faults = s.parts.value.faults;
     } };
 
-    ghost invariant = { λ s. s.parts.value.answered ≤ s.parts.value.probes };
+    ghost invariant = { λ s. (s.parts.value.answered ≤ s.parts.value.probes)
+        × (s.parts.value.drives ≤ s.parts.value.turns) };
 }
 
 impl SimDevice {
@@ -98,6 +102,7 @@ impl Device for SimDevice {
       plan = Some s.plan;
       stands = s.stands;
       turns = s.turns;
+      drives = s.drives;
       probes = s.probes;
       faults = s.faults;
     } };
@@ -110,6 +115,7 @@ impl Device for SimDevice {
         self.fail_if_down()?;
         self.parts.value = v;
         self.parts.turns += 1;
+        self.parts.drives += 1;
         Ok(())
     }
 
@@ -136,6 +142,10 @@ impl Device for SimDevice {
 
     fn turns(&self) -> u64 {
         self.parts.turns
+    }
+
+    fn drives(&self) -> u64 {
+        self.parts.drives
     }
 
     fn probes(&self) -> u64 {
@@ -171,6 +181,7 @@ impl Bench for SimBench {
             downs: List::of(alloc, downs)?,
             value: start,
             turns: 0,
+            drives: 0,
             probes: 0,
             answered: 0,
             faults: 0,

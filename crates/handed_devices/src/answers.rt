@@ -1,7 +1,7 @@
 //! The answer to a call that was made elsewhere, handed in for the grip with which the device is
 //! out.
-ghost use Rattle.std.specs.Prelude.{◌≡◌, ◌+◌, IfErr, IfOk, false, true};
-ghost use Rattle.device_gate.specs.Calls.{answered_turns, failed, may_tell, probed};
+ghost use Rattle.std.specs.Prelude.{◌≡◌, ◌+◌, ◌≤◌, IfErr, IfOk, false, true};
+ghost use Rattle.device_gate.specs.Calls.{answered_drives, answered_turns, failed, may_tell, probed};
 ghost use Rattle.device_gate.specs.Grips.{WasCalled};
 ghost use Rattle.device_states.specs.Devices.{HasRoom};
 ghost use Rattle.handed_devices.specs.Answers.{known_value};
@@ -52,6 +52,7 @@ pub fn hand_in(
 /// The device of the slip, as it is after its task was done elsewhere and it told this of it.
 fn after_call(slip: Slip, task: Task, told: Told) -> HandedDevice
     requires room { HasRoom slip.turns (slip.probes + 1) slip.faults }
+    requires drives { slip.drives ≤ slip.turns }
     requires fits { may_tell task slip.stood told ≡ true }
     ensures called { WasCalled told task slip (⟦<HandedDevice as Device>⟧.shows result) }
     ensures value { result.value ≡ known_value told task slip.stood }
@@ -60,6 +61,7 @@ fn after_call(slip: Slip, task: Task, told: Told) -> HandedDevice
         number: slip.device,
         value: known_value(task, slip.stood, told),
         turns: slip.turns + answered(task, told),
+        drives: slip.drives + driven(task, told),
         probes: slip.probes + probed(task),
         faults: slip.faults + failed(told),
     }
@@ -83,6 +85,16 @@ fn answered(task: Task, told: Told) -> u64
     match (task, told) {
         (_, Told::Died) | (Task::Probe(None), _) => 0,
         (_, _) => 1,
+    }
+}
+
+/// The drives that the device answered.
+fn driven(task: Task, told: Told) -> u64
+    ensures { result ≡ answered_drives task told }
+{
+    match (task, told) {
+        (_, Told::Died) | (Task::Sense, _) | (Task::Probe(None), _) => 0,
+        (Task::Drive(_), _) | (Task::Probe(Some(_)), _) => 1,
     }
 }
 

@@ -1,4 +1,6 @@
 //! What is known of a device whose calls are made elsewhere, and the bench of such devices.
+ghost use Rattle.std.specs.Prelude.{◌≤◌};
+
 use device_states::{Bench, Dead, Device};
 use home_types::{DeviceNo, NoMemory, Value};
 use std::alloc::Global;
@@ -14,10 +16,13 @@ pub struct HandedDevice {
     pub value: Value,
     /// Its drives and senses that were answered.
     pub turns: u64,
+    /// Those of them that were drives.
+    pub drives: u64,
     /// Its probes.
     pub probes: u64,
     /// Its calls that were not answered.
     pub faults: u64,
+    pub ghost few_drives: { drives ≤ turns },
 }
 
 impl Device for HandedDevice {
@@ -28,6 +33,7 @@ impl Device for HandedDevice {
       plan = None;
       stands = s.value;
       turns = s.turns;
+      drives = s.drives;
       probes = s.probes;
       faults = s.faults;
     } };
@@ -50,6 +56,10 @@ impl Device for HandedDevice {
 
     fn turns(&self) -> u64 {
         self.turns
+    }
+
+    fn drives(&self) -> u64 {
+        self.drives
     }
 
     fn probes(&self) -> u64 {
@@ -79,6 +89,7 @@ impl Bench for HandedBench {
             number: d,
             value: start,
             turns: 0,
+            drives: 0,
             probes: 0,
             faults: 0,
         })

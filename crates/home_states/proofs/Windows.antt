@@ -16,7 +16,7 @@ use Rattle.std.specs.Prelude.{IsTrue, Some, slice_get, ℕ, ◌<◌, ◌^◌, �
 
 -- what a device would show that was never called
 abbrev uncalled : {D : Type 0} → (D → Shown) → D → Shown
-uncalled shows device = record (shows device) { turns = 0; probes = 0; faults = 0 }
+uncalled shows device = record (shows device) { turns = 0; drives = 0; probes = 0; faults = 0 }
 
 -- the same home as if no window had been opened on it, whose devices were never called
 young_kept : {D : Type 0} (shows : D → Shown) (home : HomeState D) → HomeIsKept shows home

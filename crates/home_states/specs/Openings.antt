@@ -29,6 +29,7 @@ handed_shows device = record {
   plan = None;
   stands = device.value;
   turns = device.turns;
+  drives = device.drives;
   probes = device.probes;
   faults = device.faults;
 }

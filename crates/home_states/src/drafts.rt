@@ -140,7 +140,14 @@ fn restand_in(home: &mut Home<HandedDevice>, d: DeviceNo, value: Value) -> Resul
     if !kind.has(value) {
         return Err(NotRestood::NoValue);
     }
-    let found = HandedDevice { value, ..*device };
+    let found = HandedDevice {
+        number: device.number,
+        value,
+        turns: device.turns,
+        drives: device.drives,
+        probes: device.probes,
+        faults: device.faults,
+    };
     home.restand(d, found, value);
     Ok(())
 }

@@ -52,8 +52,8 @@ same_task a b = false
 abbrev pub same_slip : Slip → Slip → Bool
 same_slip a b =
     (a.ticket == b.ticket) && (a.device.0 == b.device.0) && (a.maker == b.maker)
-    && (a.stood == b.stood) && (a.turns == b.turns) && (a.probes == b.probes)
-    && (a.faults == b.faults)
+    && (a.stood == b.stood) && (a.turns == b.turns) && (a.drives == b.drives)
+    && (a.probes == b.probes) && (a.faults == b.faults)
 
 abbrev pub same_carried : Carried → Carried → Bool
 same_carried a b = same_slip a.slip b.slip && same_task a.task b.task

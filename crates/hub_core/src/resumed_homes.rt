@@ -1,7 +1,8 @@
 //! A home that goes on where another one has stopped: its devices are built anew, and driven to
 //! where they stood.
-ghost use Rattle.std.specs.Prelude.{◌≡◌, ◌≤◌, IfOk, Some, [], length, slice_get, ℕ};
+ghost use Rattle.std.specs.Prelude.{◌≡◌, ◌≤◌, if◌then◌else◌, IfOk, Some, [], length, slice_get, ℕ};
 ghost use Rattle.home_journal.specs.Journals.{IsStateOf};
+ghost use Rattle.home_types.specs.HomeStates.{stand_at};
 ghost use Rattle.home_types.specs.Limits.{most_devices};
 ghost use Rattle.legal_days.specs.LegalDays.{AreLeftFrom};
 ghost use Rattle.legal_days.specs.ResumedDays.{AreResumed, IsDeviceResumed, IsStateResumed, resumed_day};
@@ -39,6 +40,8 @@ impl<D: Device> Home<D> {
         // With them begins the day behind so many windows, as many as one likes.
         ensures devices { (k : ℕ) → IfOk result (λ home. AreLeftFrom D.shows
             (resumed_day script.now k world.now.devices.items home.world) [] home.devices) }
+        ensures driven { IfOk result (λ home. (d : ℕ) (device : D) → slice_get home.devices d
+            ≡ Some device → (D.shows device).drives ≡ (if (stand_at home.world d).up then 1 else 0)) }
         ensures unprobed { IfOk result (λ home. (d : ℕ) (device : D) → slice_get home.devices d
             ≡ Some device → (D.shows device).probes ≡ 0) }
     {

@@ -44,13 +44,15 @@ GoesOnBehind script kept None begins = begins ≡ new_day script
 GoesOnBehind script kept (Some before) begins =
     (now : List Stand) × IsStateResumed before now × (begins ≡ resumed_day script kept before now)
 
--- the script's device as the home is resumed: never probed, and driven once where it was up
+-- the script's device as the home is resumed: never probed nor sensed, and driven once where it was
+-- up
 pub record IsDeviceResumed {D : Type 0} (shows : D → Shown) (text : DeviceText) (d : DeviceId)
     (before now : Stand) (device : D) : Type 0 where
   pub own : IsDeviceOf shows text d device
   pub as_told : IsStandResumed before now
   pub stand : now.up ≡ true → (shows device).stands ≡ now.value
   pub turns_are : (shows device).turns ≡ (if now.up then 1 else 0)
+  pub drives_are : (shows device).drives ≡ (if now.up then 1 else 0)
   pub faults_are : (shows device).faults ≡ (if has_died_resuming before now then 1 else 0)
   pub no_probes : (shows device).probes ≡ 0
 

@@ -1,5 +1,5 @@
 //! A device type of one's own, which fails, and its bench.
-ghost use Rattle.std.specs.Prelude.{◌≡◌, ◌+◌, ◌<◌, ◌^◌, OnErr, OnOk};
+ghost use Rattle.std.specs.Prelude.{◌≡◌, ◌+◌, ◌<◌, ◌≤◌, ◌^◌, OnErr, OnOk};
 
 use device_states::{Bench, Dead, Device};
 use home_types::{DeviceNo, NoMemory, Value};
@@ -23,9 +23,11 @@ pub struct RadioDevice {
     value: Value,
     thing: Thing,
     turns: u64,
+    drives: u64,
     probes: u64,
     faults: u64,
     until_loss: u32,
+    ghost few_drives: { drives ≤ turns },
 }
 
 impl RadioDevice {
@@ -57,6 +59,7 @@ impl Device for RadioDevice {
       plan = None;
       stands = s.value;
       turns = s.turns;
+      drives = s.drives;
       probes = s.probes;
       faults = s.faults;
     } };
@@ -66,6 +69,7 @@ impl Device for RadioDevice {
         self.thing.set(v);
         self.hear()?;
         self.turns += 1;
+        self.drives += 1;
         Ok(())
     }
 
@@ -82,6 +86,10 @@ impl Device for RadioDevice {
 
     fn turns(&self) -> u64 {
         self.turns
+    }
+
+    fn drives(&self) -> u64 {
+        self.drives
     }
 
     fn probes(&self) -> u64 {
@@ -144,6 +152,7 @@ impl Bench for RadioBench {
             value: start,
             thing,
             turns: 0,
+            drives: 0,
             probes: 0,
             faults: 0,
             until_loss: CARRIED,

@@ -142,14 +142,14 @@ records = first_window.closed ∷ closed ∷ []
 
 -- what each device shows as the day leaves it
 abbrev pub light_left : Shown
-light_left = record { tag = 0; plan = Some ((2, 3) ∷ []); stands = 0; turns = 3; probes = 0; faults = 1 }
+light_left = record { tag = 0; plan = Some ((2, 3) ∷ []); stands = 0; turns = 3; drives = 3; probes = 0; faults = 1 }
 
 abbrev pub devices : List Shown
 devices =
     light_left
-    ∷ record { tag = 1; plan = Some []; stands = 1; turns = 1; probes = 0; faults = 0 }
-    ∷ record { tag = 2; plan = Some []; stands = 0; turns = 0; probes = 0; faults = 0 }
-    ∷ record { tag = 3; plan = None; stands = 18; turns = 0; probes = 0; faults = 0 } ∷ []
+    ∷ record { tag = 1; plan = Some []; stands = 1; turns = 1; drives = 1; probes = 0; faults = 0 }
+    ∷ record { tag = 2; plan = Some []; stands = 0; turns = 0; drives = 0; probes = 0; faults = 0 }
+    ∷ record { tag = 3; plan = None; stands = 18; turns = 0; drives = 0; probes = 0; faults = 0 } ∷ []
 
 -- each item of the list, with its place
 abbrev pub Each : {X : Type 0} → (ℕ → X → Type 0) → List X → Type 0

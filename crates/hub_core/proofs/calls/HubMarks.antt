@@ -38,7 +38,7 @@ pub is_kept : {D : Type 0} (shows : D → Shown) (s : OpenHub D) → is_weak s.s
 is_kept shows s strong kept = record { rounds = s.rounds; opened = s.opened; held = held_in s; kept = kept.configuration.ordered strong }
 
 some_slip : Slip
-some_slip = record { ticket = 0; device = record { 0 = 0 }; maker = 0; stood = 0; turns = 0; probes = 0; faults = 0 }
+some_slip = record { ticket = 0; device = record { 0 = 0 }; maker = 0; stood = 0; turns = 0; drives = 0; probes = 0; faults = 0 }
 
 -- a step of a run that hands no device out
 pub chosen : {D : Type 0} (s t : OpenHub D) (r m : ℕ) (choice : Choice) → Answers s r m choice t → choice ≡ choice_of (configuration_of s) r m

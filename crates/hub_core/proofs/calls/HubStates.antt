@@ -43,8 +43,8 @@ task_is (Probe v) Sense e = absurd (cc)
 
 slip_is : (a b : Slip) → same_slip a b ≡ true → a ≡ b
 slip_is a b e =
-    let P : ℕ × ℕ × ℕ × ℕ × ℕ × ℕ × ℕ → Slip = λ x. record { ticket = x.0; device = record { 0 = x.1 }; maker = x.2; stood = x.3; turns = x.4; probes = x.5; faults = x.6 } in
-    λ i. P (ticket i, device i, maker i, stood i, turns i, probes i, faults i)
+    let P : ℕ × ℕ × ℕ × ℕ × ℕ × ℕ × ℕ × ℕ → Slip = λ x. record { ticket = x.0; device = record { 0 = x.1 }; maker = x.2; stood = x.3; turns = x.4; drives = x.5; probes = x.6; faults = x.7 } in
+    λ i. P (ticket i, device i, maker i, stood i, turns i, drives i, probes i, faults i)
   where
     ticket : a.ticket ≡ b.ticket
     ticket = grind (arith, common_steps)
@@ -60,6 +60,9 @@ slip_is a b e =
 
     turns : a.turns ≡ b.turns
     turns = grind (arith, common_steps)
+
+    drives : a.drives ≡ b.drives
+    drives = grind (arith, common_steps)
 
     probes : a.probes ≡ b.probes
     probes = grind (arith, common_steps)

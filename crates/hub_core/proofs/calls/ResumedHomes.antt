@@ -89,6 +89,9 @@ module _ {D : Type 0} (shows : D → Shown) (script : Script) (before now : List
     faults_are = λ d device at. let is = of_number d device at in is.2.faults_are ∙ counted_once (has_died_resuming (stand_at before d) (stand_at now d));
   }
 
+  pub driven_once : (d : ℕ) (device : D) → slice_get devices d ≡ Some device → (shows device).drives ≡ (if (stand_at now d).up then 1 else 0)
+  driven_once d device at = let is = of_number d device at in is.2.drives_are
+
   pub never_probed : (d : ℕ) (device : D) → slice_get devices d ≡ Some device → (shows device).probes ≡ 0
   never_probed d device at = let is = of_number d device at in is.2.no_probes
 

@@ -1,4 +1,4 @@
-use Rattle.hub_core.proofs.calls.ResumedHomes.{kept_resumed, left_resumed, never_probed, state_resumed}
+use Rattle.hub_core.proofs.calls.ResumedHomes.{driven_once, kept_resumed, left_resumed, never_probed, state_resumed}
 use Rattle.hub_core.proofs.homes.Home.resume.Goals as goal
 
 -- the home is as every home is kept
@@ -18,6 +18,12 @@ pub returns-clause-devices : goal.returns-clause-devices
 returns-clause-devices g c =
     let D = g.D.Device in
     left_resumed D.shows c.args.script.now c.args.world.now.devices.items c.in_ok-devices.world.devices.items c.in_ok-devices.devices.items
+    c.requires.world c.in_ok-devices.ensures
+
+pub returns-clause-driven : goal.returns-clause-driven
+returns-clause-driven g c =
+    let D = g.D.Device in
+    driven_once D.shows c.args.script.now c.args.world.now.devices.items c.in_ok-devices.world.devices.items c.in_ok-devices.devices.items
     c.requires.world c.in_ok-devices.ensures
 
 pub returns-clause-unprobed : goal.returns-clause-unprobed
