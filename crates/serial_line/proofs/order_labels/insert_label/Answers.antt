@@ -25,3 +25,8 @@ returns-else-is_none-clause-others c free =
     let size : length c.args.labels.now.items ≡ vec_len c.args.labels.now = search rules in
     let place = c.requires.place in
     rw seen (inserted_removed c.args.labels.now.items c.args.at c.unwrap_or-label.result (omega (arith, size, place)))
+
+pub returns-else-is_none-clause-given : goal.returns-else-is_none-clause-given
+returns-else-is_none-clause-given c free =
+    let found = label_found c.free_label-given.result _ c.free_label-given.ensures.given (search rules) in
+    c.insert-inserted.ensures.items ∙ ?
