@@ -1,6 +1,8 @@
 -- The labels of a line: that they rise and leave room after an item comes or goes, and after they are given anew.
+use Rattle.home_types.specs.declared.items.Item.TheVariants.{Ran}
 use Rattle.home_types.specs.declared.items.Item.{Item}
-use Rattle.serial_line.specs.Labels.{AreLabels, IsBetween, IsUnder, LabelsAreInOrder, LabelsRise, LastLeavesRoom, LeavesRoom, end_leaves_room, has_free, label_at_end, label_before, label_of, new_label}
+use Rattle.home_types.specs.declared.numbers.RunNo.{RunNo}
+use Rattle.serial_line.specs.Labels.{AreLabels, IsBetween, IsUnder, LabelsAreInOrder, LabelsRise, LastLeavesRoom, LeavesRoom, has_free, label_at_end, label_before, label_of, labels_without, new_label}
 use Rattle.serial_line.specs.Marks.{Marked, place_of}
 use Rattle.std.proofs.Common.{ap, arith, refl, subst, sym, ◌∙◌}
 use Rattle.std.proofs.lemmas.Bool.{eqb-false, eqb-true}
@@ -8,7 +10,7 @@ use Rattle.std.proofs.lemmas.Grind.{common_steps}
 use Rattle.std.proofs.lemmas.List.{get_or-set_other, get_or-set_same}
 use Rattle.std.proofs.lemmas.Option.{slice_get-get_or, slice_get_within}
 use Rattle.std.specs.Option.{option_and_then}
-use Rattle.std.specs.Prelude.{Bool, IfSome, List, None, Option, Some, if◌then◌else◌, is_some, slice_get, unwrap_or, [], false, get_or, insert, length, nat_lt, remove, slice_set, suc, take, true, zero, ℕ, ◌+◌, ◌-◌, ◌/◌, ◌<◌, ◌==◌, ◌^◌, ◌∷◌, ◌≡◌, ◌≤◌}
+use Rattle.std.specs.Prelude.{Bool, IfSome, List, None, Option, Some, if◌then◌else◌, is_some, option_map, slice_get, unwrap_or, [], false, get_or, insert, length, nat_lt, remove, slice_set, suc, take, true, zero, ℕ, ◌+◌, ◌-◌, ◌/◌, ◌<◌, ◌==◌, ◌^◌, ◌∷◌, ◌≡◌, ◌≤◌}
 
 -- What stands at a place
 
@@ -236,11 +238,13 @@ module _ (xs : List ℕ) (at left x : ℕ) (is : left ≡ label_before 0 at xs) 
   chosen b = if b then label_at_end (label_before 0 at xs) at else label_before 0 at xs + (get_or xs at 0 - label_before 0 at xs) / 2
 
   pub end_label : at ≡ length xs → x ≡ label_at_end left at → x ≡ new_label at xs
+  unfolding chosen
   end_label end told =
       let there : (at == length xs) ≡ true = grind (arith, common_steps) in
       told ∙ ap (λ l. label_at_end l at) is ∙ ap chosen (sym there)
 
   pub middle_label : at < length xs → x ≡ left + (get_or xs at 0 - left) / 2 → x ≡ new_label at xs
+  unfolding chosen
   middle_label within told =
       let there : (at == length xs) ≡ false = grind (arith, common_steps) in
       told ∙ ap (λ l. l + (get_or xs at 0 - l) / 2) is ∙ ap chosen (sym there)
@@ -253,6 +257,14 @@ label_found (Some y) x found some = found
 pub given_between : (xs : List ℕ) (at : ℕ) (o : Option ℕ) → IfSome o (λ x. IsBetween at x xs) → is_some o ≡ true → IsBetween at (unwrap_or o 0) xs
 given_between xs at None found some = absurd (cc)
 given_between xs at (Some x) found some = found
+
+-- those of the others, where a run leaves
+
+pub labels_left : (run : RunNo) (line : Marked) (at : ℕ) → place_of (Ran run) line.marks ≡ Some at → labels_without run line ≡ remove line.labels at
+labels_left run line at told = ap (λ o. unwrap_or (option_map (remove line.labels) o) line.labels) told
+
+pub labels_stay : (run : RunNo) (line : Marked) → place_of (Ran run) line.marks ≡ None → labels_without run line ≡ line.labels
+labels_stay run line told = ap (λ o. unwrap_or (option_map (remove line.labels) o) line.labels) told
 
 -- of two items
 

@@ -24,8 +24,8 @@ labels-preserved c =
       labels_told c.labels.labels.items c.labels.at c.next_label.result (omega (arith, within, size, count, end)) c.labels.invariant.0 (omega (arith, before, left, greater)) c.next_label.ensures.room,
       part_told c.labels.labels.items c.labels.at c.next_label.result c.args.from c.labels.auto.at ∙ c.labels.invariant.1,
       c.labels.invariant.2,
-      c.labels.invariant.3.0,
-      anew_told c.args.from c.labels.labels.items c.labels.at c.next_label.result (omega (arith, within, size, count, end)) c.labels.invariant.3.1 (c.next_label.ensures.label ∙ ap (λ left. label_at_end left c.labels.at) (left ∙ before)),
+      c.labels.invariant.3,
+      anew_told c.args.from c.labels.labels.items c.labels.at c.next_label.result (omega (arith, within, size, count, end)) c.labels.invariant.4 (c.next_label.ensures.label ∙ ap (λ left. label_at_end left c.labels.at) (left ∙ before)),
     )
 
 pub returns-clause-labels : goal.returns-clause-labels
@@ -42,4 +42,4 @@ returns-clause-anew c k low within =
     let size : length c.labels.labels.items ≡ vec_len c.labels.labels = search rules in
     let count = c.labels.invariant.2 in
     let end = c.len-at-end.ensures in
-    c.labels.invariant.3.1 k low (omega (arith, past, size, count, end, within))
+    c.labels.invariant.4 k low (omega (arith, past, size, count, end, within))
