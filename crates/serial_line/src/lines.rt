@@ -1,6 +1,6 @@
 ghost use Rattle.std.specs.Prelude.{◌≡◌, true, false, if◌then◌else◌, ◌++◌, ◌+◌, ◌-◌, ◌<◌, ◌≤◌, ◌^◌, [], drop, insert, is_some, length, max, option_map, remove, slice_get, take, unwrap_or, IfOk, IfSome, IsTrue, OnOk, OnErr};
 ghost use Rattle.command_rules.specs.Apart.{meet};
-ghost use Rattle.command_rules.specs.ClosedSets.{HoldsFirst, IsClosed, are_apart, brought, exchanged, may_pass, rearranged};
+ghost use Rattle.command_rules.specs.ClosedSets.{Exchanged, HoldsFirst, IsClosed, are_apart, brought, exchanged, may_pass, rearranged};
 ghost use Rattle.command_rules.specs.Footprints.{FitsIndex};
 ghost use Rattle.command_rules.specs.Rosters.{runs_of};
 ghost use Rattle.home_types.specs.Limits.{most_devices};
@@ -266,6 +266,7 @@ impl Line {
         requires unsealed { to < from → self.old.sealed ≤ to }
         ensures marks { self.new.marks
             ≡ take to self.old.marks ++ brought (from - to) (drop to self.old.marks) }
+        ensures exchanges { Exchanged (meet_marks self.old.runs) self.old.marks self.new.marks }
         ensures labels { self.new.labels ≡ self.old.labels }
         ensures spare { self.new.spare ≡ self.old.spare }
         ensures sealed { self.new.sealed ≡ self.old.sealed }
@@ -278,8 +279,9 @@ impl Line {
         }
     }
 
-    /// The items with a flag stand before the others, each part in its order, with their touches.
-    /// The labels stay in their places. Takes no memory.
+    /// The items with a flag stand before the others, each part in its order, with their touches:
+    /// it exchanges neighbours that are apart, and those that are sealed stay. The labels stay in
+    /// their places. Takes no memory.
     ///
     /// Asks for a flag for each item. Each item that is sealed has one, and with each item that has
     /// one also each item before it that is not apart from it.
@@ -288,6 +290,8 @@ impl Line {
         requires closed { IsClosed (meet self.old.runs) before.now (items_of self.old.marks) }
         requires sealed { HoldsFirst self.old.sealed before.now }
         ensures marks { self.new.marks ≡ rearranged before.now self.old.marks }
+        ensures exchanges { Exchanged (meet_marks self.old.runs) self.old.marks self.new.marks }
+        ensures stay { take self.old.sealed self.new.marks ≡ take self.old.sealed self.old.marks }
         ensures labels { self.new.labels ≡ self.old.labels }
         ensures spare { self.new.spare ≡ self.old.spare }
         ensures sealed { self.new.sealed ≡ self.old.sealed }
