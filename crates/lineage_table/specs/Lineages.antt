@@ -114,14 +114,16 @@ with_lineage table d change = slice_set table d (change (lineage_at table d))
 abbrev pub runs_on : List Run → DeviceId → ℕ
 runs_on runs d = count_by (λ run. list_any (is_on d) run.commands) runs
 
--- a lineage as a window opens: nothing but what the device has, with room for so many accesses
+-- a lineage as a window opens: nothing but what the device has, with room for so many accesses and
+-- for no more
 pub record IsNewLineage (stand : Stand) (runs : ℕ) (s : LineageState) : Type 0 where
   pub committed : s.committed ≡ stand.value
   pub up : s.up ≡ stand.up
   pub none : s.accesses ≡ []
-  pub room : runs ≤ s.room
+  pub room : s.room ≡ runs
 
--- each device of the home has a new lineage, with room for the runs that have it in their footprint
+-- each device of the home has a new lineage, with just the room for the runs that have it in their
+-- footprint
 pub record TableIsOpened (runs : List Run) (home : List Stand)
     (table : List LineageState) : Type 0 where
   pub devices : length table ≡ length home

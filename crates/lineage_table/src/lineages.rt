@@ -46,7 +46,8 @@ impl Model for Lineage {
 }
 
 impl Lineage {
-    /// Opens the lineage of a device that stands so, with room for `runs` accesses.
+    /// Opens the lineage of a device that stands so, with room for `runs` accesses and for no more
+    /// than these.
     pub fn open(alloc: Global, stand: Stand, runs: usize) -> Result<Lineage, NoMemory>
         ensures { IfOk result (IsNewLineage stand runs) }
     {

@@ -1,11 +1,14 @@
 //! To which devices each run has an access.
 ghost use Rattle.std.specs.Prelude.{◌≡◌, ◌<◌, ◌==◌, ◌↔◌, IfOk, IsTrue, length, option_map};
+ghost use Rattle.command_rules.specs.Rosters.{runs_of};
 ghost use Rattle.home_types.specs.DeviceSets.{IsFirstFrom};
 ghost use Rattle.home_types.specs.Limits.{most_devices};
-ghost use Rattle.lineage_table.specs.RunDevices.{HasLess, HasMore, is_in};
+ghost use Rattle.lineage_table.specs.RunDevices.{AreEmpty, HasLess, HasMore, HaveSets, is_in};
 ghost use Rattle.std.specs.FinSet as set;
-ghost use Rattle.std.specs.Prelude.{◌&&◌, false, ℕ};
+ghost use Rattle.std.specs.Prelude.{◌&&◌, ℕ};
 
+use command_rules::Roster;
+use home_types::limits::RUNS;
 use home_types::{DeviceNo, DeviceSet, NoMemory, RunNo};
 use std::alloc::Global;
 use std::marker::Model;
@@ -20,6 +23,7 @@ impl Model for RunDevices {
     ghost use Rattle.std.specs.Prelude.{List};
     ghost use Rattle.std.specs.Coded.{coded_list, coded_ℕ};
     ghost use Rattle.std.specs.FinSet as set;
+    ghost use Rattle.command_rules.specs.Rosters.{runs_of};
     ghost use Rattle.home_types.specs.DeviceSets.{Devices};
 
     ghost Value = { List Devices };
@@ -30,10 +34,19 @@ impl Model for RunDevices {
 }
 
 impl RunDevices {
+    /// An empty set for each run of the roster.
+    pub(crate) fn of(alloc: Global, roster: &Roster) -> Result<RunDevices, NoMemory>
+        ensures runs { IfOk result (HaveSets (runs_of roster.now)) }
+        ensures none { IfOk result AreEmpty }
+    {
+        let last = roster.runs.len().min(RUNS as u64);
+        RunDevices::open(alloc, last as usize + 1)
+    }
+
     /// An empty set for each of this many run numbers, from 0.
-    pub(crate) fn open(alloc: Global, runs: usize) -> Result<RunDevices, NoMemory>
+    fn open(alloc: Global, runs: usize) -> Result<RunDevices, NoMemory>
         ensures runs { IfOk result (λ sets. length sets ≡ runs) }
-        ensures none { IfOk result (λ sets. (r d : ℕ) → r < length sets → is_in sets r d ≡ false) }
+        ensures none { IfOk result AreEmpty }
     {
         let Ok(mut sets) = Vec::with_capacity(alloc, runs) else {
             return Err(NoMemory);

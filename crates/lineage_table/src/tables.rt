@@ -17,7 +17,6 @@ use crate::lineages::Lineage;
 use crate::run_devices::RunDevices;
 use chain_arena::Chain;
 use command_rules::Roster;
-use home_types::limits::RUNS;
 use home_types::{Command, DeviceNo, DeviceSet, NoMemory, RunNo, Value, View, World};
 use std::alloc::Global;
 use std::marker::Model;
@@ -47,7 +46,8 @@ impl Model for Table {
 }
 
 impl Table {
-    /// Opens the table of a home, with no accesses, and room for those of the roster's runs.
+    /// Opens the table of a home, with no accesses, and room for those of the roster's runs and for
+    /// no more than these.
     ///
     /// Answers `NoMemory` where there is none to be had.
     pub fn open(alloc: Global, world: &World, roster: &Roster) -> Result<Table, NoMemory>
@@ -58,7 +58,7 @@ impl Table {
         let Ok(mut lineages) = Vec::with_capacity(alloc, stands.len()) else {
             return Err(NoMemory);
         };
-        let devices = RunDevices::open(alloc, roster.runs.len().min(RUNS as u64) as usize + 1)?;
+        let devices = RunDevices::of(alloc, roster)?;
         let runs = count_runs(roster);
         'devices: for d in 0..stands.len() {
             lineages.push_reserved(Lineage::open(alloc, stands[d], runs[d])?);

@@ -1,12 +1,12 @@
 -- A line in which two neighbours are exchanged.
-use Rattle.command_rules.specs.ClosedSets.{exchanged}
+use Rattle.command_rules.specs.ClosedSets.{Exchanged, HoldsFirst, Stays, Swaps, are_apart, chosen, exchanged, others, rearranged}
 use Rattle.home_types.specs.declared.items.Item.{Item}
 use Rattle.serial_line.proofs.Once.{item_back}
 use Rattle.serial_line.specs.Marks.{Mark, all_differ, front_of, is_item, is_open_run, items_of}
-use Rattle.std.proofs.Common.{ap, arith, get_or, refl, set, subst, ◌∙◌}
+use Rattle.std.proofs.Common.{ap, append_assoc, arith, get_or, refl, set, subst, sym, ◌∙◌}
 use Rattle.std.proofs.lemmas.Grind.{common_steps}
 use Rattle.std.specs.List.{list_any, swap}
-use Rattle.std.specs.Prelude.{Bool, List, [], false, if◌then◌else◌, length, not, suc, true, zero, ℕ, ◌&&◌, ◌+◌, ◌<◌, ◌||◌, ◌∷◌, ◌≡◌, ◌≢◌, ◌≤◌}
+use Rattle.std.specs.Prelude.{Bool, List, [], false, if◌then◌else◌, length, not, option_and_then, option_map, slice_get, suc, take, true, unwrap_or, zero, ℕ, ◌&&◌, ◌++◌, ◌+◌, ◌<◌, ◌||◌, ◌∷◌, ◌≡◌, ◌≢◌, ◌≤◌}
 
 -- two places of a list, set so, are exchanged
 swap_suc : {A : Type 0} (xs : List A) (at : ℕ) (d : A) → suc at < length xs → set (set xs at (get_or xs (suc at) d)) (suc at) (get_or xs at d) ≡ exchanged at xs
@@ -60,6 +60,40 @@ get_else (x ∷ y ∷ xs) zero (suc zero) d one two = absurd (two refl)
 get_else (x ∷ y ∷ xs) zero (suc (suc k)) d one two = refl
 get_else (x ∷ xs) (suc at) zero d one two = refl
 get_else (x ∷ xs) (suc at) (suc k) d one two = get_else xs at k d (λ e. one (ap suc e)) (λ e. two (ap suc e))
+
+-- Exchanges
+
+module _ {A : Type 0} (meets : A → A → Bool) (line : List A) where
+  more_from : (front xs : List A) (at : ℕ) → are_apart meets at xs ≡ true → Exchanged meets line (front ++ xs) → Exchanged meets line (front ++ exchanged at xs)
+  unfolding exchanged
+  more_from front [] at apart so = absurd (cc)
+  more_from front (x ∷ []) zero apart so = absurd (cc)
+  more_from front (x ∷ y ∷ xs) zero apart so = Swaps front xs x y so (none (meets x y) apart)
+    where
+      none : (b : Bool) → not b ≡ true → b ≡ false
+      none b h = grind (arith, common_steps)
+  more_from front (x ∷ xs) (suc at) apart so =
+      let next : suc at + 1 ≡ suc (at + 1) = omega arith in
+      let apart_on : are_apart meets at xs ≡ true = subst (λ k. unwrap_or (option_and_then (λ i. option_map (λ j. not (meets i j)) (slice_get (x ∷ xs) k)) (slice_get xs at)) false ≡ true) next apart in
+      subst (Exchanged meets line) (append_assoc front (x ∷ []) (exchanged at xs)) (more_from (front ++ x ∷ []) xs at apart_on (subst (Exchanged meets line) (sym (append_assoc front (x ∷ []) xs)) so))
+
+  -- one exchange more of neighbours that are apart
+  pub one_more : (xs : List A) (at : ℕ) → are_apart meets at xs ≡ true → Exchanged meets line xs → Exchanged meets line (exchanged at xs)
+  one_more xs at apart so = more_from [] xs at apart so
+
+  -- some, and then others
+  pub chained : (mid new : List A) → Exchanged meets line mid → Exchanged meets mid new → Exchanged meets line new
+  chained mid new first Stays = first
+  chained mid new first (Swaps front rest a b before apart) = Swaps front rest a b (chained mid (front ++ a ∷ b ∷ rest) first before) apart
+
+-- the first items that are in the set stay
+pub first_stay : {A : Type 0} (bs : List Bool) (xs : List A) (k : ℕ) → HoldsFirst k bs → take k (rearranged bs xs) ≡ take k xs
+unfolding chosen others
+first_stay bs xs zero first = refl
+first_stay [] xs (suc k) first = absurd (let none = first 0 (omega arith) in cc)
+first_stay (b ∷ bs) [] (suc k) first = refl
+first_stay (false ∷ bs) (x ∷ xs) (suc k) first = absurd (let none = first 0 (omega arith) in cc)
+first_stay (true ∷ bs) (x ∷ xs) (suc k) first = ap (λ l. x ∷ l) (first_stay bs xs k (λ at low. first (suc at) (omega (arith, low))))
 
 -- Items
 

@@ -1,12 +1,16 @@
 -- The labels of a line: that they rise and leave room after an item comes or goes, and after they are given anew.
+use Rattle.home_types.specs.declared.items.Item.TheVariants.{Ran}
 use Rattle.home_types.specs.declared.items.Item.{Item}
-use Rattle.serial_line.specs.Labels.{AreLabels, IsBetween, IsUnder, LabelsAreInOrder, LabelsRise, LastLeavesRoom, LeavesRoom, has_free, label_before, label_of}
+use Rattle.home_types.specs.declared.numbers.RunNo.{RunNo}
+use Rattle.serial_line.specs.Labels.{AreLabels, IsBetween, IsUnder, LabelsAreInOrder, LabelsRise, LastLeavesRoom, LeavesRoom, has_free, label_at_end, label_before, label_of, labels_without, new_label}
 use Rattle.serial_line.specs.Marks.{Marked, place_of}
 use Rattle.std.proofs.Common.{ap, arith, refl, subst, sym, ◌∙◌}
+use Rattle.std.proofs.lemmas.Bool.{eqb-false, eqb-true}
 use Rattle.std.proofs.lemmas.Grind.{common_steps}
+use Rattle.std.proofs.lemmas.List.{get_or-set_other, get_or-set_same}
 use Rattle.std.proofs.lemmas.Option.{slice_get-get_or, slice_get_within}
 use Rattle.std.specs.Option.{option_and_then}
-use Rattle.std.specs.Prelude.{Bool, IfSome, List, None, Option, Some, is_some, slice_get, unwrap_or, [], false, get_or, insert, length, nat_lt, remove, slice_set, suc, take, true, zero, ℕ, ◌+◌, ◌<◌, ◌^◌, ◌∷◌, ◌≡◌, ◌≤◌}
+use Rattle.std.specs.Prelude.{Bool, IfSome, List, None, Option, Some, if◌then◌else◌, is_some, option_map, slice_get, unwrap_or, [], false, get_or, insert, length, nat_lt, remove, slice_set, suc, take, true, zero, ℕ, ◌+◌, ◌-◌, ◌/◌, ◌<◌, ◌==◌, ◌^◌, ◌∷◌, ◌≡◌, ◌≤◌}
 
 -- What stands at a place
 
@@ -167,6 +171,30 @@ part_told [] at x (suc k) low = refl
 part_told (y ∷ ys) zero x (suc k) low = absurd (omega (arith, low))
 part_told (y ∷ ys) (suc at) x (suc k) low = ap (λ zs. y ∷ zs) (part_told ys at x k (omega (arith, low)))
 
+-- the label before a place is told by those before it
+before_told : (left : ℕ) (xs : List ℕ) (at x k : ℕ) → k ≤ at → label_before left k (slice_set xs at x) ≡ label_before left k xs
+before_told left [] at x k low = refl
+before_told left (y ∷ ys) zero x zero low = refl
+before_told left (y ∷ ys) zero x (suc k) low = absurd (omega (arith, low))
+before_told left (y ∷ ys) (suc at) x zero low = refl
+before_told left (y ∷ ys) (suc at) x (suc k) low = before_told y ys at x k (omega (arith, low))
+
+-- those from a place on are given anew up to another
+abbrev pub AreAnewUpTo : ℕ → ℕ → List ℕ → Type 0
+AreAnewUpTo from upto xs = (k : ℕ) → from ≤ k → k < upto → get_or xs k 0 ≡ label_at_end (label_before 0 k xs) k
+
+pub anew_told : (from : ℕ) (xs : List ℕ) (at x : ℕ) → at < length xs → AreAnewUpTo from at xs → x ≡ label_at_end (label_before 0 at xs) at → AreAnewUpTo from (at + 1) (slice_set xs at x)
+anew_told from xs at x within before is k low high = by_place (k == at) refl
+  where
+    by_place : (b : Bool) → (k == at) ≡ b → get_or (slice_set xs at x) k 0 ≡ label_at_end (label_before 0 k (slice_set xs at x)) k
+    by_place true same =
+        subst (λ m. get_or (slice_set xs at x) m 0 ≡ label_at_end (label_before 0 m (slice_set xs at x)) m) (sym (eqb-true k at same))
+        (get_or-set_same xs at x 0 within ∙ is ∙ ap (λ l. label_at_end l at) (sym (before_told 0 xs at x at (omega arith))))
+    by_place false other =
+        let differ = eqb-false k at other in
+        let under : k < at = omega (arith, high, differ) in
+        get_or-set_other xs at k x 0 differ ∙ before k low under ∙ ap (λ l. label_at_end l k) (sym (before_told 0 xs at x k (omega (arith, under))))
+
 room_before : (left first : ℕ) (xs : List ℕ) (k : ℕ) → k ≤ length xs → left + 2 ^ 32 < 2 ^ 64 + first → LeavesRoom first (take k xs) → label_before left k xs + 2 ^ 32 < 2 ^ 64 + (first + k)
 room_before left first [] zero within low room = omega (arith, low)
 room_before left first [] (suc k) within low room = absurd (omega (arith, within))
@@ -195,10 +223,48 @@ middle_between xs at left x d are within is above below =
 pub none_free : (xs : List ℕ) (at left d : ℕ) → at < length xs → left ≡ label_before 0 at xs → get_or xs at d ≤ left + 1 → has_free 0 at xs ≡ false
 none_free xs at left d within is near = rw (free_is 0 xs at d within, ← is) (grind (arith, common_steps))
 
+-- one is
+pub some_free : (xs : List ℕ) (at left d : ℕ) → at < length xs → left ≡ label_before 0 at xs → left + 1 < get_or xs at d → true ≡ has_free 0 at xs
+some_free xs at left d within is apart = rw (free_is 0 xs at d within, ← is) (grind (arith, common_steps))
+
+pub end_free : (left : ℕ) (xs : List ℕ) (at : ℕ) → length xs ≤ at → true ≡ has_free left at xs
+end_free left [] at past = refl
+end_free left (x ∷ xs) zero past = absurd (omega (arith, past))
+end_free left (x ∷ xs) (suc at) past = end_free x xs at (omega (arith, past))
+
+-- which it is
+module _ (xs : List ℕ) (at left x : ℕ) (is : left ≡ label_before 0 at xs) where
+  chosen : Bool → ℕ
+  chosen b = if b then label_at_end (label_before 0 at xs) at else label_before 0 at xs + (get_or xs at 0 - label_before 0 at xs) / 2
+
+  pub end_label : at ≡ length xs → x ≡ label_at_end left at → x ≡ new_label at xs
+  unfolding chosen
+  end_label end told =
+      let there : (at == length xs) ≡ true = grind (arith, common_steps) in
+      told ∙ ap (λ l. label_at_end l at) is ∙ ap chosen (sym there)
+
+  pub middle_label : at < length xs → x ≡ left + (get_or xs at 0 - left) / 2 → x ≡ new_label at xs
+  unfolding chosen
+  middle_label within told =
+      let there : (at == length xs) ≡ false = grind (arith, common_steps) in
+      told ∙ ap (λ l. l + (get_or xs at 0 - l) / 2) is ∙ ap chosen (sym there)
+
+pub label_found : (o : Option ℕ) (x : ℕ) → IfSome o (λ y. y ≡ x) → is_some o ≡ true → unwrap_or o 0 ≡ x
+label_found None x found some = absurd (cc)
+label_found (Some y) x found some = found
+
 -- the label that was found
 pub given_between : (xs : List ℕ) (at : ℕ) (o : Option ℕ) → IfSome o (λ x. IsBetween at x xs) → is_some o ≡ true → IsBetween at (unwrap_or o 0) xs
 given_between xs at None found some = absurd (cc)
 given_between xs at (Some x) found some = found
+
+-- those of the others, where a run leaves
+
+pub labels_left : (run : RunNo) (line : Marked) (at : ℕ) → place_of (Ran run) line.marks ≡ Some at → labels_without run line ≡ remove line.labels at
+labels_left run line at told = ap (λ o. unwrap_or (option_map (remove line.labels) o) line.labels) told
+
+pub labels_stay : (run : RunNo) (line : Marked) → place_of (Ran run) line.marks ≡ None → labels_without run line ≡ line.labels
+labels_stay run line told = ap (λ o. unwrap_or (option_map (remove line.labels) o) line.labels) told
 
 -- of two items
 

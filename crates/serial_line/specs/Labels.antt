@@ -1,10 +1,12 @@
 -- The labels of a line, one for each item: they rise along it, so that two items are compared by
 -- their labels.
 use Rattle.home_types.specs.Numbers.{LinePlace}
+use Rattle.home_types.specs.declared.items.Item.TheVariants.{Ran}
 use Rattle.home_types.specs.declared.items.Item.{Item}
+use Rattle.home_types.specs.declared.numbers.RunNo.{RunNo}
 use Rattle.serial_line.specs.Marks.{Marked, place_of, stands}
 use Rattle.std.specs.Option.{option_and_then}
-use Rattle.std.specs.Prelude.{Bool, List, Option, Some, [], nat_lt, slice_get, suc, take, true, zero, ℕ, ⊤, ◌+◌, ◌<◌, ◌^◌, ◌∷◌, ◌≡◌, ◌≤◌}
+use Rattle.std.specs.Prelude.{Bool, List, Option, Some, [], if◌then◌else◌, length, min, nat_lt, option_map, remove, slice_get, slice_index_or, suc, take, true, unwrap_or, zero, ℕ, ⊤, ◌+◌, ◌-◌, ◌/◌, ◌<◌, ◌==◌, ◌^◌, ◌∷◌, ◌≡◌, ◌≤◌}
 
 -- each is greater than the one before it, and the first one than this
 abbrev pub LabelsRise : ℕ → List ℕ → Type 0
@@ -51,6 +53,37 @@ abbrev pub has_free : ℕ → LinePlace → List ℕ → Bool
 has_free left at [] = true
 has_free left zero (x ∷ xs) = nat_lt (left + 1) x
 has_free left (suc at) (x ∷ xs) = has_free x at xs
+
+-- the label at the end of a line, at this place and behind this label: greater by 2^32, or the
+-- greatest that leaves room, where that is smaller
+abbrev pub label_at_end : ℕ → LinePlace → ℕ
+label_at_end left at = min (left + 2 ^ 32) (2 ^ 64 - 2 ^ 32 + at)
+
+-- the label that an item gets at this place, where one is free: in the middle between those of its
+-- neighbours, or that at the end
+abbrev pub new_label : LinePlace → List ℕ → ℕ
+new_label at labels =
+    if at == length labels then label_at_end left at
+    else left + (slice_index_or labels at 0 - left) / 2
+  where
+    left : ℕ
+    left = label_before 0 at labels
+
+-- each label from this place on is given as if its item came at the end
+abbrev pub AreGivenAnew : LinePlace → List ℕ → Type 0
+AreGivenAnew from labels =
+    (at : LinePlace) → from ≤ at → at < length labels
+    → slice_index_or labels at 0 ≡ label_at_end (label_before 0 at labels) at
+
+-- the last label leaves room as each is to do
+abbrev pub end_leaves_room : List ℕ → Bool
+end_leaves_room labels =
+    nat_lt (label_before 0 (length labels) labels) (2 ^ 64 - 2 ^ 32 + length labels)
+
+-- the labels of the other items, where the run leaves
+abbrev pub labels_without : RunNo → Marked → List ℕ
+labels_without run line =
+    unwrap_or (option_map (remove line.labels) (place_of (Ran run) line.marks)) line.labels
 
 -- the label of an item
 abbrev pub label_of : Item → Marked → Option ℕ

@@ -1,18 +1,18 @@
-ghost use Rattle.std.specs.Prelude.{◌≡◌, true, false, if◌then◌else◌, ◌++◌, ◌+◌, ◌-◌, ◌<◌, ◌≤◌, ◌^◌, [], drop, is_some, length, max, option_map, remove, slice_get, take, unwrap_or, IfOk, IfSome, IsTrue, OnOk, OnErr};
+ghost use Rattle.std.specs.Prelude.{◌≡◌, true, false, if◌then◌else◌, ◌++◌, ◌+◌, ◌-◌, ◌<◌, ◌≤◌, ◌^◌, [], drop, insert, is_some, length, max, option_map, remove, slice_get, take, unwrap_or, IfOk, IfSome, IsTrue, OnOk, OnErr};
 ghost use Rattle.command_rules.specs.Apart.{meet};
-ghost use Rattle.command_rules.specs.ClosedSets.{HoldsFirst, IsClosed, are_apart, brought, exchanged, may_pass, rearranged};
+ghost use Rattle.command_rules.specs.ClosedSets.{Exchanged, HoldsFirst, IsClosed, are_apart, brought, exchanged, may_pass, rearranged};
 ghost use Rattle.command_rules.specs.Footprints.{FitsIndex};
 ghost use Rattle.command_rules.specs.Rosters.{runs_of};
 ghost use Rattle.home_types.specs.Limits.{most_devices};
 ghost use Rattle.home_types.specs.declared.items.Item.TheVariants.{Ran};
 ghost use Rattle.serial_line.specs.KeptRuns.{AreKeptOf, is_known};
-ghost use Rattle.serial_line.specs.Labels.{LabelsAreInOrder, has_free, is_sealed, label_of};
+ghost use Rattle.serial_line.specs.Labels.{AreGivenAnew, LabelsAreInOrder, end_leaves_room, has_free, is_sealed, label_of, labels_without, new_label};
 ghost use Rattle.serial_line.specs.Marks.{all_differ, front_of, items_of, last_meeting, mark_has_touched, marks_without, meet_marks, meets, place_of, settling, stands, touching, with_item};
 ghost use Rattle.serial_line.specs.RunPlaces.{ArePlacesBefore, AreRunPlaces, with_place};
 
 use crate::entries::MarkedItem;
 use crate::kept_runs::KeptRuns;
-use crate::order_labels::{insert_label, remove_label};
+use crate::order_labels::{insert_label, remove_label, with_room};
 use command_rules::Roster;
 use home_types::{DeviceNo, DeviceSet, Item, NoMemory, RunNo, limits};
 use std::alloc::Global;
@@ -110,21 +110,22 @@ impl Line {
     {
         let more = n as u32;
         if self.spare < more {
+            // both have room for just as many more in each case, so the labels are moved last
+            let alloc = *self.labels.allocator();
+            let labels = with_room(alloc, self.labels.as_slice(), n as usize)?;
             if self.entries.reserve_exact(n as usize).is_err() {
                 return Err(NoMemory);
             }
-            match self.labels.reserve_exact(n as usize) {
-                Ok(()) => self.spare = more,
-                Err(_) => return Err(NoMemory),
-            }
+            self.labels = labels;
+            self.spare = more;
         }
         Ok(())
     }
 
     /// Puts an item at the place `at`, counted from 0: a run that has touched nothing, or an event.
     /// The others stay in their order, with their touches, and with their labels where one is free
-    /// for the item; else those of the items that are not sealed are given anew. Takes no memory,
-    /// and uses one place of the room.
+    /// for the item, which gets the one in the middle; else those of the items that are not sealed
+    /// are given anew. Takes no memory, and uses one place of the room.
     ///
     /// Asks for room, for a place up to the end and behind the items that are sealed, and for an
     /// item that is not in the line; a run is one of the window.
@@ -142,6 +143,10 @@ impl Line {
             ≡ take self.old.sealed self.old.labels }
         ensures labels { has_free 0 at self.old.labels ≡ true
             → remove self.new.labels at ≡ self.old.labels }
+        ensures given { has_free 0 at self.old.labels ≡ true
+            → self.new.labels ≡ insert self.old.labels at (new_label at self.old.labels) }
+        ensures anew { has_free 0 at self.old.labels ≡ false
+            → AreGivenAnew self.old.sealed self.new.labels }
     {
         let inserted = self.entries.insert(at as usize, MarkedItem::new(item));
         inserted.unwrap();
@@ -153,7 +158,8 @@ impl Line {
     }
 
     /// Takes a run out, and keeps its room; answers whether it was there. The others stay in their
-    /// order, with their touches, and those that are sealed with their labels.
+    /// order, with their touches, and with their labels where the last of these leaves room for
+    /// 2^32 more items; else those of the items that are not sealed are given anew.
     ///
     /// Asks that the run is none of those that are sealed.
     pub fn remove(&mut self, run: RunNo) -> bool
@@ -165,6 +171,10 @@ impl Line {
         ensures runs { self.new.runs ≡ self.old.runs }
         ensures final_labels { take self.old.sealed self.new.labels
             ≡ take self.old.sealed self.old.labels }
+        ensures labels { end_leaves_room (labels_without run self.old) ≡ true
+            → self.new.labels ≡ labels_without run self.old }
+        ensures anew { IsTrue result → end_leaves_room (labels_without run self.old) ≡ false
+            → AreGivenAnew self.old.sealed self.new.labels }
     {
         match self.place_of(Item::Ran(run)) {
             Some(at) => {
@@ -256,6 +266,7 @@ impl Line {
         requires unsealed { to < from → self.old.sealed ≤ to }
         ensures marks { self.new.marks
             ≡ take to self.old.marks ++ brought (from - to) (drop to self.old.marks) }
+        ensures exchanges { Exchanged (meet_marks self.old.runs) self.old.marks self.new.marks }
         ensures labels { self.new.labels ≡ self.old.labels }
         ensures spare { self.new.spare ≡ self.old.spare }
         ensures sealed { self.new.sealed ≡ self.old.sealed }
@@ -268,8 +279,9 @@ impl Line {
         }
     }
 
-    /// The items with a flag stand before the others, each part in its order, with their touches.
-    /// The labels stay in their places. Takes no memory.
+    /// The items with a flag stand before the others, each part in its order, with their touches:
+    /// it exchanges neighbours that are apart, and those that are sealed stay. The labels stay in
+    /// their places. Takes no memory.
     ///
     /// Asks for a flag for each item. Each item that is sealed has one, and with each item that has
     /// one also each item before it that is not apart from it.
@@ -278,6 +290,8 @@ impl Line {
         requires closed { IsClosed (meet self.old.runs) before.now (items_of self.old.marks) }
         requires sealed { HoldsFirst self.old.sealed before.now }
         ensures marks { self.new.marks ≡ rearranged before.now self.old.marks }
+        ensures exchanges { Exchanged (meet_marks self.old.runs) self.old.marks self.new.marks }
+        ensures stay { take self.old.sealed self.new.marks ≡ take self.old.sealed self.old.marks }
         ensures labels { self.new.labels ≡ self.old.labels }
         ensures spare { self.new.spare ≡ self.old.spare }
         ensures sealed { self.new.sealed ≡ self.old.sealed }

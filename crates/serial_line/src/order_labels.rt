@@ -1,12 +1,30 @@
 //! The labels of a line: one for each item, in the order of the items.
-ghost use Rattle.std.specs.Prelude.{◌≡◌, ◌+◌, ◌<◌, ◌≤◌, ◌^◌, IfSome, IsNone, IsTrue, false, length, remove, take, true, vec_capacity, vec_len};
-ghost use Rattle.serial_line.specs.Labels.{AreLabels, IsBetween, LastLeavesRoom, has_free, label_before};
+ghost use Rattle.std.specs.Prelude.{◌≡◌, ◌+◌, ◌<◌, ◌≤◌, ◌^◌, IfOk, IfSome, IsTrue, false, insert, is_some, length, remove, take, true, vec_capacity, vec_len};
+ghost use Rattle.serial_line.specs.Labels.{AreGivenAnew, AreLabels, IsBetween, LastLeavesRoom, end_leaves_room, has_free, label_at_end, label_before, new_label};
+
+use home_types::NoMemory;
+use std::alloc::Global;
 
 /// How far apart labels are given, where there is room.
 const APART: u64 = 1 << 32;
 
 /// The greatest label of the first item; that of each further one is by one greater.
 const GREATEST: u64 = u64::MAX - APART + 1;
+
+/// The same labels, with room for `n` more and for no more than these.
+pub(crate) fn with_room(alloc: Global, labels: &[u64], n: usize) -> Result<Vec<u64>, NoMemory>
+    requires few { length labels.now + n < 2 ^ 32 }
+    ensures labels { IfOk result (λ more. more.items ≡ labels.now) }
+    ensures room { IfOk result (λ more. vec_capacity more ≡ length labels.now + n) }
+{
+    let Ok(mut more) = Vec::with_capacity(alloc, labels.len() + n) else {
+        return Err(NoMemory);
+    };
+    'labels: for at in 0..labels.len() {
+        more.push_reserved(labels[at]);
+    }
+    Ok(more)
+}
 
 /// An item at the place `at` has a label from now on, and the others have theirs. Where none is
 /// free between those of its neighbours, all labels from the place `sealed` on are given anew.
@@ -22,6 +40,9 @@ pub(crate) fn insert_label(labels: &mut Vec<u64>, at: u32, sealed: u32)
     ensures kept { take sealed labels.new.items ≡ take sealed labels.old.items }
     ensures others { has_free 0 at labels.old.items ≡ true
         → remove labels.new.items at ≡ labels.old.items }
+    ensures given { has_free 0 at labels.old.items ≡ true
+        → labels.new.items ≡ insert labels.old.items at (new_label at labels.old.items) }
+    ensures anew { has_free 0 at labels.old.items ≡ false → AreGivenAnew sealed labels.new.items }
 {
     let given = free_label(labels.as_slice(), at);
     let label = given.unwrap_or(0);
@@ -43,6 +64,10 @@ pub(crate) fn remove_label(labels: &mut Vec<u64>, at: u32, sealed: u32)
     ensures count { vec_len labels.new + 1 ≡ vec_len labels.old }
     ensures capacity { vec_capacity labels.new ≡ vec_capacity labels.old }
     ensures kept { take sealed labels.new.items ≡ take sealed labels.old.items }
+    ensures others { end_leaves_room (remove labels.old.items at) ≡ true
+        → labels.new.items ≡ remove labels.old.items at }
+    ensures anew { end_leaves_room (remove labels.old.items at) ≡ false
+        → AreGivenAnew sealed labels.new.items }
 {
     labels.remove(at as usize);
     if !last_leaves_room(labels.as_slice()) {
@@ -57,7 +82,8 @@ fn free_label(labels: &[u64], at: u32) -> Option<u64>
     requires place { at ≤ length labels.now }
     requires labels { AreLabels labels.now }
     ensures free { IfSome result (λ label. IsBetween at label labels.now) }
-    ensures none { IsNone result → has_free 0 at labels.now ≡ false }
+    ensures given { IfSome result (λ label. label ≡ new_label at labels.now) }
+    ensures there { is_some result ≡ has_free 0 at labels.now }
 {
     let left = label_before(labels, at);
     if at as usize == labels.len() {
@@ -83,6 +109,7 @@ fn label_before(labels: &[u64], at: u32) -> u64
 fn next_label(left: u64, at: u32) -> u64
     requires few { at < 2 ^ 32 }
     requires room { left + 2 ^ 32 < 2 ^ 64 + at }
+    ensures label { result ≡ label_at_end left at }
     ensures greater { left < result }
     ensures room { result + 2 ^ 32 ≤ 2 ^ 64 + at }
 {
@@ -92,7 +119,8 @@ fn next_label(left: u64, at: u32) -> u64
 /// Whether the last label leaves room for 2^32 more items.
 fn last_leaves_room(labels: &[u64]) -> bool
     requires few { length labels.now < 2 ^ 32 }
-    ensures { IsTrue result → LastLeavesRoom 0 labels.now }
+    ensures room { IsTrue result → LastLeavesRoom 0 labels.now }
+    ensures known { result ≡ end_leaves_room labels.now }
 {
     let count = labels.len() as u32;
     count == 0 || label_before(labels, count) <= GREATEST + (count - 1) as u64
@@ -107,6 +135,7 @@ fn give_anew(labels: &mut Vec<u64>, from: u32)
     ensures count { vec_len labels.new ≡ vec_len labels.old }
     ensures capacity { vec_capacity labels.new ≡ vec_capacity labels.old }
     ensures kept { take from labels.new.items ≡ take from labels.old.items }
+    ensures anew { AreGivenAnew from labels.new.items }
 {
     'labels: for at in from..labels.len() as u32 {
         let left = label_before(labels.as_slice(), at);

@@ -58,7 +58,7 @@ opened_table w g table opened = record {
     may_pass = λ r h. absurd (cc);
     committed = new.committed;
     accesses = new.none;
-    room = subst (λ x. x ≤ (lineage_at table d).room) (sym (none_placed w d 1 w.runs)) new.room;
+    room = let room = new.room in let none = none_placed w d 1 w.runs in omega (arith, room, none);
     up = new.up;
   };
 }

@@ -1,6 +1,6 @@
-use Rattle.serial_line.proofs.Labels.{before_leaves, end_between, labels_part, middle_between, none_free, rises_at}
+use Rattle.serial_line.proofs.Labels.{before_leaves, end_between, end_free, end_label, labels_part, middle_between, middle_label, none_free, rises_at, some_free}
 use Rattle.serial_line.proofs.order_labels.free_label.Goals as goal
-use Rattle.std.proofs.Common.{arith, length, ◌<◌}
+use Rattle.std.proofs.Common.{arith, length, refl, sym, ◌<◌}
 
 pub next_label-requires-clause-room : goal.next_label-requires-clause-room
 next_label-requires-clause-room c =
@@ -27,10 +27,34 @@ returns-then-right-left-gt1-clause-free c =
     let within : c.args.at < length c.args.labels.now = omega (arith, place, other) in
     middle_between c.args.labels.now c.args.at c.label_before-left.result _ 0 c.requires.labels within c.label_before-left.ensures (omega (arith, apart)) (omega (arith, apart))
 
-pub returns-else-right-left-gt1-clause-none : goal.returns-else-right-left-gt1-clause-none
-returns-else-right-left-gt1-clause-none c is =
+pub returns-else-right-left-gt1-clause-there : goal.returns-else-right-left-gt1-clause-there
+returns-else-right-left-gt1-clause-there c =
     let place = c.requires.place in
     let other = c.if-at-labels.false in
     let near = c.if-right-left-gt1.false in
     let within : c.args.at < length c.args.labels.now = omega (arith, place, other) in
-    none_free c.args.labels.now c.args.at c.label_before-left.result 0 within c.label_before-left.ensures (omega (arith, near))
+    sym (none_free c.args.labels.now c.args.at c.label_before-left.result 0 within c.label_before-left.ensures (omega (arith, near)))
+
+pub returns-then-at-labels-clause-given : goal.returns-then-at-labels-clause-given
+returns-then-at-labels-clause-given c =
+    end_label c.args.labels.now c.args.at c.label_before-left.result c.next_label.result c.label_before-left.ensures c.if-at-labels.true c.next_label.ensures.label
+
+pub returns-then-at-labels-clause-there : goal.returns-then-at-labels-clause-there
+returns-then-at-labels-clause-there c =
+    let end = c.if-at-labels.true in
+    end_free 0 c.args.labels.now c.args.at (omega (arith, end))
+
+pub returns-then-right-left-gt1-clause-given : goal.returns-then-right-left-gt1-clause-given
+returns-then-right-left-gt1-clause-given c =
+    let place = c.requires.place in
+    let other = c.if-at-labels.false in
+    let within : c.args.at < length c.args.labels.now = omega (arith, place, other) in
+    middle_label c.args.labels.now c.args.at c.label_before-left.result _ c.label_before-left.ensures within refl
+
+pub returns-then-right-left-gt1-clause-there : goal.returns-then-right-left-gt1-clause-there
+returns-then-right-left-gt1-clause-there c =
+    let place = c.requires.place in
+    let other = c.if-at-labels.false in
+    let apart = c.if-right-left-gt1.true in
+    let within : c.args.at < length c.args.labels.now = omega (arith, place, other) in
+    some_free c.args.labels.now c.args.at c.label_before-left.result 0 within c.label_before-left.ensures (omega (arith, apart))

@@ -1,3 +1,4 @@
+use Rattle.serial_line.proofs.Labels.{AreAnewUpTo}
 use Rattle.serial_line.proofs.order_labels.give_anew.Given as goal
 use Rattle.serial_line.specs.Labels.{AreLabels}
 use Rattle.std.proofs.Common.{take, vec_capacity, vec_len, ◌≡◌}
@@ -9,3 +10,4 @@ invariant-labels l =
     × (take l.from l.labels.items ≡ take l.from l.fn.labels.items)
     × (vec_len l.labels ≡ vec_len l.fn.labels)
     × (vec_capacity l.labels ≡ vec_capacity l.fn.labels)
+    × AreAnewUpTo l.from l.at l.labels.items

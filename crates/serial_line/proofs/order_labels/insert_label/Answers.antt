@@ -1,7 +1,7 @@
-use Rattle.serial_line.proofs.Labels.{given_between, inserted_removed, labels_inserted, labels_part, part_inserted}
+use Rattle.serial_line.proofs.Labels.{given_between, inserted_removed, label_found, labels_inserted, labels_part, part_inserted}
 use Rattle.serial_line.proofs.order_labels.insert_label.Goals as goal
-use Rattle.serial_line.specs.Labels.{IsBetween}
-use Rattle.std.proofs.Common.{arith, insert, length, rules, vec_len, ◌≡◌}
+use Rattle.serial_line.specs.Labels.{IsBetween, new_label}
+use Rattle.std.proofs.Common.{ap, arith, insert, length, rules, vec_len, ◌∙◌, ◌≡◌}
 
 pub give_anew-requires-clause-before : goal.give_anew-requires-clause-before
 give_anew-requires-clause-before c =
@@ -25,3 +25,9 @@ returns-else-is_none-clause-others c free =
     let size : length c.args.labels.now.items ≡ vec_len c.args.labels.now = search rules in
     let place = c.requires.place in
     rw seen (inserted_removed c.args.labels.now.items c.args.at c.unwrap_or-label.result (omega (arith, size, place)))
+
+pub returns-else-is_none-clause-given : goal.returns-else-is_none-clause-given
+returns-else-is_none-clause-given c free =
+    let seen : c.insert-inserted.new.self.items ≡ insert c.args.labels.now.items c.args.at c.unwrap_or-label.result = search rules in
+    let found = label_found c.free_label-given.result (new_label c.args.at c.as_slice.result.now) c.free_label-given.ensures.given (search rules) in
+    seen ∙ ap (insert c.args.labels.now.items c.args.at) (c.unwrap_or-label.ensures ∙ found ∙ ap (new_label c.args.at) c.as_slice.ensures.value)

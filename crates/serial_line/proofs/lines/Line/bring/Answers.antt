@@ -1,13 +1,14 @@
 use Rattle.command_rules.proofs.Cited.{may_exchange, moved, pass_there, starts}
 use Rattle.command_rules.specs.Apart.{meet}
-use Rattle.command_rules.specs.ClosedSets.{are_apart}
+use Rattle.command_rules.specs.ClosedSets.{Exchanged, Stays, are_apart}
+use Rattle.serial_line.proofs.Exchanged.{one_more}
 use Rattle.serial_line.proofs.Neighbours.{apart_items}
 use Rattle.serial_line.proofs.lines.Line.bring.Goals as goal
 use Rattle.serial_line.specs.Marks.{items_of, meet_marks}
-use Rattle.std.proofs.Common.{ap, arith, length, refl, sym, ◌-◌, ◌<◌, ◌∙◌, ◌≡◌, ◌≤◌}
+use Rattle.std.proofs.Common.{ap, arith, length, refl, subst, sym, ◌-◌, ◌<◌, ◌∙◌, ◌≡◌, ◌≤◌}
 
 pub past-init : goal.past-init
-past-init c = (c.requires.order, omega arith, starts c.args.self.now.marks c.args.from, refl, refl, refl, refl)
+past-init c = (c.requires.order, omega arith, starts c.args.self.now.marks c.args.from, refl, refl, refl, refl, Stays)
 
 -- each exchange is one of neighbours that are apart, at or behind what is sealed
 pub swap-requires : goal.swap-requires
@@ -36,4 +37,7 @@ past-preserved c =
       c.swap.ensures.labels ∙ c.past.invariant.4,
       c.swap.ensures.sealed ∙ c.past.invariant.5,
       c.swap.ensures.runs ∙ c.past.invariant.6,
+      subst (Exchanged (meet_marks c.args.self.now.runs) c.args.self.now.marks) (sym c.swap.ensures.marks)
+          (one_more (meet_marks c.args.self.now.runs) c.args.self.now.marks c.past.self.marks (c.past.at - 1)
+          (may_exchange (meet_marks c.args.self.now.runs) c.args.self.now.marks c.past.self.marks c.args.to c.past.at c.args.from low upto c.requires.apart c.past.invariant.2) c.past.invariant.7),
     )

@@ -1,17 +1,19 @@
 use Rattle.command_rules.proofs.Cited.{begins, first_held, flag_is, front_chosen, front_size, further, length_moved, partly, passed_more, passes, size_more, size_same, stays, there}
-use Rattle.command_rules.specs.ClosedSets.{brought, may_pass}
+use Rattle.command_rules.specs.ClosedSets.{Exchanged, Stays, brought, chosen, may_pass, others, rearranged}
+use Rattle.serial_line.proofs.Exchanged.{chained, first_stay}
 use Rattle.serial_line.proofs.Neighbours.{closed_marks}
 use Rattle.serial_line.proofs.lines.Line.rearrange.Goals as goal
 use Rattle.serial_line.proofs.lines.Line.rearrange.Goals.{else-before-at, then-before-at}
 use Rattle.serial_line.specs.Marks.{Mark, meet_marks}
-use Rattle.std.proofs.Common.{Bool, List, ap, arith, drop, false, length, refl, subst, sym, take, true, ℕ, ◌++◌, ◌+◌, ◌-◌, ◌<◌, ◌∙◌, ◌≡◌, ◌≤◌}
+use Rattle.std.proofs.lemmas.List.{append-nil, drop_all}
+use Rattle.std.proofs.Common.{Bool, List, ap, arith, drop, false, length, refl, subst, sym, take, take_all, true, ℕ, ◌++◌, ◌+◌, ◌-◌, ◌<◌, ◌∙◌, ◌≡◌, ◌≤◌}
 
 -- no more items are in the set than were looked at
 few : (bs : List Bool) (ms : List Mark) (at done : ℕ) → length bs ≡ length ms → at < length ms → done ≡ length (front_chosen at bs ms) → done ≤ at
 few bs ms at done size less is = let sum = front_size bs ms at size (omega (arith, less)) in omega (arith, sum, is)
 
 pub items-init : goal.items-init
-items-init c = let start = begins c.args.before.now c.args.self.now.marks in (start.0, start.1, refl, refl, refl, refl, refl)
+items-init c = let start = begins c.args.before.now c.args.self.now.marks in (start.0, start.1, refl, refl, refl, refl, refl, Stays)
 
 pub bring-requires-clause-order : goal.bring-requires-clause-order
 bring-requires-clause-order c = few c.args.before.now c.args.self.now.marks c.items.at c.items.done c.requires.size (subst (λ k. c.items.at < k) c.len-at-end.ensures.len c.items-test.true) c.items.invariant.1
@@ -60,6 +62,9 @@ items-preserved c =
             ap (λ s. s.labels) w.self-is ∙ w.bring.ensures.labels ∙ c.items.invariant.4,
             ap (λ s. s.sealed) w.self-is ∙ w.bring.ensures.sealed ∙ c.items.invariant.5,
             ap (λ s. s.runs) w.self-is ∙ w.bring.ensures.runs ∙ c.items.invariant.6,
+            subst (λ s. Exchanged (meet_marks c.args.self.now.runs) c.args.self.now.marks s.marks) (sym w.self-is)
+                (chained (meet_marks c.args.self.now.runs) c.args.self.now.marks c.items.self.marks w.bring.new.self.marks c.items.invariant.7
+                (subst (λ rs. Exchanged (meet_marks rs) c.items.self.marks w.bring.new.self.marks) c.items.invariant.6 w.bring.ensures.exchanges)),
           )
       | else-before-at w ↦
           let flag = flag_is c.args.before.now c.items.at false within w.if-before-at.false in (
@@ -70,5 +75,18 @@ items-preserved c =
             ap (λ s. s.labels) w.self-is ∙ c.items.invariant.4,
             ap (λ s. s.sealed) w.self-is ∙ c.items.invariant.5,
             ap (λ s. s.runs) w.self-is ∙ c.items.invariant.6,
+            subst (λ s. Exchanged (meet_marks c.args.self.now.runs) c.args.self.now.marks s.marks) (sym w.self-is) c.items.invariant.7,
           )
     ]
+
+pub returns-clause-stay : goal.returns-clause-stay
+returns-clause-stay c =
+    let past = c.items-test.false in
+    let count = c.len-at-end.ensures.len in
+    let size = c.requires.size in
+    let flags = take_all c.items.at c.args.before.now (omega (arith, past, count, size)) in
+    let marks = take_all c.items.at c.args.self.now.marks (omega (arith, past, count)) in
+    let none = drop_all c.items.at c.args.self.now.marks (omega (arith, past, count)) in
+    let end = append-nil (others c.args.before.now c.args.self.now.marks) in
+    let seen : c.items.self.marks ≡ rearranged c.args.before.now c.args.self.now.marks = c.items.invariant.0 ∙ (λ k. chosen (flags k) (marks k) ++ (others (flags k) (marks k) ++ none k)) ∙ ap (λ l. chosen c.args.before.now c.args.self.now.marks ++ l) end in
+    ap (take c.args.self.now.sealed) seen ∙ first_stay c.args.before.now c.args.self.now.marks c.args.self.now.sealed c.requires.sealed

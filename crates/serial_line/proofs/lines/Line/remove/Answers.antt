@@ -1,12 +1,14 @@
 use Rattle.home_types.specs.declared.items.Item.TheVariants.{Ran}
 use Rattle.serial_line.proofs.Fronts.{front_removed}
+use Rattle.serial_line.proofs.Labels.{labels_left, labels_stay}
 use Rattle.serial_line.proofs.Once.{differ_removed, place_told, removed_told, removed_untold, told_stands, untold_stands}
 use Rattle.serial_line.proofs.RunPlaces.{before_removed}
 use Rattle.serial_line.proofs.Sealed.{unsealed_place}
 use Rattle.serial_line.proofs.lines.Line.remove.Goals as goal
+use Rattle.serial_line.specs.Labels.{end_leaves_room}
 use Rattle.serial_line.specs.Marks.{all_differ, front_of, items_of, marks_without, place_of, stands, untouched}
 use Rattle.serial_line.specs.RunPlaces.{AreRunPlaces}
-use Rattle.std.proofs.Common.{ap, arith, length, vec_len, remove, rules, subst, sym, take, ◌∙◌, ◌≡◌}
+use Rattle.std.proofs.Common.{ap, arith, false, length, vec_len, remove, rules, subst, sym, take, true, ◌∙◌, ◌≡◌}
 
 -- it is none of those that are sealed
 pub remove_label-requires-clause-unsealed : goal.remove_label-requires-clause-unsealed
@@ -71,3 +73,16 @@ returns-in-None-clause-was_there c = sym (untold_stands (Ran c.args.run) c.args.
 
 pub returns-in-None-clause-marks : goal.returns-in-None-clause-marks
 returns-in-None-clause-marks c = removed_untold (Ran c.args.run) c.args.self.now.marks (sym c.place_of.ensures.place ∙ c.in-None.is)
+
+pub returns-in-Some-clause-labels : goal.returns-in-Some-clause-labels
+returns-in-Some-clause-labels c leaves =
+    let left = labels_left c.args.run c.args.self.now c.in-Some.at (sym c.place_of.ensures.place ∙ c.in-Some.is) ∙ ap (λ s. remove s.labels c.in-Some.at) (sym c.self.view_is) in
+    c.remove_label.ensures.others (subst (λ l. end_leaves_room l ≡ true) left leaves) ∙ sym left
+
+pub returns-in-Some-clause-anew : goal.returns-in-Some-clause-anew
+returns-in-Some-clause-anew c there leaves =
+    let left = labels_left c.args.run c.args.self.now c.in-Some.at (sym c.place_of.ensures.place ∙ c.in-Some.is) ∙ ap (λ s. remove s.labels c.in-Some.at) (sym c.self.view_is) in
+    rw (← c.self.view_is) (c.remove_label.ensures.anew (subst (λ l. end_leaves_room l ≡ false) left leaves))
+
+pub returns-in-None-clause-labels : goal.returns-in-None-clause-labels
+returns-in-None-clause-labels c leaves = sym (labels_stay c.args.run c.args.self.now (sym c.place_of.ensures.place ∙ c.in-None.is))
