@@ -1,0 +1,5 @@
+mod Swaps
+mod ServedOrders
+mod LegalOrders
+mod StandingOrders
+pub mod Cited
