@@ -4,10 +4,11 @@ use Rattle.command_rules.specs.Apart.{meet, share_device}
 use Rattle.command_rules.specs.ClosedSets.{Exchanged, Stays, Swaps, are_apart, exchanged}
 use Rattle.command_rules.specs.Items.{is_ran}
 use Rattle.command_rules.specs.Rosters.{Run, follows}
+use Rattle.exchange_laws.proofs.Reached.{turned_back}
 use Rattle.exchange_laws.proofs.ServedOrders.{Gives, swap_gives}
 use Rattle.exchange_laws.proofs.Swaps.{not_both, one_exchange, swap_any, swap_count, swap_filter}
 use Rattle.exchange_laws.specs.ExchangedOrders.{IsLegalUpToExchanges, IsSeriallyLegalUpToExchanges, with_order}
-use Rattle.history_book.specs.Histories.{reading}
+use Rattle.history_book.specs.Histories.{line_of, reading}
 use Rattle.history_book.specs.Lines.{behind, is_event_on}
 use Rattle.history_book.specs.Readings.{is_committed}
 use Rattle.history_book.specs.Settings.{Setting, is_weak}
@@ -176,3 +177,29 @@ legal_itself w closed legal = by_model (is_weak w.mode) legal
       accounted = is.accounted;
       isolated = is.isolated;
     }
+
+-- back to the line of the history
+pub legal_back : (w : Setting) (closed : WindowRecord) → is_weak w.mode ≡ false → IsLegalUpToExchanges w closed → IsLegalWindow w (with_order closed (line_of w (history_of closed)))
+legal_back w closed strong is = subst was (sym strong) (serially (subst (under w closed) strong is))
+  where
+    was : Bool → Type 0
+    was true = IsWeaklyLegal w (with_order closed (line_of w (history_of closed)))
+    was false = IsSeriallyLegal w (with_order closed (line_of w (history_of closed)))
+
+    serially : IsSeriallyLegalUpToExchanges w closed → IsSeriallyLegal w (with_order closed (line_of w (history_of closed)))
+    serially is =
+        let there : Serially w closed (line_of w (history_of closed)) = reached_serially w closed (line_of w (history_of closed)) is (turned_back w.runs (line_of w (history_of closed)) closed.order.items is.line) in
+        record {
+          mode = is.mode;
+          first = is.first;
+          well_formed = is.well_formed;
+          ended = is.ended;
+          line = refl;
+          places = is.places;
+          is_order = there.is_order;
+          agrees = there.agrees;
+          clean = is.clean;
+          justified = is.justified;
+          accounted = is.accounted;
+          isolated = is.isolated;
+        }

@@ -1,4 +1,5 @@
 mod Swaps
+mod Reached
 mod ServedOrders
 mod LegalOrders
 mod StandingOrders

@@ -1,6 +1,7 @@
 -- A window whose order was rearranged by exchanges of neighbours that are apart.
 use Rattle.command_rules.specs.Apart.{meet}
 use Rattle.command_rules.specs.ClosedSets.{Exchanged}
+use Rattle.command_rules.specs.Rosters.{Run}
 use Rattle.history_book.specs.Histories.{line_of}
 use Rattle.history_book.specs.Settings.{Setting, is_strict, is_weak}
 use Rattle.history_book.specs.WellFormed.{IsWellFormed}
@@ -15,7 +16,8 @@ use Rattle.legal_days.specs.LegalWindows.{IsWeaklyLegal, all_ended, history_of}
 use Rattle.legal_days.specs.Orders.{IsOrderFor}
 use Rattle.lock_leasing.specs.Configurations.{Configuration, Point, point, read_of}
 use Rattle.lock_leasing.specs.Places.{PlacesAreScheduled, in_order}
-use Rattle.std.specs.Prelude.{Bool, IsTrue, List, false, true, ◌≡◌}
+use Rattle.serial_line.specs.Marks.{is_item}
+use Rattle.std.specs.Prelude.{Bool, IsTrue, List, count_by, false, filter, true, ◌||◌, ◌≡◌}
 
 -- the record with this order
 abbrev pub with_order : WindowRecord → List Item → WindowRecord
@@ -24,6 +26,13 @@ with_order closed order = record closed { order = record closed.order { items = 
 -- where the configuration stands, with its line in this order
 abbrev pub point_with_line : Configuration → List Item → Point
 point_with_line s line = point s.setting (in_order (read_of s) line) s.grips
+
+-- both hold the same items, each as often, and any two that are not apart in the same order
+pub record IsRearranged (runs : List Run) (line next : List Item) : Type 0 where
+  pub same : (i : Item) → count_by (is_item i) next ≡ count_by (is_item i) line
+  pub order : (i j : Item) → meet runs i j ≡ true
+      → filter (λ x. is_item i x || is_item j x) next
+      ≡ filter (λ x. is_item i x || is_item j x) line
 
 -- all that a serially legal window is, but that its order is reached from the line of its history
 -- by exchanges of neighbours that are apart

@@ -2,21 +2,32 @@
 //! they are apart. They share no device, and neither is a run that follows the other.
 ghost use Rattle.command_rules.specs.Apart.{meet};
 ghost use Rattle.command_rules.specs.ClosedSets.{Exchanged, are_apart, exchanged};
-ghost use Rattle.exchange_laws.specs.ExchangedOrders.{IsLegalUpToExchanges, point_with_line, with_order};
-ghost use Rattle.history_book.specs.Histories.{entries_of};
-ghost use Rattle.history_book.specs.Settings.{Setting};
+ghost use Rattle.command_rules.specs.Rosters.{Run};
+ghost use Rattle.exchange_laws.specs.ExchangedOrders.{IsLegalUpToExchanges, IsRearranged, point_with_line, with_order};
+ghost use Rattle.history_book.specs.Histories.{entries_of, line_of};
+ghost use Rattle.history_book.specs.Settings.{Setting, is_weak};
 ghost use Rattle.history_book.specs.WellFormed.{IsWellFormed};
 ghost use Rattle.history_book.specs.declared.records.WindowRecord.{WindowRecord};
 ghost use Rattle.home_types.specs.Numbers.{LinePlace};
 ghost use Rattle.home_types.specs.declared.items.Item.{Item};
-ghost use Rattle.legal_days.specs.LegalWindows.{IsLegalWindow};
+ghost use Rattle.legal_days.specs.LegalWindows.{IsLegalWindow, history_of};
 ghost use Rattle.lock_leasing.specs.Configurations.{Configuration, point_of};
 ghost use Rattle.lock_leasing.specs.Order.{OrderStands};
 ghost use Rattle.lock_leasing.specs.Places.{MayBeOut};
-ghost use Rattle.std.specs.Prelude.{IsTrue, List};
+ghost use Rattle.std.specs.Prelude.{IsTrue, List, false, ◌≡◌};
 
-/// A legal window is legal with its order exchanged: the items at `at` and the next place, which
-/// are apart, may change places, and so may any two neighbours after them.
+/// Reached by exchanges are exactly the orders that hold the same items, and any two that are not
+/// apart in the same order.
+pub fn reached_orders()
+    ensures reached { (runs : List Run) (line next : List Item) → IsRearranged runs line next
+        → Exchanged (meet runs) line next }
+    ensures only { (runs : List Run) (line next : List Item) → Exchanged (meet runs) line next
+        → IsRearranged runs line next }
+{}
+
+/// A legal window with its order so exchanged is legal: the items at `at` and the next place, which
+/// are apart, may change places, then any two neighbours that are, and so on. And where an order is
+/// reached so, the window with the line of its history for its order is a legal one.
 pub fn legal_exchange()
     ensures itself { (w : Setting) (closed : WindowRecord) → IsLegalWindow w closed
         → IsLegalUpToExchanges w closed }
@@ -27,6 +38,9 @@ pub fn legal_exchange()
     ensures reached { (w : Setting) (closed : WindowRecord) (order : List Item)
         → IsLegalUpToExchanges w closed → Exchanged (meet w.runs) closed.order.items order
         → IsLegalUpToExchanges w (with_order closed order) }
+    ensures back { (w : Setting) (closed : WindowRecord) → is_weak w.mode ≡ false
+        → IsLegalUpToExchanges w closed
+        → IsLegalWindow w (with_order closed (line_of w (history_of closed))) }
 {}
 
 /// Where the four clauses of the serial order hold of a line, they hold of it with the items at
