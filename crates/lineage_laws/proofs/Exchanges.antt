@@ -24,7 +24,7 @@ pub record ArePair (items : List Item) (at : ℕ) (meets : Item → Item → Boo
   pub turned : exchanged at items ≡ front ++ two ∷ one ∷ rest
   pub apart : meets one two ≡ false
 
-pair : (meets : Item → Item → Bool) (at : ℕ) (items : List Item) → are_apart meets at items ≡ true → ArePair items at meets
+pub pair : (meets : Item → Item → Bool) (at : ℕ) (items : List Item) → are_apart meets at items ≡ true → ArePair items at meets
 unfolding exchanged
 pair meets zero [] apart = absurd cc
 pair meets (suc at) [] apart = absurd cc
@@ -38,7 +38,7 @@ pair meets (suc at) (i ∷ items) apart =
     let rest = pair meets at items (subst (λ n. unwrap_or (option_and_then (λ a. option_map (λ b. not (meets a b)) (slice_get (i ∷ items) n)) (slice_get items at)) false ≡ true) next apart) in
     record { front = i ∷ rest.front; rest = rest.rest; one = rest.one; two = rest.two; are = ap (λ l. i ∷ l) rest.are; turned = ap (λ l. i ∷ l) rest.turned; apart = rest.apart }
 
-share_none : (runs : List Run) (a b : Item) → meet runs a b ≡ false → ShareNoDevice runs a b
+pub share_none : (runs : List Run) (a b : Item) → meet runs a b ≡ false → ShareNoDevice runs a b
 share_none runs a b apart d one = by_cases (is_on_device runs d b) refl
   where
     same : (i : Item) → is_of runs d i ≡ is_on_device runs d i

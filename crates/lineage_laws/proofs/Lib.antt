@@ -1,3 +1,4 @@
 mod LineOrders
 mod Statuses
 mod Exchanges
+pub mod Cited

@@ -98,6 +98,8 @@ mod AlteredHistories
 mod OtherRecords
 mod CappedTimes
 mod LegalWindow
+mod Exchanges
+mod ExchangedWindow
 mod LegalDay
 mod OtherDays
 mod WorkedTables

@@ -1,0 +1,6 @@
+mod Swaps
+mod Reached
+mod ServedOrders
+mod LegalOrders
+mod StandingOrders
+pub mod Cited
