@@ -1,16 +1,20 @@
 #!/bin/sh
 # Plays calls through the built program, most of them refused, and compares its status, standard output and standard
-# error with what docs/FORMATS.md says, its examples too. `rt ci` builds the program and leaves it in out/. Silent where
-# all is as it says.
+# error with what docs/FORMATS.md says, its examples too. Silent where all is as it says.
+#
+#     sh crates/hub_main/edge.sh [PROGRAM]
+#
+# The program is the one that `rt ci` builds and leaves in out/, where no other is named. It wants Python 3 for a terminal.
+program=$(realpath "${1:-$(dirname "$0")/out/hub_main}")
 cd "$(dirname "$0")" || exit 1
 unset LAZBENDIX_PROGRESS
-if [ ! -f out/hub_main ]; then
-    echo "edge: there is no built program at crates/hub_main/out/hub_main" >&2
+if [ ! -f "$program" ]; then
+    echo "edge: there is no built program at $program" >&2
     exit 1
 fi
 room=$(mktemp -d) || exit 1
 trap 'rm -rf "$room"' EXIT
-cp out/hub_main "$room/hub_main" && chmod 755 "$room/hub_main" || exit 1
+cp "$program" "$room/hub_main" && chmod 755 "$room/hub_main" || exit 1
 failed=0
 
 # ends STATUS LINE: the call that was just made ended with this status, wrote nothing on standard output, and this
@@ -249,8 +253,31 @@ call='watch with LAZBENDIX_PROGRESS'
 printf '%s' "$input" | LAZBENDIX_PROGRESS=1 "$room/hub_main" watch >"$room/out" 2>"$room/err"
 got=$?
 if [ "$got" != 0 ] || ! cmp -s "$room/record" "$room/out" || [ "$(tail -n 1 "$room/err")" != "$shown" ] ||
-    grep -v '^window [01] of 1: [01] committed, 0 aborted$' "$room/err"; then
+    [ -n "$(uniq -d "$room/err")" ] || grep -v '^window [01] of 1: [01] committed, 0 aborted$' "$room/err"; then
     echo "edge: $call: status $got and '$(cat "$room/err")'" >&2
+    failed=1
+fi
+
+# follows SCRIPT: a day is watched with LAZBENDIX_PROGRESS, and its last line has the counts of the record's total
+follows() {
+    call="watch of $1 with LAZBENDIX_PROGRESS"
+    LAZBENDIX_PROGRESS=1 "$room/hub_main" watch <"$1" >"$room/out" 2>"$room/err"
+    got=$?
+    total=$(sed -n 's/^total windows \(.*\) runs .* committed \(.*\) aborted \(.*\)$/window \1 of \1: \2 committed, \3 aborted/p' \
+        "$room/out")
+    if [ "$got" != 0 ] || [ -z "$total" ] || [ "$(tail -n 1 "$room/err")" != "$total" ] || [ -n "$(uniq -d "$room/err")" ]; then
+        echo "edge: $call: status $got and '$(cat "$room/err")'" >&2
+        failed=1
+    fi
+}
+
+follows ../../examples/failing.json
+follows ../../examples/morning.json
+# where only the end is new, nothing is shown again
+day "$lamp" '' '' >"$room/empty"
+follows "$room/empty"
+if [ "$(cat "$room/err")" != 'window 0 of 0: 0 committed, 0 aborted' ]; then
+    echo "edge: $call: '$(cat "$room/err")'" >&2
     failed=1
 fi
 call='watch with LAZBENDIX_PROGRESS to no standard output'
@@ -260,16 +287,43 @@ if [ "$got" != 4 ] || [ "$(tail -n 1 "$room/err")" != write ] || [ "$(grep -c -v
     echo "edge: $call: status $got and '$(cat "$room/err")'" >&2
     failed=1
 fi
-if env script --version >/dev/null 2>&1; then
-    call='watch on a terminal'
-    printf '%s' "$input" >"$room/input"
-    env script -qec "\"$room/hub_main\" watch <\"$room/input\" >\"$room/out\"" "$room/typed" >/dev/null
-    got=$?
-    if [ "$got" != 0 ] || ! cmp -s "$room/record" "$room/out" || ! grep -q "$shown" "$room/typed"; then
-        echo "edge: $call: status $got and '$(cat "$room/typed")'" >&2
+# on a terminal each reading writes one line anew, and the last one ends it; it has lines where the record goes there too
+printf '%s' "$input" >"$room/input"
+for stream in out terminal; do
+    call="watch on a terminal, its record to the $stream"
+    python3 - "$room" "$stream" <<'END'
+import os, pty, re, subprocess, sys
+room, stream = sys.argv[1:]
+above, terminal = pty.openpty()
+with open(f"{room}/input", "rb") as given, open(f"{room}/out", "wb") as out:
+    to = terminal if stream == "terminal" else out
+    ran = subprocess.run([f"{room}/hub_main", "watch"], stdin=given, stdout=to, stderr=terminal)
+os.close(terminal)
+said = b""
+try:
+    while more := os.read(above, 65536):
+        said += more
+except OSError:
+    pass
+line = rb"window [01] of 1: [01] committed, 0 aborted"
+last = b"window 1 of 1: 1 committed, 0 aborted"
+if stream == "out":
+    with open(f"{room}/out", "rb") as out, open(f"{room}/record", "rb") as record:
+        well = out.read() == record.read() and re.fullmatch(rb"(\r" + line + rb"\x1b\[K)*\r" + last + rb"\x1b\[K\r\n", said)
+else:
+    with open(f"{room}/record", "rb") as record:
+        shown = [it for it in said.split(b"\r\n") if re.fullmatch(line, it)]
+        kept = [it for it in said.split(b"\r\n") if not re.fullmatch(line, it)]
+        well = b"\n".join(kept) == record.read() and shown[-1:] == [last]
+if ran.returncode or not well:
+    print(f"edge: it ended with {ran.returncode}, and the terminal has {said}", file=sys.stderr)
+    sys.exit(1)
+END
+    if [ $? != 0 ]; then
+        echo "edge: $call" >&2
         failed=1
     fi
-fi
+done
 
 # keeps RECORD KEPT: the day is kept in a folder with this file, and ends with this record and status 0
 keeps() {

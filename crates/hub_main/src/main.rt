@@ -159,6 +159,3 @@ fn tell(rt: &HostRuntime, fault: &Fault) -> u8
     let _ = eprintln!(rt; "{fault}");
     fault.status()
 }
-
-#[cfg(test)]
-mod tests;

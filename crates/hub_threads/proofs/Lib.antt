@@ -5,6 +5,5 @@ mod Named
 mod RunWords
 mod Passes
 mod Holding
-mod KeptWindows
 mod Worked
 mod RoomAnswers

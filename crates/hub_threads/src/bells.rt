@@ -7,11 +7,11 @@ use std::time::Duration;
 
 /// How long a run sleeps at most before it looks again, in ms.
 #[derive(Clone, Copy, Debug)]
-pub(crate) struct Naps {
+pub struct Naps {
     /// A run that only a step of another can free. A wake-up that is missed costs so much.
-    pub(crate) blocked: u64,
+    pub blocked: u64,
     /// Any other run: time alone may free it.
-    pub(crate) restless: u64,
+    pub restless: u64,
 }
 
 /// How often a blocked run looks whether its bell was rung before it sleeps.

@@ -3,20 +3,17 @@
 
 mod bells;
 mod detectors;
-#[cfg(test)]
-mod fakes;
 pub mod held;
 pub mod kept_windows;
 pub mod names;
 pub mod rooms;
 mod sleepers;
-#[cfg(test)]
-mod tests;
 pub mod windows;
 mod workers;
 
+pub use bells::Naps;
 pub use held::{DoneGrip, Held, Steps};
 pub use kept_windows::{KeepFault, run_kept_window};
 pub use names::Name;
 pub use rooms::{RoomDone, RoomHub, run_rooms};
-pub use windows::run_window;
+pub use windows::{Means, run_window, run_window_by};

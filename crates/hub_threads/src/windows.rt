@@ -28,10 +28,10 @@ use std::thread::{JoinHandle, Threads};
 
 /// By what means a window is worked.
 #[derive(Clone, Copy, Debug)]
-pub(crate) struct Means {
+pub struct Means {
     /// How many threads are started at most.
-    pub(crate) threads: u32,
-    pub(crate) naps: Naps,
+    pub threads: u32,
+    pub naps: Naps,
 }
 
 /// A window that is to be worked: so many runs, rounds of probes and devices, at the moments of
@@ -85,8 +85,8 @@ pub fn run_window<R: Threads + Wait + Sync, D: Device + Send, C: Clock + Sync>(
     run_window_by(rt, alloc, hub, rounds, clock, USUAL)
 }
 
-/// Works a window by these means. Each window has a name of its own.
-pub(crate) fn run_window_by<R: Threads + Wait + Sync, D: Device + Send, C: Clock + Sync>(
+/// Works a window as `run_window` does, by these means. Each window has a name of its own.
+pub fn run_window_by<R: Threads + Wait + Sync, D: Device + Send, C: Clock + Sync>(
     rt: &R,
     alloc: Global,
     hub: Hub<D>,

@@ -6,8 +6,6 @@ mod laws;
 mod leases;
 mod purposes;
 mod standings;
-#[cfg(test)]
-mod tests;
 mod touches;
 
 pub use first_places::first_place;

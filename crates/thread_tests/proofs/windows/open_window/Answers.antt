@@ -1,6 +1,6 @@
 use Rattle.command_rules.specs.Rosters.{runs_of}
 use Rattle.hub_core.proofs.Cited.{may_open}
-use Rattle.hub_threads.proofs.tests.open_window.Goals as goal
+use Rattle.thread_tests.proofs.windows.open_window.Goals as goal
 use Rattle.routine_reader.specs.Rosters.{script_runs}
 use Rattle.std.proofs.Common.{arith, refl, rules, ◌≡◌}
 use Rattle.std.specs.Prelude.{Some, slice_get, ◌≤◌}

@@ -1,5 +1,4 @@
-//! Windows with a known end, whoever steps their runs, and a worker over a fake of what lies under
-//! the lock.
+//! Windows with a known end, whoever steps their runs.
 ghost use Rattle.std.specs.Prelude.{◌≡◌, ◌<◌, IfOk, IfSome};
 ghost use Rattle.hub_core.specs.OpenHubs.{configuration_of};
 ghost use Rattle.hub_core.specs.Steps.{opened};
@@ -7,17 +6,13 @@ ghost use Rattle.routine_reader.specs.Rosters.{kinds_of};
 ghost use Rattle.routine_reader.specs.Scripts.{plain_script};
 ghost use Rattle.routine_reader.specs.Sound.{IsSound};
 
-use crate::bells::{Bells, Naps};
-use crate::fakes::work_fake;
-use crate::kept_windows::{KeepFault, run_kept_window};
-use crate::windows::{Means, run_window_by};
 use day_clock::SetClock;
 use device_states::{Bench, CalmBench, CalmDevice, Device};
-use grip_seats::Desk;
 use history_book::{End, Entry, Kept, WindowRecord};
 use home_journal::{Disk, Journal, MemoryDisk};
 use home_types::{Bytes, Item, List, Mode, NoMemory, Scheduler, Stand, Visibility};
 use hub_core::{Home, Hub, script_kinds};
+use hub_threads::{KeepFault, Means, Naps, run_kept_window, run_window_by};
 use routine_reader::{Script, read_script, roster};
 use std::alloc::Global;
 use std::sync::Wait;
@@ -85,15 +80,6 @@ fn some_runs_have_a_thread(rt: HostRuntime) {
 #[test]
 fn each_run_has_a_thread(rt: HostRuntime) {
     assert!(rt; ends_right(&rt, rt.alloc(), u32::MAX));
-}
-
-#[test]
-fn a_worker_tells_what_was_answered(rt: HostRuntime) {
-    let bells = Bells::new(rt.alloc(), 1, LONG).expect(&rt, "memory");
-    let desk = Desk::open(rt.alloc(), 0).expect(&rt, "memory");
-    assert!(rt;
-        work_fake::<CalmDevice, HostRuntime, SetClock>(&rt, bells, desk, 7, &SetClock::new(5)) == 7
-    );
 }
 
 /// A hub that begins again behind each window, on a disk that fails from this call on until the
