@@ -1,4 +1,4 @@
-// A window in threads: one for each run, with the hub and what the threads have told behind a lock.
+// A window worked by threads, at most one for each run, over a hub behind a lock.
 #![tactic(auto)]
 
 mod bells;
