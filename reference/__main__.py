@@ -20,12 +20,12 @@ one tells what helps. It is called at the top of the repository.
 import os
 import sys
 
-from reference.calls import Call
-from reference.disks import FileDisk
+from .calls import Call
+from .disks import FileDisk
 
 HELP = (["-h"], ["--help"], ["help"])
 HINTS = {
-    1: "(python3 tools/explain.py SCRIPT tells where, and what was expected)",
+    1: "(./lazbendix explain SCRIPT tells where, and what was expected)",
     2: "(python3 -m reference --help tells the words)",
 }
 

@@ -3,15 +3,15 @@
 A source has `read(most)`, a sink `write(data)`, which gives how many bytes went; both raise `OSError` where they fail. What a
 disk has `disks` says.
 """
-from reference import days
-from reference.check import Differs, check_record
-from reference.disks import BytesDisk
-from reference.journal import Damaged, Journal
-from reference.record import board_text, head_text, kept_text, total_text, window_text
-from reference.replay import Home
-from reference.rooms import Cross, joined_records, need_no_crossing
-from reference.script import LIMITS, Refusal, read_script
-from reference.words import Words, read_words
+from . import days
+from .check import Differs, check_record
+from .disks import BytesDisk
+from .journal import Damaged, Journal
+from .record import board_text, head_text, kept_text, total_text, window_text
+from .replay import Home
+from .rooms import Cross, joined_records, need_no_crossing
+from .script import LIMITS, Refusal, read_script
+from .words import Words, read_words
 
 PIECE = 4096
 MOST_CHECKED = 67_108_864  # bytes of a script and its record

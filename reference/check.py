@@ -4,9 +4,9 @@ It knows nothing of the hub. The lines of a trace are passed over.
 """
 import re
 
-from reference.history import MOST
-from reference.record import time_text
-from reference.serial import DOWN, FINE, SKIPPED, Back, Failed, Ran, Stand, execute
+from .history import MOST
+from .record import time_text
+from .serial import DOWN, FINE, SKIPPED, Back, Failed, Ran, Stand, execute
 
 NUMBER = re.compile(r"0|[1-9][0-9]{0,19}", re.ASCII)
 EVENT = re.compile(r"(fail|back)\(([^()]*)\)")

@@ -26,12 +26,14 @@ import subprocess
 import sys
 import tempfile
 
-HERE = os.path.dirname(os.path.abspath(__file__))
-sys.path.insert(0, os.path.join(HERE, ".."))
+HERE = os.path.dirname(os.path.realpath(__file__))
+if not __package__:  # called by its file's name
+    sys.path.insert(0, os.path.join(HERE, ".."))
+    __package__ = "reference"
 
-from reference import days
-from reference.calls import BytesSink, BytesSource, Call
-from reference.disks import NAME, BytesDisk
+from . import days
+from .calls import BytesSink, BytesSource, Call
+from .disks import NAME, BytesDisk
 
 PROGRAM = os.path.join(HERE, "..", "crates", "hub_main", "out", "hub_main")
 MODES = [("ev", "fcfs"), ("psv", "fcfs"), ("ev", "jit"), ("gsv", "fcfs"), ("wv", "fcfs"), ("ev", "timeline")]

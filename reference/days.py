@@ -6,10 +6,10 @@ What draws the first three is a `random.Random`, so that a seed gives the same d
 import copy
 import json
 
-from reference.history import Mode
-from reference.replay import Draws
-from reference.script import DeviceText, RoutineText, RunText, Script, WindowText
-from reference.serial import Command, Kind
+from .history import Mode
+from .replay import Draws
+from .script import DeviceText, RoutineText, RunText, Script, WindowText
+from .serial import Command, Kind
 
 TRIAL_MODE = Mode("ev", "fcfs")
 TRIAL_DEVICES, TRIAL_ROUTINES, TRIAL_COMMANDS, TRIAL_VALUES = 32, 64, 4, 1000

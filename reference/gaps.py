@@ -3,7 +3,7 @@
 An item must stand before each one behind it from which it is not apart. A set of items is told by their places in the line as
 it stands. It is closed where it has, with each item, all that must stand before it.
 """
-from reference.serial import Ran
+from .serial import Ran
 
 
 class Gap:

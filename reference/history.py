@@ -6,8 +6,8 @@ from collections import Counter
 from dataclasses import dataclass
 from typing import NamedTuple
 
-from reference.gaps import Gap
-from reference.serial import DOWN, FINE, SKIPPED, Back, Failed, Ran
+from .gaps import Gap
+from .serial import DOWN, FINE, SKIPPED, Back, Failed, Ran
 
 MOST = 2**64 - 1  # the greatest moment; sums stay at it
 

@@ -4,11 +4,11 @@ It keeps the history, as it is, and the grips that are out. All else it reads of
 """
 from dataclasses import dataclass
 
-from reference.devices import Drive, Grip, Probe, Sense, Slip
-from reference.gaps import Gap
-from reference.history import (MOST, Arrived, Did, Doomed, DownAtEnd, Ended, Fell, History, Lost, MustDown, Placed, Refuted,
+from .devices import Drive, Grip, Probe, Sense, Slip
+from .gaps import Gap
+from .history import (MOST, Arrived, Did, Doomed, DownAtEnd, Ended, Fell, History, Lost, MustDown, Placed, Refuted,
                                Revoked, Rose, Undid)
-from reference.serial import DOWN, FINE, SKIPPED, Ran, Stand
+from .serial import DOWN, FINE, SKIPPED, Ran, Stand
 
 PATIENCE = 10_000  # ms
 

@@ -12,11 +12,13 @@ import os
 import re
 import sys
 
-if __name__ == "__main__":
-    sys.path.insert(0, os.path.join(os.path.dirname(os.path.abspath(__file__)), ".."))
+HERE = os.path.dirname(os.path.realpath(__file__))
+if not __package__:  # called by its file's name
+    sys.path.insert(0, os.path.join(HERE, ".."))
+    __package__ = "reference"
 
-from reference.script import Refusal, read_script
-from reference.serial import Kind, Stand
+from .script import Refusal, read_script
+from .serial import Kind, Stand
 
 OPEN, SHUT = b"\1", b"\0"
 
@@ -89,7 +91,7 @@ class Journal:
 
 # The bytes that stand in the tests
 
-TESTS = os.path.join(os.path.dirname(os.path.abspath(__file__)), "..", "crates", "rule_tests", "src", "journals.rt")
+TESTS = os.path.join(HERE, "..", "crates", "rule_tests", "src", "journals.rt")
 LAMP, HEAT = Kind(0, 1), Kind(10, 30)
 ONE_LAMP = [[Stand(1, True)]]
 TWO_DEVICES = [[Stand(0, True), Stand(18, True)], [Stand(1, True), Stand(25, False)]]

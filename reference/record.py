@@ -1,7 +1,7 @@
 """The text of a day: its head, its windows with or without their trace, its total, and the line of a board."""
-from reference.history import (Arrived, Did, Doomed, DownAtEnd, Ended, Fell, Lost, MustDown, Placed, Refuted, Revoked, Rose,
+from .history import (Arrived, Did, Doomed, DownAtEnd, Ended, Fell, Lost, MustDown, Placed, Refuted, Revoked, Rose,
                                Undid)
-from reference.serial import Failed, Ran
+from .serial import Failed, Ran
 
 
 def head_text(mode):

@@ -1,8 +1,8 @@
 """A replay: the generator of picks, the actors of a window, and the home from window to window."""
-from reference.devices import Device
-from reference.history import Mode
-from reference.hub import WAITS, Hub, Record
-from reference.serial import Run, Stand
+from .devices import Device
+from .history import Mode
+from .hub import WAITS, Hub, Record
+from .serial import Run, Stand
 
 DETECTOR = 0
 

@@ -4,10 +4,10 @@ The room of a device is the part of its name before the first `_`. Rooms are in 
 """
 import dataclasses
 
-from reference.history import DownAtEnd, Lost, Revoked
-from reference.replay import Home
-from reference.script import RoutineText, RunText, Script
-from reference.serial import Ran
+from .history import DownAtEnd, Lost, Revoked
+from .replay import Home
+from .script import RoutineText, RunText, Script
+from .serial import Ran
 
 
 class Cross(Exception):

@@ -5,9 +5,9 @@ The steps of the walk stand here in their order; docs/FORMATS.md has the tables.
 import re
 from typing import NamedTuple
 
-from reference.json_text import NotJson, read_json
-from reference.serial import Command, Guard, Kind
-from reference.times import read_time
+from .json_text import NotJson, read_json
+from .serial import Command, Guard, Kind
+from .times import read_time
 
 VERSIONS = 1, 2  # in the second a command may have a guard
 LIMITS = {

@@ -20,24 +20,26 @@ import os
 import re
 import sys
 
-HERE = os.path.dirname(os.path.abspath(__file__))
+HERE = os.path.dirname(os.path.realpath(__file__))
 CRATES = os.path.join(HERE, "..", "crates")
 EXAMPLES = os.path.join(HERE, "..", "examples")
 PICTURES = os.path.join(HERE, "..", "docs", "pictures")
-sys.path.insert(0, os.path.join(HERE, ".."))
+if not __package__:  # called by its file's name
+    sys.path.insert(0, os.path.join(HERE, ".."))
+    __package__ = "reference"
 
-from reference.calls import BytesSink, BytesSource, Call
-from reference.check import Differs, check_record
-from reference.devices import Grip
-from reference.disks import BytesDisk
-from reference.history import Mode
-from reference.hub import WAITS, Stranger
-from reference.record import head_text, window_text
-from reference.replay import Draws, Home, Player
-from reference.script import Refusal, read_script
-from reference.serial import DOWN, FINE, SKIPPED, Refused, execute_serially
-from reference.words import read_words
-from tools.picture import picture_of
+from .calls import BytesSink, BytesSource, Call
+from .check import Differs, check_record
+from .devices import Grip
+from .disks import BytesDisk
+from .history import Mode
+from .hub import WAITS, Stranger
+from .record import head_text, window_text
+from .replay import Draws, Home, Player
+from .script import Refusal, read_script
+from .serial import DOWN, FINE, SKIPPED, Refused, execute_serially
+from .words import read_words
+from lazbendix.picture import picture_of
 
 ROOM = 1 << 16  # bytes of a sink, where a case does not say
 

@@ -2,7 +2,7 @@
 import re
 from typing import NamedTuple
 
-from reference.history import Mode
+from .history import Mode
 
 MODELS, SCHEDULERS = ("wv", "gsv", "psv", "ev"), ("fcfs", "jit", "timeline")
 MOST_WINDOWS = 288

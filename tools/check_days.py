@@ -28,21 +28,21 @@ import sys
 from typing import Any
 
 HERE = os.path.dirname(os.path.abspath(__file__))
-sys.path.insert(0, os.path.join(HERE, ".."))
+sys.path[:0] = [os.path.join(HERE, ".."), os.path.join(HERE, "..", "python")]
 
-from reference import days
-from reference.compare import MODES
-from reference.history import Entry, Mode
-from reference.hub import WAITS, Busy, Hub
-from reference.record import head_text, total_text, window_text
-from reference.replay import Home
-from reference.script import Script, read_script
+from lazbendix.reference import days
+from lazbendix.reference.compare import MODES
+from lazbendix.reference.history import Entry, Mode
+from lazbendix.reference.hub import WAITS, Busy, Hub
+from lazbendix.reference.record import head_text, total_text, window_text
+from lazbendix.reference.replay import Home
+from lazbendix.reference.script import Script, read_script
 from tools import check_trace_events
 from tools.check_trace_events import check_events
-from tools.next_day import NoNext, next_day
-from tools.records import read_day
-from tools.summary import Said, WindowTeller, ordinal, sentences, summary
-from tools.trace_events import DEVICES, trace_of
+from lazbendix.next_day import NoNext, next_day
+from lazbendix.records import read_day
+from lazbendix.summary import Said, WindowTeller, ordinal, sentences, summary
+from lazbendix.trace_events import DEVICES, trace_of
 
 Counts = collections.Counter[str]
 

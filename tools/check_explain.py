@@ -31,13 +31,13 @@ from typing import Any
 
 HERE = os.path.dirname(os.path.abspath(__file__))
 TOP = os.path.join(HERE, "..")
-sys.path.insert(0, TOP)
+sys.path[:0] = [TOP, os.path.join(TOP, "python")]
 
-from reference import days
-from reference.json_text import NotJson, read_json
-from tools.explain import explained, explanation, refusal_of
-from tools.json_places import Broken, Node, position, read_places
-from tools.script_mistakes import Mistake
+from lazbendix.reference import days
+from lazbendix.reference.json_text import NotJson, read_json
+from lazbendix.explain import explained, explanation, refusal_of
+from lazbendix.json_places import Broken, Node, position, read_places
+from lazbendix.script_mistakes import Mistake
 
 Counts = collections.Counter[str]
 Row = dict[str, str]
@@ -155,7 +155,7 @@ def case_text(row: Row) -> tuple[bytes, list[int]]:
 def check_note(row: Row) -> None:
     """A row of a script that is read: a hint of this kind at the byte marked, with these words."""
     data, marks = case_text(row)
-    mistakes, hints = explained(data)
+    mistakes, hints = explained(data, "jit")
     told = [f"{hint.path}: {hint.says}" for hint in hints if f"note: {hint.kind}" == row["refusals"] and [hint.at] == marks]
     need(not mistakes and len(told) == 1 and all(words in told[0] for words in row["words"].split(" & ")), row["name"], mistakes, hints)
 

@@ -26,12 +26,12 @@ from collections.abc import Iterator
 os.chdir(os.path.join(os.path.dirname(os.path.abspath(__file__)), ".."))
 PAGES = ["*.md", "docs/*.md", "*/README.md", "crates/*/README.md", "examples/*/README.md", "library/*/README.md"]
 SOURCES = ["crates/**/*.rt", "crates/**/*.antt", "crates/**/*.sh", "crates/**/*.edit", "reference/*.py", "tools/*.py", "bench/*.py",
-           "tools/*.sh", "tools/viewer_page/*", "examples/*", "examples/*/*", "docs/*.json", "crates.txt", "HANDLES",
+           "tools/*.sh", "python/*", "python/*/*.py", "python/lazbendix/viewer_page/*", "lazbendix", "examples/*", "examples/*/*", "docs/*.json", "crates.txt", "HANDLES",
            "library/*.h", "library/*.sh", "library/*/*", "library/*/*/*"]
 NAME = re.compile(r"[^\W\d]\w*(?:(?:::|\.)[^\W\d]\w*)*")
 QUOTED = r"`[^`\n]+`"
 PLACED = re.compile(rf"((?:{QUOTED}(?:, | and |; )?(?:with )?)+) \((?:([a-z]+_[a-z_]+), )?(?:proofs/)?((?:\w+/)*[A-Z]\w+)\)")
-PATH = re.compile(r"(?<![\w/.<-])((?:crates|docs|examples|reference|tools|bench|proofs|specs|src)/[\w./-]*\w)")
+PATH = re.compile(r"(?<![\w/.<-])((?:crates|docs|examples|reference|tools|python|bench|proofs|specs|src)/[\w./-]*\w)")
 # a crate that is gone, names with a number to fill in, a device of a trial, and the toolchain and its like
 OUTSIDE = ("plain_rules at_K clauses_K give_K d00 logic valgrind callgrind clang "
            "ulimit malloc NaN mypy")

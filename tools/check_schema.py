@@ -10,7 +10,7 @@ invalid, but for what no schema of single values says: that a whole number is wr
 times in their order), and which days a month has. Texts that are no JSON have no value to be valid. Prints how many of each kind
 there were, and the first one that is otherwise; ends with 1 then.
 
-It takes no script of your own: tools/explain.py does. It needs jsonschema (the system's package python3-jsonschema is for
+It takes no script of your own: lazbendix explain does. It needs jsonschema (the system's package python3-jsonschema is for
 /usr/bin/python3); nothing else here does.
 """
 import argparse

@@ -29,22 +29,22 @@ from collections.abc import Iterator
 from typing import Any
 
 HERE = os.path.dirname(os.path.abspath(__file__))
-sys.path.insert(0, os.path.join(HERE, ".."))
+sys.path[:0] = [os.path.join(HERE, ".."), os.path.join(HERE, "..", "python")]
 
-from reference import days
-from reference.compare import MODES
-from reference.history import Mode
-from reference.hub import WAITS
-from reference.record import head_text, total_text, window_text
-from reference.replay import Home
-from reference.script import Script, read_script
-from reference.serial import Ran
+from lazbendix.reference import days
+from lazbendix.reference.compare import MODES
+from lazbendix.reference.history import Mode
+from lazbendix.reference.hub import WAITS
+from lazbendix.reference.record import head_text, total_text, window_text
+from lazbendix.reference.replay import Home
+from lazbendix.reference.script import Script, read_script
+from lazbendix.reference.serial import Ran
 from tools.headless import Browser, Tab
-from tools.picture import picture_of
-from tools.records import Day, Retelling, is_whole_step, read_day, stands_before
-from tools.summary import ordinal
-from tools.told_windows import Facts, wait_facts
-from tools.viewer import page_of
+from lazbendix.picture import picture_of
+from lazbendix.records import Day, Retelling, is_whole_step, read_day, stands_before
+from lazbendix.summary import ordinal
+from lazbendix.told_windows import Facts, wait_facts
+from lazbendix.viewer import page_of
 
 Counts = dict[str, float]
 

@@ -8,7 +8,7 @@
 #
 #     bin/            the program, crates/hub_main/out/hub_main by default
 #     lib/ include/   the library and its header, where they are named
-#     README.md CHANGELOG.md VERSION LICENSE docs/ examples/ reference/ tools/ bench/, and the page of each crate
+#     README.md CHANGELOG.md VERSION LICENSE docs/ examples/ reference/ python/ lazbendix tools/ bench/, and the page of each crate
 #     RELEASE         version, commit, its date, the kit, the checksum of the gate's log and its last lines
 #     SHA256SUMS      the checksum of each file above (sha256sum -c SHA256SUMS)
 #
@@ -82,8 +82,8 @@ make() {
     install -m 755 "$program" "$to/bin/hub_main" || return
     [ -z "$library" ] || install -D -m 644 "$library" "$to/lib/$(basename "$library")" || return
     [ -z "$header" ] || install -D -m 644 "$header" "$to/include/$(basename "$header")" || return
-    git ls-files -z README.md CHANGELOG.md VERSION 'LICENSE*' docs examples reference tools bench 'crates/*/README.md' |
-        xargs -0 cp --parents -t "$to" || return
+    git ls-files -z README.md CHANGELOG.md VERSION 'LICENSE*' docs examples reference tools python lazbendix bench 'crates/*/README.md' |
+        xargs -0 cp --parents -P -t "$to" || return
     {
         echo "lazbendix $version"
         echo "commit $commit of $(date -u -d "@$moment" +%Y-%m-%dT%H:%M:%SZ)"

@@ -14,7 +14,7 @@ import sys
 from typing import IO
 
 HERE = os.path.dirname(os.path.abspath(__file__))
-sys.path[:0] = [HERE, os.path.join(HERE, "..", "python")]
+sys.path[:0] = [HERE, os.path.join(HERE, "..", "..", "python")]
 
 from devices import home
 from journals import Journal

@@ -118,7 +118,7 @@ for script in "$root"/examples/*.json; do
 done
 
 say "Python"
-(cd "$library/python" && python3 -m unittest discover -s tests -t .)
+(cd "$library/tests/python" && PYTHONPATH="$root/python" python3 -m unittest discover -s .)
 say "a live hub"
 (cd "$library/live" && python3 -m unittest test_live)
 

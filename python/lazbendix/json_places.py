@@ -15,7 +15,16 @@ NUMBER = re.compile(rb"-?(?:0|[1-9][0-9]*)(\.[0-9]+)?([eE][+-]?[0-9]+)?")
 STOP = re.compile(rb'["\\\x00-\x1f]')  # in a text: what is no plain letter
 UNIT = re.compile(rb"\\u([0-9a-fA-F]{4})")
 TOKEN = re.compile(rb"[A-Za-z_$][\w$-]*|[^\s\x80-\xff]")
-ESCAPES = {b'"': '"', b"\\": "\\", b"/": "/", b"b": "\b", b"f": "\f", b"n": "\n", b"r": "\r", b"t": "\t"}
+ESCAPES = {
+    b'"': '"',
+    b"\\": "\\",
+    b"/": "/",
+    b"b": "\b",
+    b"f": "\f",
+    b"n": "\n",
+    b"r": "\r",
+    b"t": "\t",
+}
 WORDS = {b"true": True, b"false": False, b"null": None}
 CLOSES = {"{": "}", "[": "]"}
 
@@ -35,8 +44,12 @@ class Node:
     at: int
     end: int
     value: Any  # a plain value, a list of nodes, or a dict of them by name
-    names: dict[str, int] = field(default_factory=dict)  # of an object's members, where each name stands
-    doubles: list[tuple[str, int]] = field(default_factory=list)  # names that are written again, and where the earlier ones stand
+    names: dict[str, int] = field(
+        default_factory=dict
+    )  # of an object's members, where each name stands
+    doubles: list[tuple[str, int]] = field(
+        default_factory=list
+    )  # names that are written again, and where the earlier ones stand
 
     def plain(self) -> Any:
         """The value without places."""
@@ -89,7 +102,9 @@ class Reader:
             advice = "%% divides a script from its record where it stands alone on its line: end the line before it"
         elif self.data.startswith(b"\xef\xbb\xbf", self.at):
             advice = "a byte order mark: save the file without it"
-        return Broken(self.at, f"expected {what}; {self.stands()}" + (f" ({advice})" if advice else ""))
+        return Broken(
+            self.at, f"expected {what}; {self.stands()}" + (f" ({advice})" if advice else "")
+        )
 
     def value(self) -> Node:
         first, begin = self.peek(), self.at
@@ -128,11 +143,16 @@ class Reader:
             if stop == CLOSES[sign]:
                 return
             if stop != ",":
-                raise self.wanted(f"a comma, or {CLOSES[sign]} for the {self.bracket()}", self.after_number(stop))
+                raise self.wanted(
+                    f"a comma, or {CLOSES[sign]} for the {self.bracket()}", self.after_number(stop)
+                )
             comma = self.at
             self.at += 1
             if self.peek().decode("latin-1") == CLOSES[sign]:
-                raise self.wanted("one more entry", f"no comma stands behind the last one, as at {self.told(comma)}")
+                raise self.wanted(
+                    "one more entry",
+                    f"no comma stands behind the last one, as at {self.told(comma)}",
+                )
 
     def after_number(self, stop: str) -> str:
         before = self.data[max(self.at - 1, 0) : self.at]
@@ -161,12 +181,19 @@ class Reader:
         if found is None:
             raise self.wanted("a value")
         self.at = found.end()
-        whole = found[1] is None and found[2] is None and found[0] != b"-0" and len(found[0]) <= MOST_DIGITS
+        whole = (
+            found[1] is None
+            and found[2] is None
+            and found[0] != b"-0"
+            and len(found[0]) <= MOST_DIGITS
+        )
         if whole and -(2**63) <= int(found[0]) < 2**64:
             return Node(begin, self.at, int(found[0]))
         value = float(found[0])
         if value in (float("inf"), float("-inf")):
-            raise Broken(begin, f"the number {found[0].decode()[:40]} is too great for any reader of 64 bits")
+            raise Broken(
+                begin, f"the number {found[0].decode()[:40]} is too great for any reader of 64 bits"
+            )
         return Node(begin, self.at, value)
 
     def string(self) -> str:
@@ -180,7 +207,9 @@ class Reader:
             try:
                 parts.append(self.data[self.at : end].decode("utf-8"))
             except UnicodeDecodeError as wrong:
-                raise Broken(self.at + wrong.start, "bytes that are no UTF-8: save the file as UTF-8") from None
+                raise Broken(
+                    self.at + wrong.start, "bytes that are no UTF-8: save the file as UTF-8"
+                ) from None
             self.at = end
             stop = self.data[self.at : self.at + 1]
             if stop == b'"':
@@ -194,15 +223,23 @@ class Reader:
         text = f"the text that begins at {self.told(begin)} has no closing quote"
         if stop == b"":
             return Broken(self.at, f"the text ends here, and {text}")
-        return Broken(self.at, f"{text} on its line" if stop in b"\r\n" else f"the byte 0x{stop[0]:02x} stands in a text: write it "
-                      f"as an escape, \\u{stop[0]:04x}")
+        return Broken(
+            self.at,
+            f"{text} on its line"
+            if stop in b"\r\n"
+            else f"the byte 0x{stop[0]:02x} stands in a text: write it "
+            f"as an escape, \\u{stop[0]:04x}",
+        )
 
     def escape(self) -> str:
         begin = self.at
         kind = self.data[begin + 1 : begin + 2]
         if kind != b"u":
             if kind not in ESCAPES:
-                raise Broken(begin, r'an escape that there is not: only \" \\ \/ \b \f \n \r \t and \u with four digits')
+                raise Broken(
+                    begin,
+                    r"an escape that there is not: only \" \\ \/ \b \f \n \r \t and \u with four digits",
+                )
             self.at += 2
             return ESCAPES[kind]
         unit = self.unit()
@@ -217,7 +254,9 @@ class Reader:
     def unit(self, begin: int | None = None) -> int:
         found = UNIT.match(self.data, self.at)
         if found is None:
-            raise Broken(self.at if begin is None else begin, "four hexadecimal digits stand behind \\u")
+            raise Broken(
+                self.at if begin is None else begin, "four hexadecimal digits stand behind \\u"
+            )
         self.at = found.end()
         return int(found[1], 16)
 
@@ -227,5 +266,7 @@ def read_places(data: bytes) -> Node:
     reader = Reader(data)
     node = reader.value()
     if reader.peek() != b"":
-        raise reader.wanted("the end of the text", reader.after_number(reader.peek().decode("latin-1")))
+        raise reader.wanted(
+            "the end of the text", reader.after_number(reader.peek().decode("latin-1"))
+        )
     return node

@@ -1,44 +1,37 @@
-#!/usr/bin/env python3
 """Makes the script of the next day: the devices start where a record left them.
 
-    python3 tools/next_day.py SCRIPT RECORD [--days N | --rest] [--silent CALLS] > next.json
-
-RECORD is a file, or - for standard input: a whole record of the script, or with --rest one that was cut; the check of records
-is to accept it, as far as it goes (under the weak model it cannot be asked). The script stays as it is, byte for byte, but for
+The record is a whole one of the script, or, for the rest of a day, one that was cut; the check of
+records is to accept it, as far as it goes (under the weak model it cannot be asked). The script stays
+as it is, byte for byte, but for
 
 - each `start`, which is the value of the record's last home line;
-- each window's `at`, which is so many days later: N, or as many as the windows of the script span;
-- each `down`. Its calls are numbered over one day, and no record tells how many there were, so the list is emptied.
+- each window's `at`, which is so many days later: as many as are asked for, or as the windows span;
+- each `down`. Its calls are numbered over one day, and no record tells how many there were, so the
+  list is emptied.
 
-A device that was left down, `!` in the home line, cannot be said to be: each device of a script starts counted up. What can be
-said is that it does not answer its first calls, 1 or CALLS of them: `"down": [[1, CALLS + 1]]`. So the first run or probe that
-comes to it finds it down, and a later probe finds it back. Its `start` is the value at which it is to stand; where it does
-stand nobody knows.
+A device that was left down, `!` in the home line, cannot be said to be: each device of a script
+starts counted up. What can be said is that it does not answer its first calls, 1 or as many as asked
+for: `"down": [[1, CALLS + 1]]`. So the first run or probe that comes to it finds it down, and a later
+probe finds it back. Its `start` is the value at which it is to stand; where it does stand nobody
+knows.
 
-With --rest the script is that of the rest of the day: the windows that the record tells whole are left out, and the others keep
-their times. A window is told when it has ended; so of the one that was open as the program ended no record tells what its runs
-had done, and its devices may stand otherwise than the script says.
-
-What was done of these is told on standard error, a line for each. Ends with 0, with 1 where there is no next script, and with 2
-for other words.
+Of the rest of a day the windows that the record tells whole are left out, and the others keep their
+times. A window is told when it has ended; so of the one that was open as the program ended no record
+tells what its runs had done, and its devices may stand otherwise than the script says.
 """
-import os
-import sys
 from collections.abc import Iterator
 
-HERE = os.path.dirname(os.path.abspath(__file__))
-sys.path.insert(0, os.path.join(HERE, ".."))
-
-from reference.check import Differs, check_record
-from reference.record import time_text
-from reference.script import Refusal, Script, read_script
-from reference.times import days_in
-from tools.given import read_given, unread, words_of
-from tools.json_places import Node, read_places
-from tools.records import Day, Unread, WindowLines, read_day
+from lazbendix.reference.check import Differs, check_record
+from lazbendix.reference.record import time_text
+from lazbendix.reference.script import Refusal, Script, read_script
+from lazbendix.reference.times import days_in
+from lazbendix.json_places import Node, read_places
+from lazbendix.records import Day, WindowLines, read_day
 
 Time = tuple[int, ...]  # year, month, day, hour, minute, second
-Edit = tuple[int, int, str, str | None]  # the first byte, the one behind the last, what comes there, and what is told
+Edit = tuple[
+    int, int, str, str | None
+]  # the first byte, the one behind the last, what comes there, and what is told
 
 
 class NoNext(Exception):
@@ -72,7 +65,9 @@ def later(at: Time, days: int) -> Time:
     return *date, *at[3:]
 
 
-def edits(top: Node, script: Script, whole: list[WindowLines], days: int | None, silent: int) -> Iterator[Edit]:
+def edits(
+    top: Node, script: Script, whole: list[WindowLines], days: int | None, silent: int
+) -> Iterator[Edit]:
     """What stands where in the next script: a first byte, the one behind the last, and the bytes between; and what is told."""
     last = whole[-1].last or [] if whole else []
     for device, node, stand in zip(script.devices, top.value["devices"].value, last):
@@ -87,12 +82,16 @@ def edits(top: Node, script: Script, whole: list[WindowLines], days: int | None,
             yield start.end, start.end, f', "down": {calls}', None
         if not stand.up:
             calls = f"{silent} calls" if silent > 1 else "call"
-            yield 0, 0, "", (f"{device.name} was left down: it starts counted up, at {word}, where it is to stand, and does not "
-                             f"answer its first {calls}")
+            yield 0, 0, "", (
+                f"{device.name} was left down: it starts counted up, at {word}, where it is to stand, and does not "
+                f"answer its first {calls}"
+            )
     windows = top.value["windows"].value
     if days is None and whole:
         stop = windows[len(whole)].at if len(whole) < len(windows) else windows[-1].end
-        yield windows[0].at, stop, "", f"the rest of the day has {len(windows) - len(whole)} of {len(windows)} windows"
+        yield windows[
+            0
+        ].at, stop, "", f"the rest of the day has {len(windows) - len(whole)} of {len(windows)} windows"
     if days is not None:
         for window, node in zip(script.windows, windows):
             at = node.value["at"]
@@ -112,26 +111,33 @@ def whole_windows(script: Script, day: Day, text: str) -> list[WindowLines]:
         try:
             check_record(script, text.encode())
         except Differs as differs:
-            cut = not day.total_line and (differs.window > len(whole) or str(differs) == f"window {len(whole)} total")
+            cut = not day.total_line and (
+                differs.window > len(whole) or str(differs) == f"window {len(whole)} total"
+            )
             if not cut:
                 raise NoNext(f"the record does not agree with its script: {differs}") from None
     return whole
 
 
-def next_day(data: bytes, text: str, days: int | None = None, silent: int = 1,
-             rest: bool = False) -> tuple[bytes, list[str]]:
+def next_day(
+    data: bytes, text: str, days: int | None = None, silent: int = 1, rest: bool = False
+) -> tuple[bytes, list[str]]:
     """The next script, from a script and its record, and what is to be told of it."""
     script = read_script(data)
     day = read_day(script, text)
     if not (day.total_line or rest):
-        raise NoNext(f"the record was cut behind line {day.lines}: --rest makes the script of the rest of its day")
+        raise NoNext(
+            f"the record was cut behind line {day.lines}: --rest makes the script of the rest of its day"
+        )
     whole = whole_windows(script, day, text)
     if rest and len(whole) == len(script.windows):
         raise NoNext("the record tells each window of its day: nothing is left of it")
     if rest or days is None:
         days = None if rest else span_of(script)
     parts, told, at = list[bytes](), list[str](), 0
-    for begin, end, words, says in sorted(edits(read_places(data), script, whole, days, silent), key=lambda edit: edit[:2]):
+    for begin, end, words, says in sorted(
+        edits(read_places(data), script, whole, days, silent), key=lambda edit: edit[:2]
+    ):
         told += [says] if says else []
         if begin or end:
             parts += [data[at:begin], words.encode()]
@@ -142,27 +148,3 @@ def next_day(data: bytes, text: str, days: int | None = None, silent: int = 1,
     except Refusal as refusal:
         raise NoNext(f"the next script would be refused: {refusal}") from None
     return made, told
-
-
-def main() -> None:
-    options = words_of(__doc__)
-    which = options.add_mutually_exclusive_group()
-    which.add_argument("--days", type=int, help="by how many days the windows are later")
-    which.add_argument("--rest", action="store_true", help="the rest of the day, where the record was cut")
-    options.add_argument("--silent", type=int, default=1, metavar="CALLS",
-                         help="how many first calls a device that was left down does not answer")
-    asked = options.parse_args()
-    if asked.silent < 1:
-        options.error("--silent: at least 1")
-    try:
-        given = read_given(asked)
-        made, told = next_day(given.data, given.record, asked.days, asked.silent, asked.rest)
-    except (OSError, Refusal, Unread, NoNext) as why:
-        sys.exit(unread("next_day", why))
-    for line in told:
-        print(f"next_day: {line}", file=sys.stderr)
-    sys.stdout.buffer.write(made)
-
-
-if __name__ == "__main__":
-    main()

@@ -4,11 +4,11 @@ import sys
 import unittest
 
 HERE = os.path.dirname(os.path.abspath(__file__))
-sys.path[:0] = [os.path.join(HERE, ".."), os.path.join(HERE, "..", "..", "tests")]
+sys.path[:0] = [HERE, os.path.join(HERE, ".."), os.path.join(HERE, "..", "..", "..", "python")]
 
 import cases
 from reference.calls import BytesSink, BytesSource, Call
-from tests.players import play
+from players import play
 
 from lazbendix import Model, Scheduler
 

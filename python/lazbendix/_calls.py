@@ -5,7 +5,7 @@ from ctypes import POINTER, c_char_p, c_int32, c_size_t, c_uint8, c_uint32, c_ui
 from typing import Any
 
 HERE = os.path.dirname(os.path.abspath(__file__))
-PLACES = [os.path.join(HERE, "liblazbendix.so"), os.path.join(HERE, "..", "..", "out", "liblazbendix.so")]
+PLACES = [os.path.join(HERE, "liblazbendix.so"), os.path.join(HERE, "..", "..", "library", "out", "liblazbendix.so")]
 
 
 class Handle(ctypes.Structure):

@@ -6,7 +6,7 @@ import threading
 import unittest
 
 HERE = os.path.dirname(os.path.abspath(__file__))
-sys.path.insert(0, os.path.join(HERE, ".."))
+sys.path.insert(0, os.path.join(HERE, "..", "..", "..", "python"))
 
 from lazbendix import (Counts, Dead, EntryKind, Found, Go, Hub, Left, Model, Moved, NoRun, Over, Refused, Scheduler,
                        ScriptRefused, Stand, Status, Task, Waits, Why, Worked, _calls)

@@ -7,12 +7,28 @@ devices and commands from 0, values are words.
 from collections.abc import Iterable
 from typing import Any, Generic, TypeVar
 
-from reference.history import Arrived, Did, Doomed, DownAtEnd, Ended, Fell, Lost, MustDown, Placed, Refuted, Revoked, Rose, Undid
-from reference.record import WindowPrinter
-from reference.script import Script
-from reference.serial import DOWN, SKIPPED, Command
-from tools.holdings import holders, leases_on
-from tools.records import Answer, Cause, Day, Entry, Item, Retelling, Why, is_whole_step, stands_before
+from lazbendix.reference.history import (
+    Arrived,
+    Cause,
+    Did,
+    Doomed,
+    DownAtEnd,
+    Ended,
+    Entry,
+    Fell,
+    Lost,
+    MustDown,
+    Placed,
+    Refuted,
+    Revoked,
+    Rose,
+    Undid,
+)
+from lazbendix.reference.record import WindowPrinter
+from lazbendix.reference.script import Script
+from lazbendix.reference.serial import DOWN, SKIPPED, Command
+from lazbendix.holdings import holders, leases_on
+from lazbendix.records import Answer, Day, Item, Retelling, Why, is_whole_step, stands_before
 
 Facts = dict[str, Any]  # as JSON has them
 Key = TypeVar("Key")
@@ -49,7 +65,9 @@ class HistoryTeller:
 
     def __init__(self, script: Script, number: int, day: Day) -> None:
         self.script, self.window = script, day.windows[number]
-        self.again = Retelling(script, number, day.mode, stands_before(script, day, number), self.window)
+        self.again = Retelling(
+            script, number, day.mode, stands_before(script, day, number), self.window
+        )
         self.hub, self.history = self.again.hub, self.again.history
         self.printer = WindowPrinter(script, number)
         self.entries: list[Facts] = []
@@ -62,7 +80,9 @@ class HistoryTeller:
 
     def told(self) -> Facts:
         for k, entry in self.again.steps():
-            self.entries.append({"line": self.printer.entry(entry), **self.facts(entry), **self.turn()})
+            self.entries.append(
+                {"line": self.printer.entry(entry), **self.facts(entry), **self.turn()}
+            )
             devices = self.devices_of(entry)
             self.tell_stands(k + 1, devices)
             self.met.update(devices)
@@ -72,25 +92,54 @@ class HistoryTeller:
         return {
             "entries": self.entries,
             "states": [state for run in self.hub.runs for state in self.states(run, last)],
-            "holds": [{"device": d, "run": run, "from": since, "to": end} for (d, run), since, end, _ in self.holds.close(last)],
-            "downs": [{"device": d, "from": since, "to": end} for d, since, end, _ in self.downs.close(last)],
-            "leases": [{"device": d, "borrower": run, "from": since, "to": end, "lenders": lenders, "deadline": deadline}
-                       for (d, run), since, end, (lenders, deadline) in self.leases.close(last)],
-            "values": [{"device": d, "from": since, "to": end, "value": word} for d, since, end, word in self.values.close(last)],
+            "holds": [
+                {"device": d, "run": run, "from": since, "to": end}
+                for (d, run), since, end, _ in self.holds.close(last)
+            ],
+            "downs": [
+                {"device": d, "from": since, "to": end}
+                for d, since, end, _ in self.downs.close(last)
+            ],
+            "leases": [
+                {
+                    "device": d,
+                    "borrower": run,
+                    "from": since,
+                    "to": end,
+                    "lenders": lenders,
+                    "deadline": deadline,
+                }
+                for (d, run), since, end, (lenders, deadline) in self.leases.close(last)
+            ],
+            "values": [
+                {"device": d, "from": since, "to": end, "value": word}
+                for d, since, end, word in self.values.close(last)
+            ],
         }
 
     def states(self, run: int, last: int) -> list[Facts]:
         """What the run is at, stretch after stretch, from its arrival to its end: it works, waits or is doomed."""
-        steps = {entry["kind"]: step for step, entry in enumerate(self.entries, 1) if entry.get("run") == run}
+        steps = {
+            entry["kind"]: step
+            for step, entry in enumerate(self.entries, 1)
+            if entry.get("run") == run
+        }
         end = steps.get("ended", last)
         doom = steps.get("doomed", end)
         states, since = list[tuple[int, int, Facts]](), steps.get("arrived", end)
         for wait in (wait for wait in self.again.waits if wait.run == run):
             until = last if wait.until is None else wait.until + 1
-            states += [(since, wait.since + 1, {"state": "works"}), (wait.since + 1, until, {"state": "waits", **wait_facts(wait.why)})]
+            states += [
+                (since, wait.since + 1, {"state": "works"}),
+                (wait.since + 1, until, {"state": "waits", **wait_facts(wait.why)}),
+            ]
             since = until
         states += [(since, doom, {"state": "works"}), (max(since, doom), end, {"state": "doomed"})]
-        return [{"run": run, "from": since, "to": end, **state} for since, end, state in states if since < end]
+        return [
+            {"run": run, "from": since, "to": end, **state}
+            for since, end, state in states
+            if since < end
+        ]
 
     # The entry.
 
@@ -99,7 +148,9 @@ class HistoryTeller:
         to the front, in their order, where it rearranges the line."""
         before, self.line = self.line, list(self.history.line)
         if len(self.line) < len(before):
-            return {"outOf": next(place for place, item in enumerate(before) if item not in self.line)}
+            return {
+                "outOf": next(place for place, item in enumerate(before) if item not in self.line)
+            }
         if len(self.line) == len(before):
             return {}
         into = next(place for place, item in enumerate(self.line) if item not in before)
@@ -114,9 +165,20 @@ class HistoryTeller:
             case Placed(run, _, moment):
                 return {"kind": "placed", "run": run, "moment": moment}
             case Did(run, c, answer):
-                return {"kind": "did", "run": run, "command": c, **self.answer_facts(run, c, answer)}
+                return {
+                    "kind": "did",
+                    "run": run,
+                    "command": c,
+                    **self.answer_facts(run, c, answer),
+                }
             case Undid(run, device, drove):
-                return {"kind": "undid", "run": run, "device": device, "drove": drove, "value": self.stand(device)}
+                return {
+                    "kind": "undid",
+                    "run": run,
+                    "device": device,
+                    "drove": drove,
+                    "value": self.stand(device),
+                }
             case Fell(device):
                 return {"kind": "fell", "device": device}
             case Rose(device):
@@ -161,7 +223,10 @@ class HistoryTeller:
         """Tells who has the devices that were met, and who has them on lease."""
         for device in sorted(self.met):
             have = holders(self.hub, device)
-            leases = {lease.borrower: (lease.lenders, lease.deadline) for lease in leases_on(self.hub, device)}
+            leases = {
+                lease.borrower: (lease.lenders, lease.deadline)
+                for lease in leases_on(self.hub, device)
+            }
             for run in self.hub.runs:
                 if device in self.hub.runs[run].last:
                     self.holds.tell((device, run), step, run in have or None)
@@ -172,7 +237,10 @@ class HistoryTeller:
 def wait_facts(why: Why) -> Facts:
     """A wait as the page is told it: its kind, and the other run and the device, where it names them."""
     named = {"other": getattr(why, "run", None), "device": getattr(why, "device", None)}
-    return {"kind": type(why).__name__.lower(), **{name: number for name, number in named.items() if number is not None}}
+    return {
+        "kind": type(why).__name__.lower(),
+        **{name: number for name, number in named.items() if number is not None},
+    }
 
 
 def cause_facts(script: Script, commands: list[Command], cause: Cause) -> Facts:
@@ -181,11 +249,21 @@ def cause_facts(script: Script, commands: list[Command], cause: Cause) -> Facts:
         case MustDown(c):
             return {"kind": "must", "command": c}
         case Refuted(c, found):
-            return {"kind": "refuted", "command": c, "found": script.devices[commands[c].device].word(found)}
+            return {
+                "kind": "refuted",
+                "command": c,
+                "found": script.devices[commands[c].device].word(found),
+            }
         case Lost(device):
             return {"kind": "lost", "device": device}
         case Revoked(lender, device, deadline, moment):
-            return {"kind": "revoked", "run": lender, "device": device, "deadline": deadline, "moment": moment}
+            return {
+                "kind": "revoked",
+                "run": lender,
+                "device": device,
+                "deadline": deadline,
+                "moment": moment,
+            }
         case DownAtEnd(device):
             return {"kind": "downatend", "device": device}
 

@@ -1,51 +1,79 @@
-#!/usr/bin/env python3
-"""Draws a day: reads its script and its record with trace, and writes an SVG.
+"""Draws a day as an SVG, from its script and its record with trace.
 
-    python3 tools/picture.py SCRIPT RECORD [--title TITLE] [--columns N] [--all] > day.svg
-
-RECORD is a file, or - for standard input. Each window has a column for each entry of its history, 36 beside each other (or N),
-and a row for each run and for each device that a run names (with --all for every device). A column is a step, not time. On the
-row of a run stand its answers, its doom, its undos and its end, and the line between them tells whether it waits, and for which
-run, as far as the history shows it: what a grip that is out keeps waiting does not show. On the row of a device stand who has it,
-its value, its leases, failures and restarts. Below is the serial order.
+Each window has a column for each entry of its history, 36 beside each other (or as many as asked
+for), and a row for each run and for each device that a run names, or for every device. A column is a
+step, not time. On the row of a run stand its answers, its doom, its undos and its end, and the line
+between them tells whether it waits, and for which run, as far as the history shows it: what a grip
+that is out keeps waiting does not show. On the row of a device stand who has it, its value, its
+leases, failures and restarts. Below is the serial order.
 """
-import os
-import sys
 from collections.abc import Callable, Iterator
 
-HERE = os.path.dirname(os.path.abspath(__file__))
-sys.path.insert(0, os.path.join(HERE, ".."))
+from lazbendix.choice import Choice
+from lazbendix.reference.record import WindowPrinter
+from lazbendix.reference.script import Script
+from lazbendix.reference.serial import Ran
+from lazbendix.records import Day, Item, Unread, read_day
+from lazbendix.summary import ordinal
+from lazbendix.svg import HALF_TAG, LETTER, MARGIN, Picture, width_of
+from lazbendix.told_windows import Facts, told_history
 
-from reference.record import WindowPrinter
-from reference.script import Refusal, Script
-from reference.serial import Ran
-from tools.given import read_given, unread, words_of
-from tools.records import Day, Item, Unread, read_day
-from tools.summary import ordinal
-from tools.svg import HALF_TAG, LETTER, MARGIN, Picture, width_of
-from tools.told_windows import Facts, told_history
+Sample = tuple[
+    str, float, str, Callable[[float, float], None]
+]  # a sign, its width, what it means, how it is drawn
 
-Sample = tuple[str, float, str, Callable[[float, float], None]]  # a sign, its width, what it means, how it is drawn
-
-WIDTH, RUN_ROW, DEVICE_ROW, LEASE_ROW, HEAD, GAP = 60, 52, 44, 66, 42, 20  # of a column, the rows, the head, and between parts
-MODELS = {"wv": "weak visibility", "gsv": "global strict visibility", "psv": "partitioned strict visibility",
-          "ev": "eventual visibility"}
-SCHEDULERS = {"fcfs": "first come first served", "jit": "just in time", "timeline": "by the timeline"}
-LINES = {"works": (2, ""), "waits": (2, "1.5 4"), "doomed": (1, "7 3")}  # how a run's line is drawn: its width and its dashes
-DOWN, SKIPPED = "3 2", "1 3"  # the dashes of what came of a device that is down, and of a guard that does not hold
+WIDTH, RUN_ROW, DEVICE_ROW, LEASE_ROW, HEAD, GAP = (
+    60,
+    52,
+    44,
+    66,
+    42,
+    20,
+)  # of a column, the rows, the head, and between parts
+MODELS = {
+    "wv": "weak visibility",
+    "gsv": "global strict visibility",
+    "psv": "partitioned strict visibility",
+    "ev": "eventual visibility",
+}
+SCHEDULERS = {
+    "fcfs": "first come first served",
+    "jit": "just in time",
+    "timeline": "by the timeline",
+}
+LINES = {
+    "works": (2, ""),
+    "waits": (2, "1.5 4"),
+    "doomed": (1, "7 3"),
+}  # how a run's line is drawn: its width and its dashes
+DOWN, SKIPPED = (
+    "3 2",
+    "1 3",
+)  # the dashes of what came of a device that is down, and of a guard that does not hold
 
 
 class WindowPainter:
     """Draws a window: a band of rows for each so many entries. The signs that it uses it adds to a set."""
 
-    def __init__(self, picture: Picture, script: Script, day: Day, number: int, columns: int, every: bool, signs: set[str]) -> None:
+    def __init__(
+        self,
+        picture: Picture,
+        script: Script,
+        day: Day,
+        number: int,
+        columns: int,
+        every: bool,
+        signs: set[str],
+    ) -> None:
         self.picture, self.script, self.columns, self.signs = picture, script, columns, signs
         self.window, self.printer = day.windows[number], WindowPrinter(script, number)
         self.history = told_history(script, day, number)
         self.entries = self.history["entries"]
         runs = script.windows[number].runs
         self.commands = {r: script.routines[run.routine].commands for r, run in enumerate(runs, 1)}
-        self.labels = {r: f"{r} {script.routines[run.routine].name}" for r, run in enumerate(runs, 1)}
+        self.labels = {
+            r: f"{r} {script.routines[run.routine].name}" for r, run in enumerate(runs, 1)
+        }
         named = {command.device for commands in self.commands.values() for command in commands}
         named |= {entry["device"] for entry in self.entries if "device" in entry}
         self.devices = [d for d in range(len(script.devices)) if every or d in named]
@@ -99,7 +127,9 @@ class WindowPainter:
         for state, x, to_x in self.seen(self.history["states"]):
             self.signs.add(state["state"])
             width, dash = LINES[state["state"]]
-            self.picture.line(x, self.run_y(state["run"]), to_x, self.run_y(state["run"]), width, dash)
+            self.picture.line(
+                x, self.run_y(state["run"]), to_x, self.run_y(state["run"]), width, dash
+            )
         self.paint_waits()
         moment = None
         for step in range(self.first, self.last + 1):
@@ -125,7 +155,14 @@ class WindowPainter:
         for down, x, to_x in self.seen(self.history["downs"]):
             if down["device"] in self.devices:
                 self.signs.add("down")
-                self.picture.box(x, self.device_y(down["device"]) - 8, to_x - x, 16, fill="url(#down)", stroke="none")
+                self.picture.box(
+                    x,
+                    self.device_y(down["device"]) - 8,
+                    to_x - x,
+                    16,
+                    fill="url(#down)",
+                    stroke="none",
+                )
         for hold, x, to_x in self.seen(self.history["holds"]):
             self.signs.add("has")
             self.bracket(x, to_x, self.device_y(hold["device"]) + 12)
@@ -143,7 +180,11 @@ class WindowPainter:
 
     def paint_waits(self) -> None:
         """Names the run for which a run waits, where it begins to, and for how long there is room."""
-        waits = [(stretch, x) for stretch, x, _ in self.seen(self.history["states"]) if stretch["state"] == "waits"]
+        waits = [
+            (stretch, x)
+            for stretch, x, _ in self.seen(self.history["states"])
+            if stretch["state"] == "waits"
+        ]
         ends: dict[int, float] = {}
         for wait, x in waits:
             self.signs.add(wait["kind"])
@@ -157,7 +198,9 @@ class WindowPainter:
         for value, x, _ in self.seen(self.history["values"]):
             if value["device"] in self.devices:
                 at = x + (2 if value["from"] < self.first else 13)
-                self.picture.text(at, self.device_y(value["device"]) - 12, value["value"], most=8, widens=False)
+                self.picture.text(
+                    at, self.device_y(value["device"]) - 12, value["value"], most=8, widens=False
+                )
 
     # What stands at an entry.
 
@@ -191,7 +234,9 @@ class WindowPainter:
     def paint_skip(self, entry: Facts, x: float) -> None:
         """On the row of the run alone: nothing reaches the device, whose name stands below."""
         y = self.run_y(entry["run"])
-        self.picture.box(x - WIDTH / 2 + 4, y - HALF_TAG, WIDTH - 8, 2 * HALF_TAG, dash=SKIPPED, round=3)
+        self.picture.box(
+            x - WIDTH / 2 + 4, y - HALF_TAG, WIDTH - 8, 2 * HALF_TAG, dash=SKIPPED, round=3
+        )
         self.picture.text(x, y + 4, "skips", "middle")
         self.picture.text(x, y + 23, self.script.devices[entry["device"]].name, "middle", most=9)
 
@@ -200,7 +245,9 @@ class WindowPainter:
         dash = "" if entry["drove"] else DOWN
         y, below = self.drop_line(entry, x)
         self.picture.tag(x, y, WIDTH - 10, dash)
-        self.picture.text(x + 2, y + 4, entry["value"] if entry["drove"] else "drops", "middle", most=7)
+        self.picture.text(
+            x + 2, y + 4, entry["value"] if entry["drove"] else "drops", "middle", most=7
+        )
         self.picture.tag(x, below, 20, dash)
         self.picture.text(x + 1, below + 4, str(entry["run"]), "middle")
 
@@ -212,7 +259,9 @@ class WindowPainter:
     def paint_access(self, entry: Facts, x: float, word: str, fill: str, dash: str = "") -> None:
         y, below = self.drop_line(entry, x)
         look = "middle on-black" if fill == "black" else "middle"
-        self.picture.box(x - WIDTH / 2 + 4, y - HALF_TAG, WIDTH - 8, 2 * HALF_TAG, fill=fill, dash=dash, round=3)
+        self.picture.box(
+            x - WIDTH / 2 + 4, y - HALF_TAG, WIDTH - 8, 2 * HALF_TAG, fill=fill, dash=dash, round=3
+        )
         self.picture.text(x, y + 4, word, look, most=7)
         self.picture.circle(x, below, 9, fill, dash)
         self.picture.text(x, below + 4, str(entry["run"]), look)
@@ -241,10 +290,18 @@ class WindowPainter:
     def paint_ends(self) -> None:
         for run in self.window.run_lines:
             words = self.printer.run(run, self.window).split(" ")[3:]
-            self.picture.text(self.right + 8, self.run_y(run) + 4, " ".join(words) if words[0] == "aborted" else "committed")
+            self.picture.text(
+                self.right + 8,
+                self.run_y(run) + 4,
+                " ".join(words) if words[0] == "aborted" else "committed",
+            )
         for d, stand in enumerate(self.window.last or []):
             if d in self.devices:
-                self.picture.text(self.right + 8, self.device_y(d) + 4, self.printer.stand(self.script.devices[d], stand))
+                self.picture.text(
+                    self.right + 8,
+                    self.device_y(d) + 4,
+                    self.printer.stand(self.script.devices[d], stand),
+                )
 
     def paint_order(self) -> None:
         """The items of the serial order, and below each run which of the commits its own was."""
@@ -298,23 +355,37 @@ class Legend:
         """Of each sign its name, its width, what it means, and how it is drawn around a place."""
         picture = self.picture
         yield "arrives", 8, "arrives", lambda x, y: picture.circle(x, y, 4)
-        yield "is placed", 8, "is placed in the line", lambda x, y: picture.line(x, y - 7, x, y + 7, 2)
+        yield "is placed", 8, "is placed in the line", lambda x, y: picture.line(
+            x, y - 7, x, y + 7, 2
+        )
         yield "writes", 34, "writes", lambda x, y: self.box(x, y, "black", "on")
         yield "finds", 34, "finds", lambda x, y: self.box(x, y, "white", "on")
-        yield "is told down", 38, "is told that it is down", lambda x, y: self.box(x, y, "white", "down", DOWN)
-        yield "skips", 40, "skips a command, whose guard does not hold", lambda x, y: self.box(x, y, "white", "skips", SKIPPED)
+        yield "is told down", 38, "is told that it is down", lambda x, y: self.box(
+            x, y, "white", "down", DOWN
+        )
+        yield "skips", 40, "skips a command, whose guard does not hold", lambda x, y: self.box(
+            x, y, "white", "skips", SKIPPED
+        )
         yield "its doom", 14, "its doom", lambda x, y: picture.cross(x, y, 7)
         yield "takes back", 38, "takes back what it wrote", lambda x, y: self.tag(x, y, "off")
-        yield "drops", 44, "drops a write: the device is down", lambda x, y: self.tag(x, y, "drops", DOWN)
+        yield "drops", 44, "drops a write: the device is down", lambda x, y: self.tag(
+            x, y, "drops", DOWN
+        )
         yield "commits", 14, "commits", lambda x, y: picture.end(x, y, True)
         yield "ends aborted", 14, "ends aborted", lambda x, y: picture.end(x, y, False)
-        yield "works", 34, "is at work", lambda x, y: picture.line(x - 17, y, x + 17, y, *LINES["works"])
+        yield "works", 34, "is at work", lambda x, y: picture.line(
+            x - 17, y, x + 17, y, *LINES["works"]
+        )
         yield "waits", 34, "waits", lambda x, y: picture.line(x - 17, y, x + 17, y, *LINES["waits"])
-        yield "doomed", 34, "is doomed", lambda x, y: picture.line(x - 17, y, x + 17, y, *LINES["doomed"])
+        yield "doomed", 34, "is doomed", lambda x, y: picture.line(
+            x - 17, y, x + 17, y, *LINES["doomed"]
+        )
         yield "has", 34, "a run has the device", lambda x, y: self.bracket(x, y)
         yield "lease", 34, "a run has it on lease", lambda x, y: self.bracket(x, y, "4 2")
         yield "fails", 16, "fails", lambda x, y: picture.triangle(x, y, False)
-        yield "down", 34, "is down", lambda x, y: picture.box(x - 17, y - 8, 34, 16, fill="url(#down)", stroke="none")
+        yield "down", 34, "is down", lambda x, y: picture.box(
+            x - 17, y - 8, 34, 16, fill="url(#down)", stroke="none"
+        )
         yield "is back", 16, "is back", lambda x, y: picture.triangle(x, y, True)
 
     def box(self, x: float, y: float, fill: str, word: str, dash: str = "") -> None:
@@ -353,12 +424,21 @@ def described(day: Day) -> str:
     runs = [cause for window in day.windows for cause in window.ends.values()]
     aborted = sum(cause is not None for cause in runs)
     entries = sum(len(window.entries) for window in day.windows)
-    return (f"Under {MODELS[day.mode.model]}, {SCHEDULERS[day.mode.scheduler]}: windows {len(day.windows)}, steps {entries}, "
-            f"runs {len(runs)}, committed {len(runs) - aborted}, aborted {aborted}. "
-            "Each window shows its runs, its devices and its serial order.")
+    return (
+        f"Under {MODELS[day.mode.model]}, {SCHEDULERS[day.mode.scheduler]}: windows {len(day.windows)}, steps {entries}, "
+        f"runs {len(runs)}, committed {len(runs) - aborted}, aborted {aborted}. "
+        "Each window shows its runs, its devices and its serial order."
+    )
 
 
-def picture_of(script: Script, record: str, title: str = "A day", columns: int = 36, every: bool = False) -> str:
+def picture_of(
+    script: Script,
+    record: str,
+    title: str = "A day",
+    columns: int = 36,
+    every: bool = False,
+    choice: Choice = Choice(),
+) -> str:
     """The SVG of a day, from its script as it is read and the text of its record."""
     day = read_day(script, record)
     if any(window.run_lines and not window.entries for window in day.windows):
@@ -368,24 +448,7 @@ def picture_of(script: Script, record: str, title: str = "A day", columns: int =
     model = f"{MODELS[day.mode.model]}, {SCHEDULERS[day.mode.scheduler]} ({day.mode.model} {day.mode.scheduler})"
     picture.text(MARGIN, picture.y + 31, f"{model}. A column is one step, not time.", "grey")
     picture.y += 48
-    for number in range(len(day.windows)):
+    for number in choice.numbers(script, day):
         WindowPainter(picture, script, day, number, columns, every, signs).paint()
     Legend(picture, signs).paint()
     return picture.svg(title, described(day))
-
-
-def main() -> None:
-    options = words_of(__doc__)
-    options.add_argument("--title", help="the headline; the script's file name where it is left out")
-    options.add_argument("--columns", type=int, default=36, help="how many steps stand beside each other")
-    options.add_argument("--all", action="store_true", help="also devices that no run names")
-    asked = options.parse_args()
-    try:
-        given = read_given(asked)
-        sys.stdout.write(picture_of(given.script, given.record, asked.title or given.name, max(asked.columns, 1), asked.all))
-    except (OSError, Refusal, Unread) as why:
-        sys.exit(unread("picture", why))
-
-
-if __name__ == "__main__":
-    main()

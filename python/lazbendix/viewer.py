@@ -1,35 +1,30 @@
-#!/usr/bin/env python3
-"""Makes a page in which one looks into a day: reads its script and its record, and writes one HTML file that needs no network.
+"""Makes a page in which one looks into a day, from its script and its record: one HTML file that needs
+no network.
 
-    python3 tools/viewer.py SCRIPT RECORD [--title TITLE] > day.html
-
-RECORD is a file, or - for standard input. Where it has its trace, the page shows each window's history, entry by entry. Where it
-has none, and is what a replay of the script prints, the history is made anew by that replay; else the page shows what the record
-tells. The page's own files are in tools/viewer_page.
+Where the record has its trace, the page shows each window's history, entry by entry. Where it has
+none, and is what a replay of the script prints, the history is made anew by that replay; else the
+page shows what the record tells. The page's own files are in viewer_page.
 """
 import functools
 import json
 import os
 import re
-import sys
 
-HERE = os.path.dirname(os.path.abspath(__file__))
-sys.path.insert(0, os.path.join(HERE, ".."))
+from lazbendix.choice import Choice
+from lazbendix.reference.check import Differs, check_record
+from lazbendix.reference.record import WindowPrinter, window_text
+from lazbendix.reference.replay import Home
+from lazbendix.reference.script import DeviceText, RoutineText, RunText, Script
+from lazbendix.reference.serial import Command, Ran, Stand
+from lazbendix.records import Day, Item, read_day
+from lazbendix.told_windows import Facts, cause_facts, told_history
 
-from reference.check import Differs, check_record
-from reference.record import WindowPrinter, window_text
-from reference.replay import Home
-from reference.script import DeviceText, Refusal, RoutineText, RunText, Script
-from reference.serial import Command, Ran, Stand
-from tools.given import read_given, unread, words_of
-from tools.records import Day, Item, Unread, read_day
-from tools.told_windows import Facts, cause_facts, told_history
-
-PARTS = os.path.join(HERE, "viewer_page")
+PARTS = os.path.join(os.path.dirname(os.path.abspath(__file__)), "viewer_page")
 PART = re.compile(r"[ ]*<!-- part (\S+) -->\n")
 
 
 # What the page is told of a window.
+
 
 class WindowTeller:
     """Tells a window as its record does, with its history where that is known."""
@@ -45,10 +40,19 @@ class WindowTeller:
             "number": self.number + 1,
             "title": recorded.title,
             "runs": [self.run(r, run) for r, run in enumerate(self.window.runs, 1)],
-            "order": {"line": self.line(recorded.order_line), "items": None if order is None else list(map(self.item, order))},
-            "home": {"line": self.line(recorded.home_line),
-                     "devices": [self.stand(*pair) for pair in zip(self.script.devices, recorded.last or [])]},
-            "history": told_history(self.script, self.day, self.number) if self.has_history() else None,
+            "order": {
+                "line": self.line(recorded.order_line),
+                "items": None if order is None else list(map(self.item, order)),
+            },
+            "home": {
+                "line": self.line(recorded.home_line),
+                "devices": [
+                    self.stand(*pair) for pair in zip(self.script.devices, recorded.last or [])
+                ],
+            },
+            "history": told_history(self.script, self.day, self.number)
+            if self.has_history()
+            else None,
         }
 
     def has_history(self) -> bool:
@@ -59,11 +63,24 @@ class WindowTeller:
 
     def run(self, r: int, run: RunText) -> Facts:
         recorded, commands = self.recorded, self.script.routines[run.routine].commands
-        told = {"routine": run.routine, "follows": run.follows, "line": self.line(recorded.run_lines.get(r, 0)), "end": None}
+        told = {
+            "routine": run.routine,
+            "follows": run.follows,
+            "line": self.line(recorded.run_lines.get(r, 0)),
+            "end": None,
+        }
         if r in recorded.answers:
-            return {**told, "end": "committed", "answers": list(map(self.printer.answer, commands, recorded.answers[r]))}
+            return {
+                **told,
+                "end": "committed",
+                "answers": list(map(self.printer.answer, commands, recorded.answers[r])),
+            }
         cause = recorded.ends.get(r)
-        return {**told, "end": "aborted", "cause": cause_facts(self.script, commands, cause)} if cause else told
+        return (
+            {**told, "end": "aborted", "cause": cause_facts(self.script, commands, cause)}
+            if cause
+            else told
+        )
 
     def item(self, item: Item) -> int | str:
         return item.run if isinstance(item, Ran) else self.printer.item(item)
@@ -75,26 +92,44 @@ class WindowTeller:
 
 # What the page is told of the day.
 
+
 def replay(script: Script, day: Day, lines: list[str]) -> None:
     """Gives a day without traces the entries of a replay, for as long as that prints what the record says."""
     home = Home(script)
     for number, window in enumerate(day.windows):
         record = home.replay(script.windows[number], day.mode)
-        if window_text(script, number, record, day.mode, False).split("\n")[:-1] != lines[window.line - 1 : window.home_line]:
+        if (
+            window_text(script, number, record, day.mode, False).split("\n")[:-1]
+            != lines[window.line - 1 : window.home_line]
+        ):
             return
         window.entries, window.entry_lines = record.entries, [window.line] * len(record.entries)
 
 
 def device_told(device: DeviceText) -> Facts:
-    return {"name": device.name, "states": device.states, "low": device.kind.low, "high": device.kind.high}
+    return {
+        "name": device.name,
+        "states": device.states,
+        "low": device.kind.low,
+        "high": device.kind.high,
+    }
 
 
 def routine_told(script: Script, routine: RoutineText) -> Facts:
     def command(command: Command) -> Facts:
-        value = None if command.value is None else script.devices[command.device].word(command.value)
+        value = (
+            None if command.value is None else script.devices[command.device].word(command.value)
+        )
         guard = {"when": command.when._asdict()} if command.when else {}
-        return {"device": command.device, "job": command.job, "value": value, "must": command.must, "ms": command.ms,
-                "takes": command.takes, **guard}
+        return {
+            "device": command.device,
+            "job": command.job,
+            "value": value,
+            "must": command.must,
+            "ms": command.ms,
+            "takes": command.takes,
+            **guard,
+        }
 
     return {"name": routine.name, "commands": list(map(command, routine.commands))}
 
@@ -142,6 +177,7 @@ def day_told(script: Script, record: str, title: str) -> tuple[Facts, list[Facts
 
 # The page is put together.
 
+
 def data_block(name: str, data: Facts) -> str:
     """A block of data that a page may hold, whatever texts are in it."""
     text = json.dumps(data, separators=(",", ":"), ensure_ascii=True).replace("<", "\\u003c")
@@ -154,10 +190,13 @@ def part_text(name: str) -> str:
         return stored.read()
 
 
-def page_of(script: Script, record: str, title: str) -> str:
+def page_of(script: Script, record: str, title: str, choice: Choice = Choice()) -> str:
     """The page of a day, from its script as it is read and the text of its record."""
     day, windows = day_told(script, record, title)
-    blocks = [data_block("day", day), *(data_block(f"window-{window['number']}", window) for window in windows)]
+    blocks = [
+        data_block("day", day),
+        *(data_block(f"window-{window['number']}", window) for window in windows),
+    ]
 
     def part(found: re.Match[str]) -> str:
         name = found[1]
@@ -167,18 +206,3 @@ def page_of(script: Script, record: str, title: str) -> str:
         return f"<{tag}>\n{part_text(name)}</{tag}>\n"
 
     return PART.sub(part, part_text("page.html"))
-
-
-def main() -> None:
-    options = words_of(__doc__)
-    options.add_argument("--title", help="the day's name; the script's file name where it is left out")
-    asked = options.parse_args()
-    try:
-        given = read_given(asked)
-        sys.stdout.write(page_of(given.script, given.record, asked.title or given.name))
-    except (OSError, Refusal, Unread) as why:
-        sys.exit(unread("viewer", why))
-
-
-if __name__ == "__main__":
-    main()

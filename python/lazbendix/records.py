@@ -7,14 +7,30 @@ import re
 from collections.abc import Iterator
 from dataclasses import dataclass, field
 
-from reference.check import value_in
-from reference.history import (Arrived, Cause, Did, Doomed, DownAtEnd, Ended, Entry, Fell, Lost, Mode, MustDown, Placed, Refuted,
-                               Revoked, Rose, Undid)
-from reference.hub import WAITS, Behind, Busy, Denied, Dirty, Follow, Strict
-from reference.record import WindowPrinter, head_text, time_text, total_text
-from reference.replay import Home
-from reference.script import DeviceText, Script
-from reference.serial import DOWN, FINE, SKIPPED, Back, Command, Failed, Ran, Stand
+from lazbendix.reference.check import value_in
+from lazbendix.reference.history import (
+    Arrived,
+    Cause,
+    Did,
+    Doomed,
+    DownAtEnd,
+    Ended,
+    Entry,
+    Fell,
+    Lost,
+    Mode,
+    MustDown,
+    Placed,
+    Refuted,
+    Revoked,
+    Rose,
+    Undid,
+)
+from lazbendix.reference.hub import WAITS, Behind, Busy, Denied, Dirty, Follow, Strict
+from lazbendix.reference.record import WindowPrinter, head_text, time_text, total_text
+from lazbendix.reference.replay import Home
+from lazbendix.reference.script import DeviceText, Script
+from lazbendix.reference.serial import DOWN, FINE, SKIPPED, Back, Command, Failed, Ran, Stand
 
 Item = Ran | Failed | Back  # of the serial order
 Why = Follow | Denied | Busy | Behind | Dirty | Strict  # a run waits
@@ -39,7 +55,9 @@ class WindowLines:
     line: int
     entries: list[Entry] = field(default_factory=list)
     entry_lines: list[int] = field(default_factory=list)
-    ends: dict[int, Cause | None] = field(default_factory=dict)  # of each run the cause, or none where it committed
+    ends: dict[int, Cause | None] = field(
+        default_factory=dict
+    )  # of each run the cause, or none where it committed
     answers: dict[int, list[Answer]] = field(default_factory=dict)  # of each committed run
     run_lines: dict[int, int] = field(default_factory=dict)
     order: list[Item] | None = None  # none where it is unclaimed or not told
@@ -128,7 +146,9 @@ class DayReader:
         self.at = 0
 
     def unread(self) -> Unread:
-        return Unread(f"line {self.at} is none of a record of this script: {self.lines[self.at - 1][:80]}")
+        return Unread(
+            f"line {self.at} is none of a record of this script: {self.lines[self.at - 1][:80]}"
+        )
 
     def need(self, true: object) -> None:
         if not true:
@@ -147,7 +167,9 @@ class DayReader:
         try:
             mode = self.head()
         except Cut:
-            raise Unread("it is no record: one begins with the lines `safehome day` and `model ..`") from None
+            raise Unread(
+                "it is no record: one begins with the lines `safehome day` and `model ..`"
+            ) from None
         day = Day(mode, lines=len(self.lines))
         try:
             for number in range(len(self.script.windows)):
@@ -183,31 +205,44 @@ class DayReader:
         self.order(told, day.mode, reader, printer)
         self.home(told, reader, printer)
 
-    def run(self, told: WindowLines, run: int, reader: WindowReader, printer: WindowPrinter) -> None:
+    def run(
+        self, told: WindowLines, run: int, reader: WindowReader, printer: WindowPrinter
+    ) -> None:
         line = self.next()
         words = line.split(" ")
         if words[3] == "aborted":
             told.ends[run] = reader.cause(run, words[4:])
         else:
             told.ends[run] = None
-            told.answers[run] = [reader.answer(command, word) for command, word in zip(printer.commands(run), words[4:])]
+            told.answers[run] = [
+                reader.answer(command, word)
+                for command, word in zip(printer.commands(run), words[4:])
+            ]
         self.need(printer.run(run, told) == line)
         told.run_lines[run] = self.at
 
-    def order(self, told: WindowLines, mode: Mode, reader: WindowReader, printer: WindowPrinter) -> None:
+    def order(
+        self, told: WindowLines, mode: Mode, reader: WindowReader, printer: WindowPrinter
+    ) -> None:
         words = self.next().split(" ")
         if mode.model == "wv":
             self.need(words == ["order", "unclaimed"])
         else:
-            told.order = [] if words == ["order", "none"] else [reader.item(word) for word in words[1:]]
-            self.need(words == ["order", *(map(printer.item, told.order) if told.order else ["none"])])
+            told.order = (
+                [] if words == ["order", "none"] else [reader.item(word) for word in words[1:]]
+            )
+            self.need(
+                words == ["order", *(map(printer.item, told.order) if told.order else ["none"])]
+            )
         told.order_line = self.at
 
     def home(self, told: WindowLines, reader: WindowReader, printer: WindowPrinter) -> None:
         words, devices = self.next().split(" "), self.script.devices
         self.need(len(words) == 1 + max(len(devices), 1))
         told.last = [reader.stand(*pair) for pair in zip(devices, words[1:])]
-        self.need(words == ["home", *(map(printer.stand, devices, told.last) if devices else ["none"])])
+        self.need(
+            words == ["home", *(map(printer.stand, devices, told.last) if devices else ["none"])]
+        )
         told.home_line = self.at
 
     def total(self, day: Day) -> int:
@@ -222,6 +257,7 @@ def read_day(script: Script, text: str) -> Day:
 
 
 # A window is told again.
+
 
 def is_whole_step(entries: list[Entry], k: int) -> bool:
     """Whether the step that made the entry made no further one behind it."""
@@ -250,15 +286,22 @@ class Wait:
 class Retelling:
     """The hub of a window as the trace tells it, entry after entry. What a grip that is out keeps waiting is not told there."""
 
-    def __init__(self, script: Script, number: int, mode: Mode, stands: list[Stand], told: WindowLines) -> None:
+    def __init__(
+        self, script: Script, number: int, mode: Mode, stands: list[Stand], told: WindowLines
+    ) -> None:
         home = Home(script)
         home.stands = stands
         self.hub = home.open_window(script.windows[number], mode)
         self.told, self.history, self.moment = told, self.hub.history, 0
+        self.printer = WindowPrinter(script, number)
         self.waits, self.waiting = list[Wait](), dict[int, Wait]()
 
     def device_of(self, entry: Entry) -> int | None:
-        return self.hub.runs[entry.run].commands[entry.command].device if isinstance(entry, Did) else getattr(entry, "device", None)
+        return (
+            self.hub.runs[entry.run].commands[entry.command].device
+            if isinstance(entry, Did)
+            else getattr(entry, "device", None)
+        )
 
     def steps(self) -> Iterator[tuple[int, Entry]]:
         """Each entry with its number, when it has been added."""
@@ -266,11 +309,16 @@ class Retelling:
             try:
                 before = self.moment
                 self.history.add(entry)
-                self.moment = max(before, getattr(entry.cause if isinstance(entry, Doomed) else entry, "moment", 0))
+                self.moment = max(
+                    before,
+                    getattr(entry.cause if isinstance(entry, Doomed) else entry, "moment", 0),
+                )
                 if is_whole_step(self.told.entries, k):
                     self.look(k, entry, before)
             except (IndexError, KeyError, ValueError):
-                raise Unread(f"line {self.told.entry_lines[k]} does not go on from the ones before it") from None
+                raise Unread(
+                    f"line {self.told.entry_lines[k]} does not go on from the ones before it"
+                ) from None
             yield k, entry
 
     def look(self, k: int, entry: Entry, before: int) -> None:
@@ -281,13 +329,23 @@ class Retelling:
                 continue
             command = self.history.next_command(run)
             is_told = device is None or self.moment != before or getattr(entry, "run", None) == run
-            if is_told or run not in self.history.placed or command and command.device == device or run in self.history.ends:
+            if (
+                is_told
+                or run not in self.history.placed
+                or command
+                and command.device == device
+                or run in self.history.ends
+            ):
                 self.note(k, run)
 
     def is_placed_next(self, run: int) -> bool:
         """Whether the next step of the run is sure to place it: but just in time nobody is denied."""
         history = self.history
-        return run not in history.placed and self.hub.runs[run].follows is None and history.mode.scheduler != "jit"
+        return (
+            run not in history.placed
+            and self.hub.runs[run].follows is None
+            and history.mode.scheduler != "jit"
+        )
 
     def wait_of(self, run: int) -> Why | None:
         """Why the run waits, or none, of a run that has arrived."""
@@ -307,4 +365,8 @@ class Retelling:
 
 def stands_before(script: Script, day: Day, number: int) -> list[Stand]:
     """Where the devices stand as a window opens."""
-    return day.windows[number - 1].last or [] if number else [Stand(device.start, True) for device in script.devices]
+    return (
+        day.windows[number - 1].last or []
+        if number
+        else [Stand(device.start, True) for device in script.devices]
+    )

@@ -13,9 +13,22 @@ for, however late and in which order, and give the answers. There is no input, n
         hub.close_window()
         print(hub.record())
 """
-from lazbendix.hubs import Hub
+from typing import TYPE_CHECKING
+
 from lazbendix.told import (Answer, Cause, Counts, Dead, Entry, EntryKind, Fault, Found, Given, Go, Left, Model, Moved, NoRun,
                             Over, Refused, Scheduler, ScriptRefused, Stand, Status, Task, Turn, Waits, Why, Worked)
+
+if TYPE_CHECKING:
+    from lazbendix.hubs import Hub
+
+
+def __getattr__(name: str) -> object:
+    """`Hub` alone wants the library's shared object, which is loaded where it is asked for."""
+    if name == "Hub":
+        from lazbendix.hubs import Hub
+        return Hub
+    raise AttributeError(f"module 'lazbendix' has no attribute {name!r}")
+
 
 __all__ = [
     "Answer", "Cause", "Counts", "Dead", "Entry", "EntryKind", "Fault", "Found", "Given", "Go", "Hub", "Left", "Model", "Moved",

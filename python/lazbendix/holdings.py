@@ -1,7 +1,7 @@
 """Who has a device, and who has it on lease, behind an entry of a window's history, as far as the history tells it."""
 from typing import NamedTuple
 
-from reference.hub import Hub
+from lazbendix.reference.hub import Hub
 
 
 class Lease(NamedTuple):
@@ -17,7 +17,9 @@ def holders(hub: Hub, device: int) -> list[int]:
     """The runs that have touched the device and hold it. The weak model knows no holding."""
     if hub.is_weak:
         return []
-    return [run for run in hub.history.placed if hub.has_touched(run, device) and hub.holds(run, device)]
+    return [
+        run for run in hub.history.placed if hub.has_touched(run, device) and hub.holds(run, device)
+    ]
 
 
 def leases_on(hub: Hub, device: int) -> list[Lease]:

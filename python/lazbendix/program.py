@@ -1,0 +1,97 @@
+"""The proved program, and the calls of it; where none is installed, the reference makes them.
+
+Words, statuses and bytes are those of docs/FORMATS.md. Nothing here changes what is written.
+"""
+import os
+import select
+import shutil
+import subprocess
+import sys
+from collections.abc import Mapping
+from typing import NamedTuple
+
+from lazbendix.reference.calls import BytesSink, BytesSource, Call
+from lazbendix.reference.disks import FileDisk
+
+HERE = os.path.dirname(os.path.abspath(__file__))
+VARIABLE = "LAZBENDIX_PROGRAM"
+NAME = "hub_main"
+PLACES = (
+    os.path.join(HERE, NAME),
+    os.path.join(HERE, "bin", NAME),
+    os.path.join(HERE, "..", "..", "crates", NAME, "out", NAME),
+)
+NO_PROGRAM = 127  # the status where the variable names no program, as a shell has it
+WRITE = 4  # the status of a write that fails
+
+
+class NoProgram(Exception):
+    """The variable names a file that is no program."""
+
+
+class Ended(NamedTuple):
+    """How a call ended: its status, its line on standard error, and what it wrote where that was kept."""
+
+    status: int
+    line: str
+    output: bytes = b""
+
+
+def found_program(environment: Mapping[str, str] = os.environ) -> str | None:
+    """The path of the proved program, or none where none is installed. Raises `NoProgram`."""
+    named = environment.get(VARIABLE)
+    if named is not None:
+        if os.path.isfile(named) and os.access(named, os.X_OK):
+            return named
+        raise NoProgram(f"{VARIABLE} names no program: {named!r}")
+    for place in PLACES:
+        if os.path.isfile(place) and os.access(place, os.X_OK):
+            return os.path.normpath(place)
+    return shutil.which(NAME, path=environment.get("PATH"))
+
+
+class StandardSink:
+    """Standard output, as the reference writes to it."""
+
+    def write(self, data: bytes) -> int:
+        return os.write(1, data)
+
+
+def call(words: list[str], data: bytes = b"") -> Ended:
+    """Makes a call that writes to standard output as it goes. Of `watch` the progress goes to standard error itself."""
+    program = found_program()
+    if program is None:
+        tell_reference()
+        made = Call(words, BytesSource(data), StandardSink(), FileDisk())
+        return Ended(made.status, made.line or "")
+    sys.stdout.flush()
+    shows = words[:1] == ["watch"]
+    ended = subprocess.run([program, *words], input=data, stderr=None if shows else subprocess.PIPE)
+    return Ended(ended.returncode, "" if shows else ended.stderr.decode("utf-8", "replace").strip())
+
+
+def kept_call(words: list[str], data: bytes = b"") -> Ended:
+    """Makes a call whose output is kept."""
+    program = found_program()
+    if program is None:
+        tell_reference()
+        sink = BytesSink()
+        made = Call(words, BytesSource(data), sink, FileDisk())
+        return Ended(made.status, made.line or "", sink.held)
+    ended = subprocess.run([program, *words], input=data, capture_output=True)
+    return Ended(ended.returncode, ended.stderr.decode("utf-8", "replace").strip(), ended.stdout)
+
+
+def tell_reference() -> None:
+    """Says that no proved program plays."""
+    print(
+        "lazbendix: no proved program is installed, so the reference plays (lazbendix doctor)",
+        file=sys.stderr,
+    )
+
+
+def is_reader_gone() -> bool:
+    """Whether standard output is a pipe whose reader has gone."""
+    poll = select.poll()
+    poll.register(1, select.POLLOUT)
+    return any(events & select.POLLERR for _, events in poll.poll(0))
