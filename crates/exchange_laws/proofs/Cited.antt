@@ -2,4 +2,4 @@
 -- the file in which they stand. Every other file of proofs/ is private.
 
 -- A legal window with its order exchanged.
-pub use Rattle.exchange_laws.proofs.LegalOrders.{legal_exchanged, legal_itself, legal_reached}
+pub use Rattle.exchange_laws.proofs.LegalOrders.{legal_exchanged, legal_itself}
