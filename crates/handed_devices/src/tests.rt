@@ -47,30 +47,37 @@ fn tell(gate: &mut Gate<HandedDevice>, task: Task, told: Told) -> Option<Told>
     }
 }
 
-/// What is known of the lamp, where it is home: where it stands, its turns, its probes, its faults.
-fn known(gate: &Gate<HandedDevice>) -> Option<(u32, u64, u64, u64)> {
+/// What is known of the lamp, where it is home: where it stands, its turns, how many of them were
+/// drives, its probes, its faults.
+fn known(gate: &Gate<HandedDevice>) -> Option<(u32, u64, u64, u64, u64)> {
     if !gate.is_home(LAMP) {
         return None;
     }
     let lamp = gate.device(LAMP);
-    Some((lamp.value, lamp.turns, lamp.probes, lamp.faults))
+    Some((
+        lamp.value,
+        lamp.turns,
+        lamp.drives,
+        lamp.probes,
+        lamp.faults,
+    ))
 }
 
 #[test]
 fn takes_what_it_may_tell(rt: HostRuntime) {
     let mut gate = gate(rt.alloc()).expect(&rt, "memory");
     assert!(rt; tell(&mut gate, Task::Drive(5), Told::Worked) == Some(Told::Worked));
-    assert!(rt; known(&gate) == Some((5, 1, 0, 0)));
+    assert!(rt; known(&gate) == Some((5, 1, 1, 0, 0)));
     assert!(rt; tell(&mut gate, Task::Sense, Told::Sensed(5)) == Some(Told::Sensed(5)));
-    assert!(rt; known(&gate) == Some((5, 2, 0, 0)));
+    assert!(rt; known(&gate) == Some((5, 2, 1, 0, 0)));
     assert!(rt; tell(&mut gate, Task::Drive(7), Told::Died) == Some(Told::Died));
-    assert!(rt; known(&gate) == Some((5, 2, 0, 1)));
+    assert!(rt; known(&gate) == Some((5, 2, 1, 0, 1)));
     assert!(rt; tell(&mut gate, Task::Probe(Some(9)), Told::Died) == Some(Told::Died));
-    assert!(rt; known(&gate) == Some((5, 2, 1, 2)));
+    assert!(rt; known(&gate) == Some((5, 2, 1, 1, 2)));
     assert!(rt; tell(&mut gate, Task::Probe(Some(9)), Told::Worked) == Some(Told::Worked));
-    assert!(rt; known(&gate) == Some((9, 3, 2, 2)));
+    assert!(rt; known(&gate) == Some((9, 3, 2, 2, 2)));
     assert!(rt; tell(&mut gate, Task::Probe(None), Told::Worked) == Some(Told::Worked));
-    assert!(rt; known(&gate) == Some((9, 3, 3, 2)));
+    assert!(rt; known(&gate) == Some((9, 3, 2, 3, 2)));
     drop(gate);
 }
 
@@ -82,6 +89,6 @@ fn refuses_what_it_may_not_tell(rt: HostRuntime) {
     assert!(rt; tell(&mut gate, Task::Drive(1), Told::Sensed(1)) == Some(Told::Died));
     assert!(rt; tell(&mut gate, Task::Probe(None), Told::Sensed(2)) == Some(Told::Died));
     // Each of the four calls was then made of the lamp itself, which never answers.
-    assert!(rt; known(&gate) == Some((2, 0, 1, 4)));
+    assert!(rt; known(&gate) == Some((2, 0, 0, 1, 4)));
     drop(gate);
 }

@@ -10,7 +10,8 @@ fn never_dies(rt: HostRuntime) {
     assert!(rt; device.drive(20) == Ok(()));
     assert!(rt; device.sense() == Ok(20));
     assert!(rt; device.probe() == Ok(()));
-    assert!(rt; (device.turns(), device.probes(), device.faults()) == (3, 1, 0));
+    assert!(rt; (device.turns(), device.drives()) == (3, 1));
+    assert!(rt; (device.probes(), device.faults()) == (1, 0));
 }
 
 #[test]
@@ -24,5 +25,6 @@ fn dies_by_its_plan(rt: HostRuntime) {
     assert!(rt; device.probe() == Ok(()));
     assert!(rt; device.sense() == Err(Dead));
     assert!(rt; device.drive(8) == Ok(()));
-    assert!(rt; (device.turns(), device.probes(), device.faults()) == (3, 2, 3));
+    assert!(rt; (device.turns(), device.drives()) == (3, 2));
+    assert!(rt; (device.probes(), device.faults()) == (2, 3));
 }
