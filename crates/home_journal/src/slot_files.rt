@@ -61,7 +61,7 @@ pub(crate) fn prepare<Q: Disk>(
     }
 }
 
-// Syncs, and reads the front of the file; an empty file is not read.
+// Syncs, and then reads the front of the file; an empty file is not read.
 fn load<Q: Disk>(disk: &mut Q, block: &mut [u8]) -> Result<usize, Failed>
     ensures fits { IfOk result (λ n. n ≤ length block.new) }
     ensures bytes { Q.told ≡ true
@@ -93,24 +93,28 @@ fn sync_first<Q: Disk>(disk: &mut Q) -> Result<(), Failed>
     disk.sync()
 }
 
-// How many bytes there are.
+// How many bytes there are. Asks that a crash leaves them.
 fn length_of<Q: Disk>(disk: &mut Q) -> Result<u64, Failed>
+    requires durable { Q.told ≡ true → LeavesThis (Q.seen disk.old) (Q.images disk.old) }
     ensures reads { Q.told ≡ true
         → ReadsBytes Q.seen Q.images Q.moment Q.images_since disk.old disk.new }
     ensures size { Q.told ≡ true → IfOk result (λ n. n ≡ length (Q.seen disk.old)) }
+    ensures durable { Q.told ≡ true → LeavesThis (Q.seen disk.new) (Q.images disk.new) }
     ensures later { Q.faults disk.old ≤ Q.faults disk.new }
     ensures failed { OnErr result (Q.faults disk.old < Q.faults disk.new) }
 {
     disk.len()
 }
 
-// Reads from the front on, as much as is there and fits.
+// Reads from the front on, as much as is there and fits. Asks that a crash leaves what is read.
 fn front_of<Q: Disk>(disk: &mut Q, block: &mut [u8]) -> Result<usize, Failed>
+    requires durable { Q.told ≡ true → LeavesThis (Q.seen disk.old) (Q.images disk.old) }
     ensures fits { IfOk result (λ n. n ≤ length block.new) }
     ensures bytes { Q.told ≡ true
         → IfOk result (λ n. take n block.new ≡ take (length block.old) (Q.seen disk.old)) }
     ensures reads { Q.told ≡ true
         → ReadsBytes Q.seen Q.images Q.moment Q.images_since disk.old disk.new }
+    ensures durable { Q.told ≡ true → LeavesThis (Q.seen disk.new) (Q.images disk.new) }
     ensures later { Q.faults disk.old ≤ Q.faults disk.new }
     ensures failed { OnErr result (Q.faults disk.old < Q.faults disk.new) }
 {
