@@ -5,7 +5,9 @@
 
 The gate leaves each crate's library in out/ without the mark by which rt's other commands know that it is of the text that
 stands, and they would prove each once more. This sets the marks of the libraries below lazbendix_c. It is for the moment behind
-a gate that passed: nothing is looked at again.
+a gate that passed, and that began without libraries in out/ (.ci/run removes them), since rt puts back at the gate's end what
+stood there before. A library that is not there, or has a mark of an older text, is left to rt, and with it those above it:
+`rt lib` proves them once more.
 
 It wants Python 3, and `rt` on the path.
 """
@@ -21,11 +23,19 @@ from tools.wrong_bodies import load_kit
 def main():
     _, rtlib = load_kit()
     top = rtlib.Crate(f"{ROOT}/crates/lazbendix_c", ROOT, {})
+    marked, left = set(), []
     for crate in top.below():
-        if not os.path.isdir(crate.rlib):
-            sys.exit(f"proved_libraries: {crate.name} has no library; rt ci makes it")
-        with open(f"{crate.folder}/out/rlib/stamp", "w", encoding="utf-8") as mark:
-            mark.write(crate.stamp())
+        mark = f"{crate.folder}/out/rlib/stamp"
+        stands = {it.name for it in crate.below()} <= marked
+        if stands and os.path.isdir(crate.rlib) and not os.path.exists(mark):
+            with open(mark, "w", encoding="utf-8") as it:
+                it.write(crate.stamp())
+        if stands and crate.is_built():
+            marked.add(crate.name)
+        else:
+            left.append(crate.name)
+    if left:
+        print(f"proved_libraries: rt lib proves once more: {' '.join(left)}")
 
 
 if __name__ == "__main__":

@@ -14,8 +14,6 @@ mod journals;
 #[cfg(test)]
 mod lines;
 #[cfg(test)]
-mod records;
-#[cfg(test)]
 mod rooms;
 #[cfg(test)]
 mod trials;

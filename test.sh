@@ -1,0 +1,95 @@
+#!/bin/sh
+# Builds the program, the library and all tests without proving anything, and tries them: every test, the stored runs of
+# each program, every example by the program and by the reference, what the built program tells, and the library from C,
+# C++, Python and Rust. It takes some minutes on two processors, and stops with 1 at the first thing that is not as wanted.
+#
+#     sh test.sh [--here FOLDER]
+#
+# It wants `rt` of the kit on the path, Python 3.10, and for the library cc, ar and what library/tests/run.sh names. All that
+# it makes is in a temporary folder, or in FOLDER, where it stays.
+set -u
+top=$(cd "$(dirname "$0")" && pwd) || exit 1
+cd "$top" || exit 1
+PYTHONDONTWRITEBYTECODE=1
+export PYTHONDONTWRITEBYTECODE
+if [ "${1:-}" = --here ]; then
+    mkdir -p "$2" && room=$(cd "$2" && pwd) || exit 1
+else
+    room=$(mktemp -d) || exit 1
+    trap 'rm -rf "$room"' EXIT
+    trap 'exit 1' INT TERM HUP
+fi
+kit=$(dirname "$(rt doc)") || exit 1
+
+say() { echo "test: $*"; }
+fail() {
+    echo "test: $*" >&2
+    exit 1
+}
+# tries WHAT WORD ..: this command ends with 0; else what it said is shown
+tries() {
+    what=$1
+    shift
+    "$@" >"$room/said" 2>&1 && return
+    tail -n 40 "$room/said" >&2
+    fail "$what is not as wanted"
+}
+
+say "pages and tools"
+tries "what a page names" python3 tools/check_pages.py
+tries "what crosses crates in proofs" python3 tools/check_cited.py
+tries "what the tools tell of days" python3 tools/check_days.py 40
+tries "what explain tells of mistakes" python3 tools/check_explain.py 20
+if python3 -c 'import jsonschema' 2>/dev/null; then
+    tries "the schema of scripts" python3 tools/check_schema.py 200
+else
+    say "jsonschema is not there: the schema of scripts is not tried"
+fi
+tries "an example, by the reference" python3 reference/tables.py examples
+
+say "building the library, the programs and the tests, unproved"
+python3 tools/unproved_build.py "$room" || fail "it was not built"
+
+say "tests"
+for made in "$room"/*_tests; do
+    tries "$(basename "$made")" "$kit/bin/rattle-test" --seconds 60 "$made"
+done
+
+say "stored runs"
+for folder in crates/*/; do
+    name=$(basename "$folder")
+    [ -f "$folder/src/main.rt" ] || continue
+    input=/dev/null
+    [ -f "$folder/stdin" ] && input=$folder/stdin
+    wanted=0
+    [ -f "$folder/status" ] && wanted=$(cat "$folder/status")
+    # shellcheck disable=SC2046
+    "$room/$name" $(cat "$folder/args" 2>/dev/null) <"$input" >"$room/wrote" 2>"$room/said"
+    got=$?
+    [ "$got" = "$wanted" ] || fail "$name ended with $got, and not $wanted: $(tail -n 3 "$room/said")"
+    cmp "$room/wrote" "$folder/stdout" || fail "$name wrote something else than ${folder}stdout"
+done
+
+say "examples, by the program"
+for words in examples/*.words; do
+    record=${words%.words}.record
+    # shellcheck disable=SC2046
+    "$room/hub_main" $(sed 's/ < .*//' "$words") <"examples/$(sed 's/.* < //' "$words")" >"$room/wrote" 2>"$room/said" ||
+        fail "$words ended with $?: $(cat "$room/said")"
+    cmp "$room/wrote" "$record" || fail "$words has another record"
+done
+
+say "what the built program tells"
+tries "a call of crates/hub_main/edge.sh" sh crates/hub_main/edge.sh "$room/hub_main"
+if [ -f tools/check_syncs.py ]; then
+    if command -v strace >/dev/null 2>&1; then
+        tries "how often keep syncs its file" python3 tools/check_syncs.py "$room/hub_main"
+    else
+        say "strace is not there: how often keep syncs its file is not tried"
+    fi
+fi
+
+say "the library"
+LAZBENDIX_OUT=$room tries "the library" sh library/tests/run.sh 100
+
+say "all as wanted. Nothing was proved: rt ci proves, and sh .ci/run does all there is."
