@@ -4,6 +4,7 @@ What plays and judges is the program, with its own words, statuses and bytes; th
 what is refused, and shows what came of a day.
 """
 import argparse
+import gc
 import json
 import os
 import re
@@ -167,6 +168,7 @@ def looked_into(asked: argparse.Namespace, show: Callable[[Given], str]) -> int:
             "a model and a scheduler are for a replay, and a record is named",
         )
     text = read_text(asked.day, asked.yaml)
+    gc.set_threshold(100_000, 50, 50)  # a day is many small values, and few of them go
     try:
         sys.stdout.write(show(read_given(text, asked.record, words)))
     except Refusal as refusal:

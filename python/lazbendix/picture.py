@@ -7,9 +7,12 @@ between them tells whether it waits, and for which run, as far as the history sh
 that is out keeps waiting does not show. On the row of a device stand who has it, its value, its
 leases, failures and restarts. Below is the serial order.
 """
+import bisect
+from collections import Counter
 from collections.abc import Callable, Iterator
 
 from lazbendix.choice import Choice
+from lazbendix.reference.history import Fell
 from lazbendix.reference.record import WindowPrinter
 from lazbendix.reference.script import Script
 from lazbendix.reference.serial import Ran
@@ -46,6 +49,8 @@ LINES = {
     "waits": (2, "1.5 4"),
     "doomed": (1, "7 3"),
 }  # how a run's line is drawn: its width and its dashes
+MOST_STEPS = 4000  # of a picture that has a column for each
+STEP_WORDS = "A column is one step, not time."
 DOWN, SKIPPED = (
     "3 2",
     "1 3",
@@ -64,6 +69,7 @@ class WindowPainter:
         columns: int,
         every: bool,
         signs: set[str],
+        chosen: list[int],
     ) -> None:
         self.picture, self.script, self.columns, self.signs = picture, script, columns, signs
         self.window, self.printer = day.windows[number], WindowPrinter(script, number)
@@ -74,37 +80,54 @@ class WindowPainter:
         self.labels = {
             r: f"{r} {script.routines[run.routine].name}" for r, run in enumerate(runs, 1)
         }
-        named = {command.device for commands in self.commands.values() for command in commands}
-        named |= {entry["device"] for entry in self.entries if "device" in entry}
+        self.rows = {run: row for row, run in enumerate(chosen)}
+        named = {command.device for run in chosen for command in self.commands[run]}
+        if len(chosen) == len(runs):
+            named |= {entry["device"] for entry in self.entries if "device" in entry}
         self.devices = [d for d in range(len(script.devices)) if every or d in named]
         self.lent = {lease["device"] for lease in self.history["leases"]}
+        self.steps = [step for step, entry in enumerate(self.entries, 1) if self.concerns(entry)]
         self.commits = [entry["run"] for entry in self.entries if entry.get("committed")]
-        names = [*self.labels.values(), *(script.devices[d].name for d in self.devices), "order"]
+        names = [
+            *(self.labels[run] for run in chosen),
+            *(script.devices[d].name for d in self.devices),
+            "order",
+        ]
         self.left = round(MARGIN + max(map(len, names)) * LETTER + 12)
 
-    # Places of the picture. A band has the steps from `first` to `last`.
+    def concerns(self, entry: Facts) -> bool:
+        """Whether the entry has a column: that of a run that is shown, or of a device alone."""
+        return entry["run"] in self.rows if "run" in entry else entry["device"] in self.devices
+
+    # Places of the picture. A band has some of the steps that are shown.
 
     def run_y(self, run: int) -> float:
-        return self.top + HEAD + RUN_ROW * (run - 1) + RUN_ROW / 2
+        return self.top + HEAD + RUN_ROW * self.rows[run] + RUN_ROW / 2
 
     def device_y(self, device: int) -> float:
         above = sum(LEASE_ROW if d in self.lent else DEVICE_ROW for d in self.devices if d < device)
-        return self.top + HEAD + RUN_ROW * len(self.labels) + GAP / 2 + above + DEVICE_ROW / 2
+        return self.top + HEAD + RUN_ROW * len(self.rows) + GAP / 2 + above + DEVICE_ROW / 2
 
     def bottom(self) -> float:
         rows = sum(LEASE_ROW if d in self.lent else DEVICE_ROW for d in self.devices)
-        return self.top + HEAD + RUN_ROW * len(self.labels) + GAP + rows
+        return self.top + HEAD + RUN_ROW * len(self.rows) + GAP + rows
 
     def x(self, step: int) -> float:
-        return self.left + WIDTH * (step - self.first + 0.5)
+        place = bisect.bisect_left(self.steps, step)
+        is_shown = self.steps[place : place + 1] == [step]
+        return self.left + WIDTH * (place - self.begin + (0.5 if is_shown else 0))
 
     def edge(self, step: int) -> float:
         """Where what holds from the step on begins, or what holds up to it ends, within the band."""
         return min(max(self.x(step), self.left), self.right)
 
     def seen(self, stretches: list[Facts]) -> Iterator[tuple[Facts, float, float]]:
-        """Those of the stretches that reach into the band, each with where it begins and ends there."""
+        """Those of the stretches that reach into the band, each with where it begins and ends there. Those of runs that are
+        not shown are left out."""
         for stretch in stretches:
+            run = stretch.get("run", stretch.get("borrower"))
+            if run is not None and run not in self.rows:
+                continue
             x, to_x = self.edge(stretch["from"]), self.edge(stretch["to"])
             if x < to_x:
                 yield stretch, x, to_x
@@ -112,10 +135,10 @@ class WindowPainter:
     def paint(self) -> None:
         self.picture.text(MARGIN, self.picture.y + 12, self.window.title, "bold")
         self.picture.y += 18
-        for first in range(1, max(len(self.entries), 1) + 1, self.columns):
-            self.top, self.first = self.picture.y, first
-            self.last = min(first + self.columns - 1, len(self.entries))
-            self.right = self.left + WIDTH * max(self.last - first + 1, 1)
+        for begin in range(0, max(len(self.steps), 1), self.columns):
+            self.top, self.begin = self.picture.y, begin
+            self.band = self.steps[begin : begin + self.columns]
+            self.right = self.left + WIDTH * max(len(self.band), 1)
             self.paint_band()
             self.picture.y = self.bottom()
         self.paint_ends()
@@ -132,7 +155,7 @@ class WindowPainter:
             )
         self.paint_waits()
         moment = None
-        for step in range(self.first, self.last + 1):
+        for step in self.band:
             entry = self.entries[step - 1]
             self.picture.text(self.x(step), self.top + 36, str(step), "grey middle")
             if entry.get("moment", moment) != moment:
@@ -143,7 +166,7 @@ class WindowPainter:
 
     def paint_rows(self) -> None:
         self.picture.text(MARGIN, self.top + 36, "step", "grey")
-        rows = [(label, self.run_y(run)) for run, label in self.labels.items()]
+        rows = [(self.labels[run], self.run_y(run)) for run in self.rows]
         rows += [(self.script.devices[d].name, self.device_y(d)) for d in self.devices]
         for label, y in rows:
             self.picture.text(MARGIN, y + 4, label)
@@ -197,7 +220,7 @@ class WindowPainter:
         """Names the value of a device where it changes, and at the beginning of a band."""
         for value, x, _ in self.seen(self.history["values"]):
             if value["device"] in self.devices:
-                at = x + (2 if value["from"] < self.first else 13)
+                at = x + (2 if self.band and value["from"] < self.band[0] else 13)
                 self.picture.text(
                     at, self.device_y(value["device"]) - 12, value["value"], most=8, widens=False
                 )
@@ -288,7 +311,7 @@ class WindowPainter:
     # The end of the window.
 
     def paint_ends(self) -> None:
-        for run in self.window.run_lines:
+        for run in self.rows.keys() & self.window.run_lines.keys():
             words = self.printer.run(run, self.window).split(" ")[3:]
             self.picture.text(
                 self.right + 8,
@@ -419,6 +442,58 @@ class Legend:
         self.picture.y = self.y + 14
 
 
+class DayPainter:
+    """Draws a day that has too many steps: a row for each window."""
+
+    BAR = 6  # the width of a run
+    ROW = 22
+
+    def __init__(self, picture: Picture, script: Script, day: Day) -> None:
+        self.picture, self.script, self.day = picture, script, day
+
+    def paint(self, numbers: list[int]) -> None:
+        """A run is a box, black where it committed; behind them stand how many were aborted, and why."""
+        left = MARGIN + 190
+        widest = max((len(self.day.windows[number].ends) for number in numbers), default=0)
+        self.legend()
+        for number in numbers:
+            told, y = self.day.windows[number], self.picture.y
+            self.picture.text(MARGIN, y + 12, told.title)
+            ends = sorted(told.ends.items(), key=lambda end: end[1] is not None)
+            for place, (_, cause) in enumerate(ends):
+                self.end(left + self.BAR * place, y, cause is None)
+            self.picture.text(left + self.BAR * widest + 12, y + 12, self.words(number))
+            self.picture.y += self.ROW
+
+    def end(self, x: float, y: float, committed: bool) -> None:
+        self.picture.box(x, y + 2, self.BAR - 1, 12, fill="black" if committed else "white")
+
+    def legend(self) -> None:
+        y = self.picture.y
+        for x, committed, words in ((MARGIN, True, "committed"), (MARGIN + 100, False, "aborted")):
+            self.end(x, y, committed)
+            self.picture.text(x + 12, y + 12, words)
+        self.picture.text(
+            MARGIN + 200, y + 12, "with --window K the window K is drawn step by step"
+        )
+        self.picture.y += self.ROW + 8
+
+    def words(self, number: int) -> str:
+        """How many runs were aborted, why, and which devices failed."""
+        told = self.day.windows[number]
+        printer = WindowPrinter(self.script, number)
+        causes = Counter(
+            printer.run(run, told).split(" ")[4]
+            for run, cause in told.ends.items()
+            if cause is not None
+        )
+        failed = Counter(entry.device for entry in told.entries if isinstance(entry, Fell))
+        parts = [f"{causes.total()} aborted" if causes else ""]
+        parts += [f"{cause} {count}" for cause, count in causes.most_common()]
+        parts += [f"{self.script.devices[d].name} fails" for d in failed]
+        return ", ".join(filter(None, parts))
+
+
 def described(day: Day) -> str:
     """The day in a sentence or two, for who does not see the picture."""
     runs = [cause for window in day.windows for cause in window.ends.values()]
@@ -443,12 +518,21 @@ def picture_of(
     day = read_day(script, record)
     if any(window.run_lines and not window.entries for window in day.windows):
         raise Unread("no trace in the record: make it with --trace")
+    numbers = choice.numbers(script, day)
+    steps = sum(len(day.windows[number].entries) for number in numbers)
+    is_whole = steps > MOST_STEPS and not choice.narrows and len(numbers) > 1
     picture, signs = Picture(), set[str]()
     picture.text(MARGIN, picture.y + 12, title, "bold large")
-    model = f"{MODELS[day.mode.model]}, {SCHEDULERS[day.mode.scheduler]} ({day.mode.model} {day.mode.scheduler})"
-    picture.text(MARGIN, picture.y + 31, f"{model}. A column is one step, not time.", "grey")
+    mode = f"{day.mode.model} {day.mode.scheduler}"
+    told = f"{MODELS[day.mode.model]}, {SCHEDULERS[day.mode.scheduler]} ({mode})."
+    about = f"A row is one window: {steps} steps are too many." if is_whole else STEP_WORDS
+    picture.text(MARGIN, picture.y + 31, f"{told} {about}", "grey")
     picture.y += 48
-    for number in choice.numbers(script, day):
-        WindowPainter(picture, script, day, number, columns, every, signs).paint()
+    if is_whole:
+        DayPainter(picture, script, day).paint(numbers)
+        return picture.svg(title, described(day).partition(" Each window")[0])
+    for number in numbers:
+        chosen = choice.runs(script, day, number)
+        WindowPainter(picture, script, day, number, columns, every, signs, chosen).paint()
     Legend(picture, signs).paint()
     return picture.svg(title, described(day))

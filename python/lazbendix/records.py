@@ -17,6 +17,7 @@ from lazbendix.reference.history import (
     Ended,
     Entry,
     Fell,
+    History,
     Lost,
     Mode,
     MustDown,
@@ -26,7 +27,7 @@ from lazbendix.reference.history import (
     Rose,
     Undid,
 )
-from lazbendix.reference.hub import WAITS, Behind, Busy, Denied, Dirty, Follow, Strict
+from lazbendix.reference.hub import WAITS, Behind, Busy, Denied, Dirty, Follow, Hub, Strict
 from lazbendix.reference.record import WindowPrinter, head_text, time_text, total_text
 from lazbendix.reference.replay import Home
 from lazbendix.reference.script import DeviceText, Script
@@ -283,6 +284,81 @@ class Wait:
     until: int | None = None  # none where the record ends first
 
 
+class QuickHub:
+    """Answers what a hub with no grip out is asked most often as its own calls do, and looks only at runs that matter. It takes
+    their place in the hub."""
+
+    def __init__(self, hub: Hub) -> None:
+        self.hub, self.history = hub, hub.history
+        self.seen = -1, -1  # the lengths of the line and of the ends when the places were found
+        self.order, self.lives, self.places = list[int](), dict[int, int](), dict[int, int]()
+        self.found: dict[int, list[int]] = {}  # of each device its live users
+        self.users: dict[int, list[int]] = {}  # of each device the runs that have a command there
+        for run in hub.runs:
+            for device in hub.runs[run].footprint:
+                self.users.setdefault(device, []).append(run)
+        setattr(self.history, "live_before", self.live_before)
+        for name in ("effective_writer", "wait_in_line"):
+            setattr(hub, name, getattr(self, name))
+        if self.history.mode.scheduler == "fcfs":  # nobody stands before who came later
+            setattr(hub, "overdue", lambda run, device, moment: None)
+
+    def find_places(self) -> None:
+        """Finds where the runs stand in the line, where that has changed. Runs end one after another, and between two ends the
+        line grows."""
+        history = self.history
+        if (len(history.line), len(history.ends)) != self.seen:
+            self.seen = len(history.line), len(history.ends)
+            self.places = {
+                item.run: place for place, item in enumerate(history.line) if isinstance(item, Ran)
+            }
+            self.order = [run for run in self.places if run not in history.ends]
+            self.lives = {run: place for place, run in enumerate(self.order)}
+            self.found = {}
+
+    def live_before(self, run: int) -> list[int]:
+        """The live runs before a run in the line."""
+        self.find_places()
+        place = self.lives.get(run)
+        return History.live_before(self.history, run) if place is None else self.order[:place]
+
+    def live_users(self, device: int) -> list[int]:
+        """The live runs that have a command on the device, in the order of the line."""
+        self.find_places()
+        if device not in self.found:
+            users = [run for run in self.users.get(device, ()) if run in self.lives]
+            self.found[device] = sorted(users, key=self.lives.__getitem__)
+        return self.found[device]
+
+    def wait_in_line(self, run: int, command: Command, sees_down: bool) -> Why | None:
+        """For which run before it in the line a run waits at this command: one that has the device names it."""
+        device, users = command.device, self.live_users(command.device)
+        place = self.lives[run]
+        for x in users:
+            if self.lives[x] >= place:
+                break
+            if self.hub.holds(x, device):
+                return Behind(device, x)
+        if command.reads and not sees_down and device not in self.history.wrote[run]:
+            writer = self.effective_writer(device)
+            if writer is not None and self.lives.get(writer, place) < place:
+                return Dirty(device, writer)
+        strict: Why | None = self.hub.strict_wait(run)
+        return strict
+
+    def effective_writer(self, device: int, without: int | None = None) -> int | None:
+        """The last run along the line with a write there that is not undone."""
+        wrote, undone = self.history.wrote, self.history.undone
+        writers = [
+            run
+            for run in self.users.get(device, ())
+            if device in wrote[run] and device not in undone[run] and run != without
+        ]
+        self.find_places()
+        places = {run: self.places[run] for run in writers if run in self.places}
+        return max(places, key=places.__getitem__) if places else None
+
+
 class Retelling:
     """The hub of a window as the trace tells it, entry after entry. What a grip that is out keeps waiting is not told there."""
 
@@ -293,15 +369,20 @@ class Retelling:
         home.stands = stands
         self.hub = home.open_window(script.windows[number], mode)
         self.told, self.history, self.moment = told, self.hub.history, 0
+        self.quick = QuickHub(self.hub)
         self.printer = WindowPrinter(script, number)
         self.waits, self.waiting = list[Wait](), dict[int, Wait]()
+        self.at_device: dict[int, set[int]] = {
+            d: set() for d in self.quick.users
+        }  # by next commands
+        self.unplaced: set[int] = set()  # that have arrived
+        self.touched = set[int](), set[int]()  # runs and devices, since waits were looked at
 
     def device_of(self, entry: Entry) -> int | None:
-        return (
-            self.hub.runs[entry.run].commands[entry.command].device
-            if isinstance(entry, Did)
-            else getattr(entry, "device", None)
-        )
+        if isinstance(entry, Did):
+            device: int = self.hub.runs[entry.run].commands[entry.command].device
+            return device
+        return getattr(entry, "device", None)
 
     def steps(self) -> Iterator[tuple[int, Entry]]:
         """Each entry with its number, when it has been added."""
@@ -309,34 +390,60 @@ class Retelling:
             try:
                 before = self.moment
                 self.history.add(entry)
-                self.moment = max(
-                    before,
-                    getattr(entry.cause if isinstance(entry, Doomed) else entry, "moment", 0),
-                )
+                moment = getattr(entry.cause if isinstance(entry, Doomed) else entry, "moment", 0)
+                self.moment = max(before, moment)
+                self.touch(entry)
                 if is_whole_step(self.told.entries, k):
-                    self.look(k, entry, before)
+                    self.look(k, self.moment != before)
             except (IndexError, KeyError, ValueError):
-                raise Unread(
-                    f"line {self.told.entry_lines[k]} does not go on from the ones before it"
-                ) from None
+                line = self.told.entry_lines[k]
+                raise Unread(f"line {line} does not go on from the ones before it") from None
             yield k, entry
 
-    def look(self, k: int, entry: Entry, before: int) -> None:
-        """Notes which waits begin and end behind the entry, of the runs to which it may mean something."""
+    def touch(self, entry: Entry) -> None:
+        """Notes the runs and the devices to whose waits the entry may mean something."""
+        runs, devices = self.touched
         device = self.device_of(entry)
-        for run in self.hub.runs:
-            if run not in self.history.arrived:
-                continue
-            command = self.history.next_command(run)
-            is_told = device is None or self.moment != before or getattr(entry, "run", None) == run
-            if (
-                is_told
-                or run not in self.history.placed
-                or command
-                and command.device == device
-                or run in self.history.ends
-            ):
-                self.note(k, run)
+        if device is not None:
+            devices.add(device)
+        match entry:
+            case Arrived(run, _):
+                self.unplaced.add(run)
+                runs.add(run)
+            case Placed(run, _, _):
+                self.unplaced.discard(run)
+                self.go_on(run, -1)
+            case Did(run, c, _):
+                runs.add(run)
+                self.go_on(run, c)
+            case Undid(run, _, _):
+                runs.add(run)
+        if isinstance(entry, Placed | Doomed | Ended):
+            runs.add(entry.run)
+            devices.update(self.hub.runs[entry.run].footprint)
+            if self.hub.is_strict:
+                runs.update(self.history.placed)
+        if isinstance(entry, Ended) or self.history.mode.scheduler == "jit":
+            runs.update(self.unplaced)
+
+    def go_on(self, run: int, answered: int) -> None:
+        """The run is at the command behind the one that was answered."""
+        commands = self.hub.runs[run].commands
+        if answered >= 0:
+            self.at_device[commands[answered].device].discard(run)
+        if answered + 1 < len(commands):
+            self.at_device[commands[answered + 1].device].add(run)
+
+    def look(self, k: int, has_moved: bool) -> None:
+        """Notes which waits begin and end behind the entry."""
+        runs, devices = self.touched
+        self.touched = set[int](), set[int]()
+        if has_moved and self.history.mode.scheduler != "fcfs":
+            runs = set(self.history.arrived)
+        for device in devices:
+            runs |= self.at_device.get(device, set())
+        for run in sorted(runs):
+            self.note(k, run)
 
     def is_placed_next(self, run: int) -> bool:
         """Whether the next step of the run is sure to place it: but just in time nobody is denied."""
@@ -349,10 +456,28 @@ class Retelling:
 
     def wait_of(self, run: int) -> Why | None:
         """Why the run waits, or none, of a run that has arrived."""
-        if run in self.history.ends or self.is_placed_next(run):
+        history = self.history
+        if run in history.ends or run in history.dooms or self.is_placed_next(run):
             return None
+        if run in history.placed:
+            return self.wait_placed(run)
         wait = self.hub.decide(run, self.moment)
         return wait if isinstance(wait, WAITS) else None
+
+    def wait_placed(self, run: int) -> Why | None:
+        """Why a run waits that has its place and is not doomed: as `Hub.decide_command` has it, where no grip is out."""
+        hub, history = self.hub, self.history
+        commands, done = hub.runs[run].commands, len(history.answers[run])
+        if done == len(commands):
+            return None  # it commits, or is doomed
+        command: Command = commands[done]
+        if not command.is_done(history.registers[run]):
+            strict: Why | None = hub.strict_wait(run)
+            return strict
+        if hub.is_weak or hub.overdue(run, command.device, self.moment) is not None:
+            return None
+        sees_down = not history.sees_up[run].get(command.device, True)
+        return self.quick.wait_in_line(run, command, sees_down)
 
     def note(self, k: int, run: int) -> None:
         wait = self.wait_of(run)

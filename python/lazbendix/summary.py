@@ -91,6 +91,9 @@ class WindowTeller:
         self.of_devices: list[tuple[int, str]] = []  # with the number of the line, as of a run
         for k, entry in self.again.steps():
             self.note(k, entry)
+        self.waits: dict[int, list[Wait]] = {run: [] for run in self.of_run}
+        for wait in self.again.waits:
+            self.waits[wait.run].append(wait)
 
     # Names.
 
@@ -252,9 +255,8 @@ class WindowTeller:
             (self.told.run_lines[run],) if run in self.told.answers else ()
         )
         yield Said("; ".join([words for _, words in done] + rest) + ".", lines, 2)
-        for wait in self.again.waits:
-            if wait.run == run:
-                yield Said(f"{self.waited(wait)}.", (), 2)
+        for wait in self.waits[run]:
+            yield Said(f"{self.waited(wait)}.", (), 2)
         if self.lines_of(run, Doomed):
             yield from self.taken_back(run)
 
@@ -555,9 +557,9 @@ def run_facts(teller: WindowTeller, run: int) -> dict[str, Any]:
             printer.answer(*pair) for pair in zip(teller.commands(run), told.answers[run])
         ]
     if teller.traced:
-        waits = [wait for wait in teller.again.waits if wait.run == run]
         facts["waits"] = [
-            {"for": getattr(wait.why, "run", None), "why": teller.waited(wait)} for wait in waits
+            {"for": getattr(wait.why, "run", None), "why": teller.waited(wait)}
+            for wait in teller.waits[run]
         ]
         facts["undone"] = [
             words for _, entry, words in teller.of_run[run] if isinstance(entry, Undid)

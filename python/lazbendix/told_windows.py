@@ -4,6 +4,7 @@ All is told in plain data, as JSON has it. A step is a number: 0 is before the f
 its step `from` on, up to its step `to`; where it lasts to the end, that is one more than there are entries. Runs count from 1,
 devices and commands from 0, values are words.
 """
+import operator
 from collections.abc import Iterable
 from typing import Any, Generic, TypeVar
 
@@ -28,7 +29,17 @@ from lazbendix.reference.record import WindowPrinter
 from lazbendix.reference.script import Script
 from lazbendix.reference.serial import DOWN, SKIPPED, Command
 from lazbendix.holdings import holders, leases_on
-from lazbendix.records import Answer, Day, Item, Retelling, Why, is_whole_step, stands_before
+from lazbendix.moments import moments_of
+from lazbendix.records import (
+    Answer,
+    Day,
+    Item,
+    Retelling,
+    Wait,
+    Why,
+    is_whole_step,
+    stands_before,
+)
 
 Facts = dict[str, Any]  # as JSON has them
 Key = TypeVar("Key")
@@ -64,7 +75,7 @@ class HistoryTeller:
     """Goes along the history of a window, and tells each entry, and what holds between them."""
 
     def __init__(self, script: Script, number: int, day: Day) -> None:
-        self.script, self.window = script, day.windows[number]
+        self.script, self.number, self.window = script, number, day.windows[number]
         self.again = Retelling(
             script, number, day.mode, stands_before(script, day, number), self.window
         )
@@ -72,6 +83,9 @@ class HistoryTeller:
         self.printer = WindowPrinter(script, number)
         self.entries: list[Facts] = []
         self.line: list[Item] = []
+        self.steps_of: dict[int, list[int]] = {run: [] for run in self.hub.runs}
+        self.waits_of: dict[int, list[Wait]] = {}
+        self.has_leases = day.mode.scheduler != "fcfs"
         self.met: set[int] = set()  # devices, since holdings were told
         self.downs, self.values = Stretches[int, bool](), Stretches[int, str]()
         self.holds = Stretches[tuple[int, int], bool]()  # of a device and a run, as the leases
@@ -83,14 +97,20 @@ class HistoryTeller:
             self.entries.append(
                 {"line": self.printer.entry(entry), **self.facts(entry), **self.turn()}
             )
+            if not isinstance(entry, Fell | Rose):
+                self.steps_of[entry.run].append(k + 1)
             devices = self.devices_of(entry)
-            self.tell_stands(k + 1, devices)
+            if not isinstance(entry, Placed):
+                self.tell_stands(k + 1, devices)
             self.met.update(devices)
             if is_whole_step(self.window.entries, k):
                 self.tell_holdings(k + 1)
         last = len(self.entries) + 1
+        for wait in self.again.waits:
+            self.waits_of.setdefault(wait.run, []).append(wait)
         return {
             "entries": self.entries,
+            "moments": moments_of(self.script, self.number, self.window),
             "states": [state for run in self.hub.runs for state in self.states(run, last)],
             "holds": [
                 {"device": d, "run": run, "from": since, "to": end}
@@ -119,15 +139,11 @@ class HistoryTeller:
 
     def states(self, run: int, last: int) -> list[Facts]:
         """What the run is at, stretch after stretch, from its arrival to its end: it works, waits or is doomed."""
-        steps = {
-            entry["kind"]: step
-            for step, entry in enumerate(self.entries, 1)
-            if entry.get("run") == run
-        }
+        steps = {self.entries[step - 1]["kind"]: step for step in self.steps_of[run]}
         end = steps.get("ended", last)
         doom = steps.get("doomed", end)
         states, since = list[tuple[int, int, Facts]](), steps.get("arrived", end)
-        for wait in (wait for wait in self.again.waits if wait.run == run):
+        for wait in self.waits_of.get(run, ()):
             until = last if wait.until is None else wait.until + 1
             states += [
                 (since, wait.since + 1, {"state": "works"}),
@@ -146,17 +162,21 @@ class HistoryTeller:
     def turn(self) -> Facts:
         """Where the entry puts something into the line, or takes it out; `first` has the places of the items that a placing brings
         to the front, in their order, where it rearranges the line."""
+        if len(self.line) == len(self.history.line):
+            return {}
         before, self.line = self.line, list(self.history.line)
         if len(self.line) < len(before):
             return {
                 "outOf": next(place for place, item in enumerate(before) if item not in self.line)
             }
-        if len(self.line) == len(before):
-            return {}
+        same = next(
+            (place for place, pair in enumerate(zip(before, self.line)) if pair[0] is not pair[1]),
+            len(before),
+        )
+        if all(map(operator.is_, self.line[same + 1 :], before[same:])):
+            return {"into": same}
         into = next(place for place, item in enumerate(self.line) if item not in before)
-        first = [before.index(item) for item in self.line[:into]]
-        is_as_before = [*self.line[:into], *self.line[into + 1 :]] == before
-        return {"into": into} if is_as_before else {"into": into, "first": first}
+        return {"into": into, "first": [before.index(item) for item in self.line[:into]]}
 
     def facts(self, entry: Entry) -> Facts:
         match entry:
@@ -222,14 +242,14 @@ class HistoryTeller:
     def tell_holdings(self, step: int) -> None:
         """Tells who has the devices that were met, and who has them on lease."""
         for device in sorted(self.met):
-            have = holders(self.hub, device)
+            have = holders(self.hub, self.again.quick, device)
             leases = {
                 lease.borrower: (lease.lenders, lease.deadline)
-                for lease in leases_on(self.hub, device)
+                for lease in leases_on(self.hub, self.again.quick, device)
             }
-            for run in self.hub.runs:
-                if device in self.hub.runs[run].last:
-                    self.holds.tell((device, run), step, run in have or None)
+            for run in self.again.quick.users.get(device, ()):
+                self.holds.tell((device, run), step, run in have or None)
+                if self.has_leases:
                     self.leases.tell((device, run), step, leases.get(run))
         self.met = set()
 

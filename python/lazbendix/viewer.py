@@ -5,12 +5,16 @@ Where the record has its trace, the page shows each window's history, entry by e
 none, and is what a replay of the script prints, the history is made anew by that replay; else the
 page shows what the record tells. The page's own files are in viewer_page.
 """
+import base64
 import functools
 import json
 import os
 import re
+import zlib
+from collections.abc import Iterator
 
 from lazbendix.choice import Choice
+from lazbendix.explorer import Explorer, columns
 from lazbendix.reference.check import Differs, check_record
 from lazbendix.reference.record import WindowPrinter, window_text
 from lazbendix.reference.replay import Home
@@ -20,6 +24,8 @@ from lazbendix.records import Day, Item, read_day
 from lazbendix.told_windows import Facts, cause_facts, told_history
 
 PARTS = os.path.join(os.path.dirname(os.path.abspath(__file__)), "viewer_page")
+ROWS = ("entries", "states", "holds", "downs", "leases", "values")  # of a history
+PLAIN_UP_TO = 200_000  # bytes of a record whose page is not packed
 PART = re.compile(r"[ ]*<!-- part (\S+) -->\n")
 
 
@@ -156,12 +162,21 @@ def verdict(script: Script, record: str) -> str:
     return "agrees"
 
 
-def day_told(script: Script, record: str, title: str) -> tuple[Facts, list[Facts]]:
-    """The day, and each of its windows, as the page is told them. The record is a text."""
+def day_told(
+    script: Script, record: str, title: str, choice: Choice
+) -> tuple[Facts, Iterator[tuple[Facts, Facts]]]:
+    """The day as the page is told it, and, one after another, each window that is chosen, with what the list of windows says
+    of it. The record is a text."""
     day, lines = read_day(script, record), record.split("\n")
     if not any(window.entries for window in day.windows):
         replay(script, day, lines)
-    told = [WindowTeller(script, number, day, lines).told() for number in range(len(day.windows))]
+    numbers = choice.numbers(script, day)
+
+    def windows() -> Iterator[tuple[Facts, Facts]]:
+        for place, number in enumerate(numbers, 1):
+            told = {**WindowTeller(script, number, day, lines).told(), "number": place}
+            yield told, summary(told)
+
     return {
         "title": title,
         "model": day.mode.model,
@@ -171,8 +186,8 @@ def day_told(script: Script, record: str, title: str) -> tuple[Facts, list[Facts
         "total": lines[day.total_line - 1] if day.total_line else None,
         "devices": list(map(device_told, script.devices)),
         "routines": [routine_told(script, routine) for routine in script.routines],
-        "windows": list(map(summary, told)),
-    }, told
+        "choice": {"run": choice.run, "device": choice.device, "aborted": choice.aborted},
+    }, windows()
 
 
 # The page is put together.
@@ -184,6 +199,21 @@ def data_block(name: str, data: Facts) -> str:
     return f'<script type="application/json" id="{name}">{text}</script>\n'
 
 
+def packed_block(name: str, data: Facts) -> str:
+    """A block of packed data, which the page unpacks when it is looked at."""
+    packed = zlib.compress(json.dumps(data, separators=(",", ":")).encode(), 6)
+    return f'<script type="application/zlib" id="{name}">{base64.b64encode(packed).decode()}</script>\n'
+
+
+def with_columns(window: Facts) -> Facts:
+    """A window whose rows are columns."""
+    history = window["history"]
+    if history is None:
+        return window
+    told = {name: columns(rows) if name in ROWS else rows for name, rows in history.items()}
+    return {**window, "history": told, "packed": True}
+
+
 @functools.cache
 def part_text(name: str) -> str:
     with open(os.path.join(PARTS, name), encoding="utf-8") as stored:
@@ -191,11 +221,21 @@ def part_text(name: str) -> str:
 
 
 def page_of(script: Script, record: str, title: str, choice: Choice = Choice()) -> str:
-    """The page of a day, from its script as it is read and the text of its record."""
-    day, windows = day_told(script, record, title)
-    blocks = [
-        data_block("day", day),
-        *(data_block(f"window-{window['number']}", window) for window in windows),
+    """The page of a day, from its script as it is read and the text of its record. A large day is packed. Raises `Unread`."""
+    day, windows = day_told(script, record, title, choice)
+    is_large = len(record) > PLAIN_UP_TO
+    explorer, summaries, blocks = Explorer(script), list[Facts](), list[str]()
+    for window, about in windows:
+        explorer.add(window)
+        summaries.append(about)
+        name = f"window-{window['number']}"
+        blocks.append(
+            packed_block(name, with_columns(window)) if is_large else data_block(name, window)
+        )
+    block = packed_block if is_large else data_block
+    blocks[:0] = [
+        data_block("day", {**day, "windows": summaries}),
+        block("explored", explorer.told()),
     ]
 
     def part(found: re.Match[str]) -> str:

@@ -26,6 +26,7 @@ class ChoicePanel {
     const items = members.map(([number, text]) => {
       const check = element("input", { type: "checkbox", checked: chosen.has(number), value: String(number) });
       check.addEventListener("change", () => {
+        this.choice.onlyAborted = false;
         if (check.checked) chosen.add(number);
         else chosen.delete(number);
         this.change();
@@ -48,6 +49,7 @@ class ChoicePanel {
 
   chooseAborted() {
     this.choice.clear();
+    this.choice.onlyAborted = true;
     for (const run of this.window.runs) if (run.end === "aborted") this.choice.runs.add(run.number);
     this.show(this.window, this.choice);
     this.change();

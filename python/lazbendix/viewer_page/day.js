@@ -6,6 +6,28 @@ function readBlock(name) {
   return JSON.parse(document.getElementById(name).textContent);
 }
 
+function isPacked(name) {
+  return document.getElementById(name).type === "application/zlib";
+}
+
+/** Unpacks a block of packed data. */
+async function unpackBlock(name) {
+  const packed = Uint8Array.from(atob(document.getElementById(name).textContent), (letter) => letter.charCodeAt(0));
+  const stream = new Blob([packed]).stream().pipeThrough(new DecompressionStream("deflate"));
+  return JSON.parse(await new Response(stream).text());
+}
+
+/** Rows out of columns; where a column has none, the row has no such member. */
+function rowsOf(columns) {
+  const names = Object.keys(columns);
+  const count = names.length ? columns[names[0]].length : 0;
+  return Array.from({ length: count }, (_, index) => {
+    const row = {};
+    for (const name of names) if (columns[name][index] !== null) row[name] = columns[name][index];
+    return row;
+  });
+}
+
 function groupedBy(things, keyOf) {
   const groups = new Map();
   for (const thing of things) {
@@ -92,8 +114,9 @@ class RecordedWindow {
     this.told = told;
     this.number = told.number;
     this.runs = told.runs.map((run, index) => ({ ...run, ...day.routines[run.routine], number: index + 1 }));
-    const history = told.history || { entries: [], states: [], holds: [], downs: [], leases: [], values: [] };
+    const history = RecordedWindow.historyOf(told);
     this.entries = history.entries;
+    this.recorded = history.moments; // behind each entry, in ms
     this.steps = history.entries.length;
     this.line = new GrowingLine(history.entries);
     this.holds = groupedBy(history.holds, (stretch) => stretch.device);
@@ -104,6 +127,18 @@ class RecordedWindow {
     this.noteLanes();
   }
 
+  static historyOf(told) {
+    const history = told.history || { entries: [], moments: [], states: [], holds: [], downs: [], leases: [], values: [] };
+    if (!told.packed) return history;
+    const rows = Object.entries(history).map(([name, columns]) => [name, Array.isArray(columns) ? columns : rowsOf(columns)]);
+    return Object.fromEntries(rows);
+  }
+
+  /** The window's number in its day. */
+  get label() {
+    return this.told.title.split(" ")[1];
+  }
+
   noteLanes() {
     this.stepsOfRun = new Map(this.runs.map((run) => [run.number, []]));
     this.stepsOfDevice = new Map(this.day.devices.map((_, device) => [device, []]));
@@ -111,13 +146,14 @@ class RecordedWindow {
     this.dooms = new Map(); // of each run that is doomed the step
     this.ends = new Map(); // of each run that has ended the step
     this.turns = []; // the steps at which the line, or what is true of a run in it, changes
+    const { moments } = this;
     this.entries.forEach((entry, index) => {
       if (entry.kind === "doomed") this.dooms.set(entry.run, index + 1);
       if (entry.kind === "ended") this.ends.set(entry.run, index + 1);
       if (!["arrived", "did", "undid"].includes(entry.kind)) this.turns.push(index + 1);
       if (entry.run !== undefined) this.stepsOfRun.get(entry.run).push(index + 1);
       if (entry.device !== undefined && !entry.skipped) this.stepsOfDevice.get(entry.device).push(index + 1);
-      this.moments.push(entry.moment === undefined ? this.moments[index] : entry.moment);
+      moments.push(this.recorded[index] ?? entry.moment ?? moments[index]);
     });
   }
 
@@ -196,8 +232,24 @@ class Day {
     this.opened = new Map();
   }
 
+  /** Whether the window can be looked at without unpacking it first. */
+  isReady(number) {
+    return this.opened.has(number) || !isPacked(`window-${number}`);
+  }
+
+  async prepare(number) {
+    const told = await unpackBlock(`window-${number}`);
+    if (!this.opened.has(number)) this.opened.set(number, new RecordedWindow(this, told));
+  }
+
   window(number) {
     if (!this.opened.has(number)) this.opened.set(number, new RecordedWindow(this, readBlock(`window-${number}`)));
     return this.opened.get(number);
+  }
+
+  /** The day as a whole: its runs, waits and devices. */
+  async explored() {
+    const told = isPacked("explored") ? await unpackBlock("explored") : readBlock("explored");
+    return { runs: rowsOf(told.runs), places: rowsOf(told.places), waits: rowsOf(told.waits), homes: told.homes };
   }
 }

@@ -16,8 +16,8 @@ class Sight {
     this.shiftX = labelWidth - scroller.scrollLeft;
     this.shiftY = HEAD - scroller.scrollTop;
     const last = layout.columns.length - 1;
-    this.firstColumn = Math.max(Math.floor(scroller.scrollLeft / layout.columnWidth) - 1, 0);
-    this.lastColumn = Math.min(Math.ceil((scroller.scrollLeft + width - labelWidth) / layout.columnWidth) + 1, last);
+    this.firstColumn = Math.max(layout.columnsBefore(scroller.scrollLeft) - 2, 0);
+    this.lastColumn = Math.min(layout.columnsBefore(scroller.scrollLeft + width - labelWidth) + 1, last);
     this.firstStep = layout.columns[this.firstColumn] ?? 0;
     this.lastStep = layout.columns[this.lastColumn] ?? 0;
     this.lanes = layout.lanesBetween(scroller.scrollTop, scroller.scrollTop + height - HEAD);

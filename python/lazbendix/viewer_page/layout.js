@@ -1,6 +1,7 @@
 "use strict";
 
-// Which lanes and columns the chart has, and where they are. A column is a step, not time.
+// Which lanes and columns the chart has, and where they are. By steps all columns are as wide; by ms a column is wider by the time
+// since the step before it.
 
 const HEIGHTS = { roomy: { head: 32, run: 46, device: 46, place: 26 }, dense: { head: 28, run: 27, device: 27, place: 21 } };
 const NOTES = 17; // of a roomy lane, below its signs: the row of its notes
@@ -12,6 +13,7 @@ class Choice {
     this.runs = new Set();
     this.devices = new Set();
     this.onlySteps = false;
+    this.onlyAborted = false; // was asked for: it holds for each window anew
     this.untouched = false; // devices that no run of the window names
     this.groups = { runs: true, devices: true, line: true };
   }
@@ -24,6 +26,23 @@ class Choice {
     this.runs.clear();
     this.devices.clear();
     this.onlySteps = false;
+    this.onlyAborted = false;
+  }
+
+  /** Goes on from one window to the next: the devices stay, and of the runs those of the same routines, or the aborted ones. In the
+   * first window it is what was asked for as the page was made. */
+  goOn(before, window, asked) {
+    if (!before) {
+      this.onlyAborted = asked.aborted;
+      if (asked.run) this.runs.add(asked.run);
+      const device = window.day.devices.findIndex((it) => it.name === asked.device);
+      if (device >= 0) this.devices.add(device);
+    }
+    const routines = new Set([...this.runs].map((run) => before?.run(run)?.routine));
+    if (before) this.runs.clear();
+    const meant = (run) => (this.onlyAborted ? run.end === "aborted" : routines.has(run.routine));
+    for (const run of window.runs) if (meant(run) && before) this.runs.add(run.number);
+    for (const run of window.runs) if (!before && this.onlyAborted && run.end === "aborted") this.runs.add(run.number);
   }
 
   runsOf(window) {
@@ -55,10 +74,11 @@ class Choice {
 
 /** The lanes of a window from top to bottom, and its columns from left to right. */
 class Layout {
-  constructor(window, choice, columnWidth) {
+  constructor(window, choice, columnWidth, axis = "step") {
     this.window = window;
     this.columnWidth = columnWidth;
     this.columns = choice.stepsOf(window);
+    this.edges = axis === "ms" ? this.edgesByTime() : null; // the left edge of each column, and the right one of the last
     this.lanes = [];
     this.bottom = 0;
     const runs = choice.runsOf(window);
@@ -87,14 +107,39 @@ class Layout {
     this.bottom += height;
   }
 
+  /** All the time of the window together has as much room as its columns. */
+  edgesByTime() {
+    const { moments } = this.window;
+    const whole = Math.max(moments[moments.length - 1] - moments[0], 1);
+    const scale = (this.columns.length * this.columnWidth) / whole;
+    const edges = new Float64Array(this.columns.length + 1);
+    let before = moments[0];
+    this.columns.forEach((step, column) => {
+      edges[column + 1] = edges[column] + this.columnWidth + (moments[step] - before) * scale;
+      before = moments[step];
+    });
+    return edges;
+  }
+
+  /** The left edge of a column. */
+  columnEdge(column) {
+    return this.edges ? this.edges[column] : column * this.columnWidth;
+  }
+
+  /** How many columns begin before a place. */
+  columnsBefore(x) {
+    return this.edges ? countBelow(this.edges, x) : Math.ceil(x / this.columnWidth);
+  }
+
   get width() {
-    return this.columns.length * this.columnWidth;
+    return this.columnEdge(this.columns.length);
   }
 
   /** Where the entry of the step stands, or would stand between those that are shown. */
   x(step) {
     const column = countBelow(this.columns, step);
-    return (column + (this.columns[column] === step ? 0.5 : 0)) * this.columnWidth;
+    if (this.columns[column] !== step) return this.columnEdge(column);
+    return this.columnEdge(column + 1) - this.columnWidth / 2; // the time before a step stands to its left
   }
 
   /** Where what holds from the step on begins: step 0 at the left edge, the step behind the last at the right one. */
@@ -105,12 +150,12 @@ class Layout {
 
   /** The step whose column is there, or none. */
   stepAt(x) {
-    return this.columns[Math.floor(x / this.columnWidth)];
+    return this.columns[this.columnsBefore(x + 0.001) - 1];
   }
 
   /** The step whose state is seen there: behind the entry of the column where x is in its right half. */
   stateStepAt(x) {
-    const column = Math.floor(x / this.columnWidth - 0.5);
+    const column = this.columnsBefore(x + this.columnWidth / 2 + 0.001) - 2;
     return column < 0 ? (this.columns[0] || 1) - 1 : this.columns[Math.min(column, this.columns.length - 1)] || 0;
   }
 

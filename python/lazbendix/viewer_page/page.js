@@ -7,6 +7,8 @@ const WIDEST = 132;
 const USUAL = 66;
 const SMALLEST_WHOLE = 44;
 const PACE = 800; // ms a step, where it plays
+const MANY_WINDOWS = 12; // of a day that is first shown as a whole
+const SCALES = { step: "A column is a step of the history, not time.", ms: "A column is wider by the time since the step before." };
 
 function part(name) {
   return document.getElementById(name);
@@ -28,12 +30,14 @@ class Page {
     this.outcome = new Outcome(part("outcome"));
     this.line = new LineChips(part("line"), part("line-title"));
     this.overview = new Overview(part("overview"));
+    this.wholeDay = new DayView(part("day-view"), this.day, (number, step, lane) => this.lookInto(number, step, lane));
     this.choices = new ChoicePanel(part("choices"), () => this.layOut());
     this.key = new Key(part("key"));
     this.step = 0;
     this.selected = null;
     this.pointed = null;
     this.columnWidth = USUAL;
+    this.axis = "step";
     this.playing = null;
     this.tellDay();
     this.listen();
@@ -73,19 +77,38 @@ class Page {
       document.querySelector("main").inert = true;
       return;
     }
-    this.open(number);
-    if (named.has("step")) this.go(Number(named.get("step")) || 0);
+    const isWhole = named.has("day") || (!named.has("window") && this.day.windows.length > MANY_WINDOWS);
+    this.whenOpen(number, () => {
+      if (named.has("step")) this.go(Number(named.get("step")) || 0);
+      if (isWhole) this.showDay(true);
+    });
   }
 
+  /** Opens a window and does something then, at once where the window need not be unpacked. */
+  whenOpen(number, act) {
+    const opened = this.open(number);
+    if (opened) opened.then(act);
+    else act();
+  }
+
+  /** Opens a window; a promise where it is unpacked first. */
   open(number) {
-    if (number < 1 || number > this.day.windows.length) return;
+    if (number < 1 || number > this.day.windows.length) return undefined;
+    this.asked = number;
+    if (!this.day.isReady(number)) return this.day.prepare(number).then(() => this.asked === number && this.openReady(number));
+    return this.openReady(number);
+  }
+
+  openReady(number) {
     this.stop();
+    this.showDay(false);
+    const before = this.window;
     this.window = this.day.window(number);
     this.words = new Words(this.window);
     this.selected = this.pointed = null;
-    this.choice.clear();
+    this.choice.goOn(before, this.window, this.day.choice);
     this.step = 0;
-    part("window-title").textContent = `Window ${number} · ${timeOf(this.window.told.title)}`;
+    part("window-title").textContent = `Window ${this.window.label} · ${timeOf(this.window.told.title)}`;
     this.windows.show(number);
     this.choices.show(this.window, this.choice);
     this.outcome.show(this.words, this.palette);
@@ -94,6 +117,41 @@ class Page {
     this.layOut();
     if (this.window.hasHistory) this.go(this.tellingStep());
     else this.turnTo("outcome");
+  }
+
+  /** From the whole day into a window, at a step, with a run selected. */
+  lookInto(number, step, { run }) {
+    this.whenOpen(number, () => {
+      if (step !== undefined) this.go(step);
+      if (run === undefined) return;
+      const lane = this.layout.lanes[this.layout.laneIndex({ kind: "run", run })];
+      if (!lane) return;
+      this.chart.reveal(this.step, lane);
+      this.select(lane);
+    });
+  }
+
+  /** Shows the whole day, or the window. */
+  showDay(isShown) {
+    if (isShown) this.wholeDay.open();
+    part("day-view").hidden = !isShown;
+    for (const name of [".stage", "aside"]) document.querySelector(name).hidden = isShown;
+    part("whole-day").toggleAttribute("aria-current", isShown);
+    if (isShown) this.windows.show(0);
+    else if (this.window) this.windows.show(this.window.number);
+    if (isShown) history.replaceState(null, "", "#day");
+    else if (this.layout) this.show();
+  }
+
+  get isDayShown() {
+    return !part("day-view").hidden;
+  }
+
+  turnAxis() {
+    this.axis = this.axis === "ms" ? "step" : "ms";
+    const x = this.layout.x(this.step) - part("chart-box").scrollLeft;
+    this.layOut();
+    part("chart-box").scrollLeft = this.layout.x(this.step) - x;
   }
 
   /** The step that tells most of the window: that of its first doom, or the last one. */
@@ -113,7 +171,9 @@ class Page {
 
   layOut() {
     if (!this.window) return;
-    this.layout = new Layout(this.window, this.choice, this.columnWidth);
+    this.layout = new Layout(this.window, this.choice, this.columnWidth, this.axis);
+    part("axis").setAttribute("aria-pressed", String(this.axis === "ms"));
+    part("scale").textContent = this.axis === "ms" ? SCALES.ms : SCALES.step;
     if (this.selected && this.layout.laneIndex(this.selected) < 0) this.selected = null;
     part("choose").toggleAttribute("data-narrowed", this.choice.isNarrowed);
     part("choose").textContent = this.choice.isNarrowed ? "Filtered" : "Filter";
@@ -133,6 +193,7 @@ class Page {
     this.isAwaited = true;
     requestAnimationFrame(() => {
       this.isAwaited = false;
+      if (this.isDayShown) return;
       this.chart.paint();
       this.overview.show(this, this.seen());
     });
@@ -222,18 +283,25 @@ class Page {
     this.layOut();
   }
 
-  // Zoom: what is at a place of the chart stays there.
+  // Zoom: the chosen step stays where it is, where it is seen; with a wheel what is below the pointer does.
 
-  zoom(factor, place = this.room() / 2) {
+  zoom(factor, place = this.placeOfStep()) {
     const box = part("chart-box");
-    const column = (box.scrollLeft + place) / this.columnWidth;
+    const share = (box.scrollLeft + place) / Math.max(this.layout.width, 1);
     this.columnWidth = Math.min(Math.max(this.columnWidth * factor, NARROWEST), WIDEST);
     this.layOut();
-    box.scrollLeft = column * this.columnWidth - place;
+    box.scrollLeft = share * this.layout.width - place;
+  }
+
+  /** Where the chosen step is in the part of the chart that is seen, or its middle. */
+  placeOfStep() {
+    const place = this.layout.x(this.step) - part("chart-box").scrollLeft;
+    return this.step > 0 && place >= 0 && place <= this.room() ? place : this.room() / 2;
   }
 
   zoomToWhole() {
-    this.columnWidth = Math.min(Math.max(this.room() / Math.max(this.layout.columns.length, 1), NARROWEST), WIDEST);
+    const columns = Math.max(this.layout.columns.length, 1) * (this.axis === "ms" ? 2 : 1);
+    this.columnWidth = Math.min(Math.max(this.room() / columns, NARROWEST), WIDEST);
     this.layOut();
     part("chart-box").scrollLeft = 0;
   }
@@ -310,6 +378,8 @@ class Page {
       whole: () => this.zoomToWhole(),
       in: () => this.zoom(1.4),
       choose: () => part("choices").showModal(),
+      axis: () => this.turnAxis(),
+      "whole-day": () => this.showDay(!this.isDayShown),
       theme: () => this.switchTheme(),
       help: () => part("keys").showModal(),
       "history-tab": () => this.turnTo("history"),
@@ -328,7 +398,7 @@ class Page {
   }
 
   resize() {
-    if (this.layout) this.show();
+    if (this.layout && !this.isDayShown) this.show();
   }
 
   listenToChart() {
@@ -450,6 +520,8 @@ class Page {
       0: () => this.zoomToWhole(),
       Enter: () => this.toggleAlone(),
       f: () => part("choices").showModal(),
+      m: () => this.turnAxis(),
+      o: () => this.showDay(true),
       r: () => this.fold("runs"),
       d: () => this.fold("devices"),
       l: () => this.fold("line"),
@@ -459,11 +531,23 @@ class Page {
     }[event.key];
   }
 
+  /** What a key does while the whole day is shown. */
+  actOfDay(event) {
+    if (event.target.closest?.("input")) return undefined;
+    return {
+      o: () => this.showDay(false),
+      Escape: () => this.showDay(false),
+      "/": () => part("day-search").focus(),
+      t: () => this.switchTheme(),
+      "?": () => part("keys").showModal(),
+    }[event.key];
+  }
+
   press(event) {
     if (!this.window || event.ctrlKey || event.metaKey || event.altKey || document.querySelector("dialog[open]")) return;
     const isButton = event.target.closest?.("button, a, input");
     if (isButton && (event.key === " " || event.key === "Enter")) return;
-    const act = this.actOf(event);
+    const act = this.isDayShown ? this.actOfDay(event) : this.actOf(event);
     if (!act) return;
     event.preventDefault();
     act();
