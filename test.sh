@@ -19,13 +19,14 @@ else
     trap 'rm -rf "$room"' EXIT
     trap 'exit 1' INT TERM HUP
 fi
-kit=$(dirname "$(rt doc)") || exit 1
-
 say() { echo "test: $*"; }
 fail() {
     echo "test: $*" >&2
     exit 1
 }
+command -v rt >/dev/null || fail "there is no rt on the PATH"
+kit=$(dirname "$(rt doc)")
+
 # tries WHAT WORD ..: this command ends with 0; else what it said is shown
 tries() {
     what=$1
@@ -90,6 +91,6 @@ if [ -f tools/check_syncs.py ]; then
 fi
 
 say "the library"
-LAZBENDIX_OUT=$room tries "the library" sh library/tests/run.sh 100
+tries "the library" env LAZBENDIX_OUT="$room" sh library/tests/run.sh 100
 
 say "all as wanted. Nothing was proved: rt ci proves, and sh .ci/run does all there is."

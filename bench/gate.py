@@ -3,10 +3,12 @@
 
     python3 bench/gate.py [--cpus 0,1] [--log FILE] [NAME..]
     python3 bench/gate.py --from FILE
+    .. --write
 
 runs `rt ci --anew` at the top of the repository (with names: those crates and the ones below them, which is not the
 gate), on these processors alone where --cpus names some, and prints two tables in the form of docs/PERFORMANCE.md. FILE
-gets a line for each process that was measured, so that --from prints the tables again.
+gets a line for each process that was measured, so that --from prints the tables again. With --write they also take the place
+of those that stand there.
 
 What is measured. Five times a second it looks through /proc for the processes `rattle check` and `rattle build` that
 descend from its own `rt`. Their words tell the crate and what is done: a library's or a program's proof, its tests
@@ -21,6 +23,8 @@ It wants Linux, Python 3, and `rt` on the path.
 """
 import argparse
 import collections
+import contextlib
+import io
 import os
 import resource
 import subprocess
@@ -31,6 +35,8 @@ import time
 ROOT = os.path.dirname(os.path.dirname(os.path.realpath(__file__)))
 EVERY = 0.2
 TICK = os.sysconf("SC_CLK_TCK")
+PAGE = f"{ROOT}/docs/PERFORMANCE.md"
+BEGIN, END = "<!-- gate -->\n", "<!-- end of gate -->\n"
 KINDS = ("proof", "tests", "seed", "edit", "build")
 
 # A process of the gate: the crate, what it does there, its processor seconds, and the most memory, in MB.
@@ -204,15 +210,31 @@ def print_tables(log):
         print(f"| {name} | {value} |")
 
 
+def write_tables(tables):
+    """Puts the tables into the page, in the place of those that stand there."""
+    with open(PAGE, encoding="utf-8") as it:
+        before, begin, rest = it.read().partition(BEGIN)
+    _, end, behind = rest.partition(END)
+    if not begin or not end:
+        sys.exit(f"gate: {PAGE} has no place for the tables")
+    with open(PAGE, "w", encoding="utf-8") as it:
+        it.write(f"{before}{begin}{tables}{end}{behind}")
+
+
 def main():
     reader = argparse.ArgumentParser(description=__doc__, formatter_class=argparse.RawDescriptionHelpFormatter)
     reader.add_argument("names", nargs="*", metavar="NAME")
     reader.add_argument("--cpus", type=lambda text: {int(it) for it in text.split(",")}, metavar="0,1")
     reader.add_argument("--log", default=f"{tempfile.gettempdir()}/gate.tsv", metavar="FILE")
     reader.add_argument("--from", dest="old", metavar="FILE")
+    reader.add_argument("--write", action="store_true")
     given = reader.parse_args()
     status = 0 if given.old else run(given.names, given.cpus, given.log)
-    print_tables(given.old or given.log)
+    with contextlib.redirect_stdout(io.StringIO()) as tables:
+        print_tables(given.old or given.log)
+    print(tables.getvalue(), end="")
+    if given.write:
+        write_tables(tables.getvalue())
     return status
 
 
