@@ -11,7 +11,7 @@ import re
 import sys
 from collections.abc import Callable
 
-from lazbendix import about, shells
+from lazbendix import about, compare, shells
 from lazbendix.choice import Choice
 from lazbendix.explain import explanation, told_as_json
 from lazbendix.given import Given, Text, Unplayed, read_bytes, read_given, read_text
@@ -30,7 +30,7 @@ from lazbendix.program import (
 )
 from lazbendix.records import Unread
 from lazbendix.reference.calls import divided
-from lazbendix.reference.script import Refusal
+from lazbendix.reference.script import Refusal, read_script
 from lazbendix.reference.words import read_words
 from lazbendix.script_mistakes import near
 from lazbendix.summary import facts_of, summary
@@ -45,6 +45,9 @@ HELPS = {
     10: 'home.journal is of another home, or was changed: docs/FORMATS.md, "The journal"',
     11: "a run has commands in two rooms, or follows a run of another one: lazbendix run plays the day as it is",
 }
+
+
+MOST_SEEDS = 12  # that stand beside each other
 
 
 def complain(*lines: str) -> None:
@@ -222,6 +225,59 @@ def show_trace(asked: argparse.Namespace) -> int:
     )
 
 
+def records_of(asked: argparse.Namespace, text: Text) -> list[tuple[str, str]]:
+    """The records that are compared, each with its name. Raises `Unplayed`."""
+    if asked.records:
+        names = [os.path.basename(name) for name in asked.records]
+        names = names if len(set(names)) == len(names) else asked.records
+        told = [read_bytes(name, "a record").decode("utf-8", "replace") for name in asked.records]
+        return list(zip(names, told))
+    mode = mode_words(asked)
+    if asked.models:
+        calls = [(f"{model} fcfs", ["--model", model], text.plain) for model in compare.MODELS]
+    elif asked.schedulers:
+        calls = [(f"ev {it}", ["--scheduler", it], text.plain) for it in compare.SCHEDULERS]
+    else:
+        first, last = asked.seeds
+        seeds = range(first, last + 1)
+        calls = [(f"seed {seed}", mode, compare.with_seed(text.plain, seed)) for seed in seeds]
+    return [(name, replayed(words, data)) for name, words, data in calls]
+
+
+def replayed(mode: list[str], data: bytes) -> str:
+    """The record of a replay. Raises `Unplayed`."""
+    ended = kept_call(["replay", "--trace", *mode], data)
+    if ended.status:
+        raise Unplayed(ended)
+    return ended.output.decode()
+
+
+def compare_records(asked: argparse.Namespace) -> int:
+    kinds = [bool(asked.records), asked.models, asked.schedulers, asked.seeds is not None]
+    if sum(kinds) != 1 or len(asked.records) == 1:
+        wanted = "two records or more, or one of --models, --schedulers and --seeds, are compared"
+        raise OtherWords("lazbendix compare", wanted)
+    if (asked.model or asked.scheduler) and asked.seeds is None:
+        raise OtherWords("lazbendix compare", "a model and a scheduler go with --seeds alone")
+    if asked.seeds and asked.seeds[1] >= min(2**64, asked.seeds[0] + MOST_SEEDS):
+        raise OtherWords("lazbendix compare", f"at most {MOST_SEEDS} seeds below 2^64 are compared")
+    text = read_text(asked.day, asked.yaml)
+    try:
+        script = read_script(text.plain)
+        columns = [compare.column_of(script, told, name) for name, told in records_of(asked, text)]
+    except Refusal as refusal:
+        complain(f"script: {refusal}")
+        explain_refusal(text)
+        return 1
+    except Unplayed as why:
+        return finished(why.ended, text)
+    if asked.json:
+        print(json.dumps(compare.facts_of(script, columns, asked.models), indent=1))
+    else:
+        sys.stdout.write(compare.comparison(script, columns, asked.models))
+    return 0
+
+
 def make_next(asked: argparse.Namespace) -> int:
     def show(given: Given) -> str:
         made, told = next_day(given.data, given.record, asked.days, asked.silent, asked.rest)
@@ -281,6 +337,7 @@ ACTS: dict[str, Callable[[argparse.Namespace], int]] = {
     "view": show_page,
     "picture": show_picture,
     "trace": show_trace,
+    "compare": compare_records,
     "next": make_next,
     "doctor": doctor,
     "version": version,

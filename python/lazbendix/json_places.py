@@ -15,6 +15,7 @@ NUMBER = re.compile(rb"-?(?:0|[1-9][0-9]*)(\.[0-9]+)?([eE][+-]?[0-9]+)?")
 STOP = re.compile(rb'["\\\x00-\x1f]')  # in a text: what is no plain letter
 UNIT = re.compile(rb"\\u([0-9a-fA-F]{4})")
 TOKEN = re.compile(rb"[A-Za-z_$][\w$-]*|[^\s\x80-\xff]")
+YAML = re.compile(rb"---|[A-Za-z_][\w-]*:\s|- ")
 ESCAPES = {
     b'"': '"',
     b"\\": "\\",
@@ -95,13 +96,15 @@ class Reader:
         """The reading ends at this place, where something else was to stand."""
         found = self.data[self.at : self.at + 1]
         if found in (b"/", b"#"):
-            advice = "JSON has no comments"
+            advice = "JSON has no comments; those from // to the end of their line lazbendix takes out"
         elif found == b"'":
             advice = "texts and names stand in double quotes"
         elif self.data.startswith(b"%%", self.at):
             advice = "%% divides a script from its record where it stands alone on its line: end the line before it"
         elif self.data.startswith(b"\xef\xbb\xbf", self.at):
             advice = "a byte order mark: save the file without it"
+        elif not self.open and YAML.match(self.data, self.at):
+            advice = "YAML, as it seems: lazbendix reads it with --yaml"
         return Broken(
             self.at, f"expected {what}; {self.stands()}" + (f" ({advice})" if advice else "")
         )

@@ -2,6 +2,7 @@
 
 Words, statuses and bytes are those of docs/FORMATS.md. Nothing here changes what is written.
 """
+import functools
 import os
 import select
 import shutil
@@ -82,8 +83,9 @@ def kept_call(words: list[str], data: bytes = b"") -> Ended:
     return Ended(ended.returncode, ended.stderr.decode("utf-8", "replace").strip(), ended.stdout)
 
 
+@functools.cache
 def tell_reference() -> None:
-    """Says that no proved program plays."""
+    """Says, once, that no proved program plays."""
     print(
         "lazbendix: no proved program is installed, so the reference plays (lazbendix doctor)",
         file=sys.stderr,

@@ -25,7 +25,7 @@ from lazbendix.told_windows import Facts, cause_facts, told_history
 
 PARTS = os.path.join(os.path.dirname(os.path.abspath(__file__)), "viewer_page")
 ROWS = ("entries", "states", "holds", "downs", "leases", "values")  # of a history
-PLAIN_UP_TO = 200_000  # bytes of a record whose page is not packed
+PLAIN_UP_TO = 120_000  # bytes of a record whose page is not packed
 PART = re.compile(r"[ ]*<!-- part (\S+) -->\n")
 
 

@@ -93,13 +93,21 @@ def count(word: str) -> int:
     return int(word)
 
 
-def window_span(word: str) -> tuple[int, int]:
-    """A window's number, or the first and the last one, as 3-7."""
-    first, dash, last = word.partition("-")
-    span = count(first), count(last if dash else first)
-    if span[0] > span[1]:
-        raise argparse.ArgumentTypeError(f'"{word}" ends before it begins')
-    return span
+def span(what: str, least: int) -> Callable[[str], tuple[int, int]]:
+    """A reader of one number, or of a first and a last one, as 3-7."""
+
+    def read(word: str) -> tuple[int, int]:
+        first, dash, last = word.partition("-")
+        numbers = [first, last if dash else first]
+        if not all(it.isascii() and it.isdigit() and int(it) >= least for it in numbers):
+            raise argparse.ArgumentTypeError(
+                f'"{word}" is no {what} from {least} on, and none to another, as 3-7'
+            )
+        if int(numbers[0]) > int(numbers[1]):
+            raise argparse.ArgumentTypeError(f'"{word}" ends before it begins')
+        return int(numbers[0]), int(numbers[1])
+
+    return read
 
 
 def shaped(names: Sequence[str]) -> str:
@@ -210,7 +218,7 @@ class Maker:
         """Which part of a day is shown."""
         to.add_argument(
             "--window",
-            type=window_span,
+            type=span("window", 1),
             metavar="K[-L]",
             help="the window K alone, or those from K to L",
         )
@@ -295,9 +303,45 @@ class Maker:
             default="step",
             help="a step is one ms (the default), or the moments of the record",
         )
+        self.compared()
         self.next_day()
         self.others()
         return self.top
+
+    def compared(self) -> None:
+        """The command that compares records, models, schedulers or seeds."""
+        made = self.command(
+            "compare",
+            "compare what came of a day: two records of it, or its replays under models, schedulers or seeds",
+            [
+                "lazbendix compare --models day.json",
+                "lazbendix compare --seeds 1-5 --model psv day.json",
+                "lazbendix compare day.json monday.record tuesday.record",
+            ],
+            "Of models it ends in the one that suits the home, and why.",
+        )
+        self.day(made, needed=True)
+        made.add_argument(
+            "records",
+            metavar="RECORD",
+            nargs="*",
+            help="records of the day, files or -; two or more",
+        )
+        which = made.add_mutually_exclusive_group()
+        which.add_argument(
+            "--models", action="store_true", help="replay it under ev, psv, gsv and wv"
+        )
+        which.add_argument(
+            "--schedulers", action="store_true", help="replay it under ev by fcfs, jit and timeline"
+        )
+        which.add_argument(
+            "--seeds",
+            type=span("seed", 0),
+            metavar="M-N",
+            help="replay it with each of these seeds in all its windows",
+        )
+        self.mode(made)
+        made.add_argument("--json", action="store_true", help="print the comparison as JSON")
 
     def next_day(self) -> None:
         made = self.looked(
