@@ -33,14 +33,16 @@ def library_place() -> str | None:
 
 
 def findings() -> list[tuple[str, bool | None, str]]:
-    """What is looked for: its name, whether it is as it should be (none where nothing hangs on it), and words."""
+    """What is looked for: its name, whether it is as it should be (none where nothing hangs on it),
+    and words."""
     told: list[tuple[str, bool | None, str]] = [("lazbendix", True, version())]
     told.append(("Python", True, f"{platform.python_version()} on {platform.machine()}"))
     try:
         program = found_program()
         words = (
             program
-            or "none: the reference plays; LAZBENDIX_PROGRAM may name one, or hub_main be on the path"
+            or "none: the reference plays; LAZBENDIX_PROGRAM may name one, or hub_main be on the "
+            "path"
         )
         told.append(("proved program", True if program else None, words))
         told += plays_as_the_reference() if program else []

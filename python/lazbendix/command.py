@@ -1,7 +1,7 @@
 """The command `lazbendix`: it stands in front of the proved program, and has the tools for people.
 
-What plays and judges is the program, with its own words, statuses and bytes; this reads files, takes comments out, explains
-what is refused, and shows what came of a day.
+What plays and judges is the program, with its own words, statuses and bytes; this reads files,
+takes comments out, explains what is refused, and shows what came of a day.
 """
 import argparse
 import gc
@@ -40,10 +40,12 @@ from lazbendix.viewer import page_of
 from lazbendix.words import Maker, OtherWords, Reader, is_file, why_no_mode
 
 HELPS = {
-    7: 'the record is not what its script gives in the order that it prints: docs/FORMATS.md, "The check of a record"',
+    7: 'the record is not what its script gives in the order that it prints: docs/FORMATS.md, "The '
+    'check of a record"',
     9: "home.journal could not be opened, read, written or synced: nothing that is kept is lost",
     10: 'home.journal is of another home, or was changed: docs/FORMATS.md, "The journal"',
-    11: "a run has commands in two rooms, or follows a run of another one: lazbendix run plays the day as it is",
+    11: "a run has commands in two rooms, or follows a run of another one: lazbendix run plays the "
+    "day as it is",
 }
 
 
@@ -145,10 +147,13 @@ def trial(asked: argparse.Namespace) -> int:
 def explain(asked: argparse.Namespace) -> int:
     text = read_text(asked.day, asked.yaml)
     if asked.json:
-        facts = told_as_json(text.name, text.plain)
+        facts = told_as_json(text.name, text.plain, asked.scheduler)
         print(json.dumps(facts, indent=2))
         return 0 if facts["read"] else 1
-    told, is_read = explanation(text.name, text.plain, text.written, colours_of(sys.stdout))
+    colours = colours_of(sys.stdout)
+    told, is_read = explanation(
+        text.name, text.plain, text.written, colours, scheduler=asked.scheduler
+    )
     sys.stdout.write(told)
     return 0 if is_read else 1
 
@@ -396,7 +401,8 @@ def acted(argv: list[str]) -> int:
 
 
 def main(argv: list[str]) -> int:
-    """Does what the words ask for, and answers the status. Where the reader of a pipe has gone, nothing is said."""
+    """Does what the words ask for, and answers the status. Where the reader of a pipe has gone,
+    nothing is said."""
     try:
         status = acted(argv)
         sys.stdout.flush()

@@ -1,8 +1,10 @@
-"""Compares what came of one day: two records of it, or its replays under several models, schedulers or seeds.
+"""Compares what came of one day: two records of it, or its replays under several models, schedulers
+or seeds.
 
-Of each record it counts runs, causes, waits and time; names the runs and the devices that end otherwise; and of models says which
-suits the home, and why. A replay has one clock, which each command moves for all; so times are told as
-they would be if runs that need not wait go at once (`moments.Overlapping`).
+Of each record it counts runs, causes, waits and time; names the runs and the devices that end
+otherwise; and of models says which suits the home, and why. A replay has one clock, which each
+command moves for all; so times are told as they would be if runs that need not wait go at once
+(`moments.Overlapping`).
 """
 from collections import Counter
 from collections.abc import Callable
@@ -218,7 +220,8 @@ def facts_of(script: Script, columns: list[Column], with_advice: bool) -> dict[s
 
 
 def suited(columns: list[Column]) -> Column:
-    """The strictest model that aborts no more runs than the eventual one, and whose day is as long but for a little."""
+    """The strictest model that aborts no more runs than the eventual one, and whose day is as long
+    but for a little."""
     models = {column.model: column for column in columns}
     base = models["ev"]
     for name in ("gsv", "psv"):
@@ -269,7 +272,8 @@ def advice(script: Script, columns: list[Column]) -> str:
     lines = [f"{best.model} ({NAMES[best.model]}) suits this home."]
     if not shares_devices(script):
         lines.append(
-            "No two runs of a window share a device, so no model lets one of them wait for another's device."
+            "No two runs of a window share a device, so no model lets one of them wait for "
+            "another's device."
         )
     if best.model == "ev":
         lines.append("A run waits only at a device that an earlier one is not done with.")
@@ -277,7 +281,8 @@ def advice(script: Script, columns: list[Column]) -> str:
             lines.append(f"Under {name} {GIVES[name]}: {against(models[name], base)}.")
     else:
         lines.append(
-            f"Under it {GIVES[best.model]}, and that costs next to nothing here: against ev {against(best, base)}."
+            f"Under it {GIVES[best.model]}, and that costs next to nothing here: against ev "
+            f"{against(best, base)}."
         )
         if best.model == "psv":
             lines.append(f"Under gsv {GIVES['gsv']}: {against(models['gsv'], base)}.")
@@ -290,7 +295,8 @@ def advice(script: Script, columns: list[Column]) -> str:
 
 
 def with_seed(data: bytes, seed: int) -> bytes:
-    """The script with this seed in each of its windows; all else stays as it is. The script is one that is read."""
+    """The script with this seed in each of its windows; all else stays as it is. The script is one
+    that is read."""
     top, parts, at = read_places(data), list[bytes](), 0
     for window in top.value["windows"].value:
         begin, end, words = seed_place(window, seed)

@@ -1,8 +1,9 @@
 """A JSON text with the place of each value in it, or the byte at which it is none, and why.
 
-It takes what `reference.json_text` takes, and reads the same values; `tools/check_explain.py` compares the two. Where a text is
-no JSON, the byte is the first one that does not go on from what stands before it: of a number that is too great, of an escape
-and of a bracket too deep their first byte, of a text that is cut off the one behind its last.
+It takes what `reference.json_text` takes, and reads the same values; `tools/check_explain.py`
+compares the two. Where a text is no JSON, the byte is the first one that does not go on from what
+stands before it: of a number that is too great, of an escape and of a bracket too deep their first
+byte, of a text that is cut off the one behind its last.
 """
 import re
 from dataclasses import dataclass, field
@@ -40,7 +41,8 @@ class Broken(Exception):
 
 @dataclass
 class Node:
-    """A value, from the byte `at` up to the one before `end`. A list holds nodes, an object its members' nodes by name."""
+    """A value, from the byte `at` up to the one before `end`. A list holds nodes, an object its
+    members' nodes by name."""
 
     at: int
     end: int
@@ -60,7 +62,8 @@ class Node:
 
 
 def position(data: bytes, at: int) -> tuple[int, int]:
-    """The line and the column of a byte, from 1. Columns count characters, and bytes that are no UTF-8 each as one."""
+    """The line and the column of a byte, from 1. Columns count characters, and bytes that are no
+    UTF-8 each as one."""
     begin = data.rfind(b"\n", 0, at) + 1
     return data.count(b"\n", 0, at) + 1, len(data[begin:at].decode("utf-8", "surrogateescape")) + 1
 
@@ -96,7 +99,9 @@ class Reader:
         """The reading ends at this place, where something else was to stand."""
         found = self.data[self.at : self.at + 1]
         if found in (b"/", b"#"):
-            advice = "JSON has no comments; those from // to the end of their line lazbendix takes out"
+            advice = (
+                "JSON has no comments; those from // to the end of their line lazbendix takes out"
+            )
         elif found == b"'":
             advice = "texts and names stand in double quotes"
         elif self.data.startswith(b"%%", self.at):

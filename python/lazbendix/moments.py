@@ -12,8 +12,9 @@ def recorded_moment(entry: Entry) -> int | None:
 
 
 def takes_of(script: Script, number: int, told: WindowLines, k: int) -> int:
-    """How long the command took that the entry with the number k answers, by its script, in ms; 0 for any other entry. A command that
-    finds its device counted down calls none; one that is first told so does, and stands behind the failure.
+    """How long the command took that the entry with the number k answers, by its script, in ms; 0
+    for any other entry. A command that finds its device counted down calls none; one that is first
+    told so does, and stands behind the failure.
     """
     entry = told.entries[k]
     if not isinstance(entry, Did) or entry.answer == SKIPPED:
@@ -43,8 +44,8 @@ def recorded_moments(told: WindowLines) -> list[int]:
 
 
 def moments_of(script: Script, number: int, told: WindowLines) -> list[int]:
-    """The moment of each entry, in ms. Where the record is one of a replay, by its clock; else as the record has it, from its first
-    moment on."""
+    """The moment of each entry, in ms. Where the record is one of a replay, by its clock; else as
+    the record has it, from its first moment on."""
     replayed = replayed_moments(script, number, told)
     known = [(recorded_moment(entry), moment) for entry, moment in zip(told.entries, replayed)]
     if all(recorded in (None, moment) for recorded, moment in known):
@@ -55,9 +56,9 @@ def moments_of(script: Script, number: int, told: WindowLines) -> list[int]:
 
 
 class Overlapping:
-    """The times of a window's entries if all runs came at once, and each took only its commands' time and its waits: a run goes on
-    when its own last command and what it waited for are done, and a device makes one call at a time. What is undone takes no
-    time. In ms."""
+    """The times of a window's entries if all runs came at once, and each took only its commands'
+    time and its waits: a run goes on when its own last command and what it waited for are done, and
+    a device makes one call at a time. What is undone takes no time. In ms."""
 
     def __init__(self, script: Script, number: int, told: WindowLines, waits: list[Wait]) -> None:
         self.waited: dict[int, int] = {}  # of each run that waited

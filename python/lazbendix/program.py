@@ -31,7 +31,8 @@ class NoProgram(Exception):
 
 
 class Ended(NamedTuple):
-    """How a call ended: its status, its line on standard error, and what it wrote where that was kept."""
+    """How a call ended: its status, its line on standard error, and what it wrote where that was
+    kept."""
 
     status: int
     line: str
@@ -59,7 +60,8 @@ class StandardSink:
 
 
 def call(words: list[str], data: bytes = b"") -> Ended:
-    """Makes a call that writes to standard output as it goes. Of `watch` the progress goes to standard error itself."""
+    """Makes a call that writes to standard output as it goes. Of `watch` the progress goes to
+    standard error itself."""
     program = found_program()
     if program is None:
         tell_reference()

@@ -1,7 +1,9 @@
-"""The walk through a script that does not stop at its first mistake: each with the program's words for it, its place, and more.
+"""The walk through a script that does not stop at its first mistake: each with the program's words
+for it, its place, and more.
 
-The steps stand in the order of `reference.script`, whose members, types, limits and names they use; so the first mistake is the
-refusal. What would follow from an earlier mistake alone, as the states of a device that has none, is not told again.
+The steps stand in the order of `reference.script`, whose members, types, limits and names they use;
+so the first mistake is the refusal. What would follow from an earlier mistake alone, as the states
+of a device that has none, is not told again.
 """
 import difflib
 import re
@@ -168,7 +170,8 @@ def why_no_time(text: str) -> str:
 
 
 def meant_by(name: str, absent: list[str]) -> list[str]:
-    """The member that is meant by a name, out of those that are not there; in a list, which is empty where none is."""
+    """The member that is meant by a name, out of those that are not there; in a list, which is
+    empty where none is."""
     if name.lower() in NOTES:
         return []
     if MEANT.get(name.lower()) in absent:
@@ -219,7 +222,8 @@ class Walk:
     # Shapes.
 
     def members(self, node: Node, members: tuple[Any, Any], spot: str, path: str) -> Members | None:
-        """The members that have their types, also under a name like theirs; none where there is no object. The rest is told."""
+        """The members that have their types, also under a name like theirs; none where there is no
+        object. The rest is told."""
         if not isinstance(node.value, dict):
             self.expected(f"shape {spot}", node, path, "an object, in braces")
             return None
@@ -442,7 +446,8 @@ class Walk:
                     step,
                     "calls count from 1"
                     if ends[0] == 0
-                    else f"{ends[1]} is not above {ends[0]}: the calls from the first number on, and before the second, fail",
+                    else f"{ends[1]} is not above {ends[0]}: the calls from the first number on, "
+                    "and before the second, fail",
                 )
 
     def value_fits(self, kept: Kept, node: Node, spot: str, path: str, what: str) -> None:
@@ -622,7 +627,8 @@ class Walk:
                 f"bad time {spot}",
                 node,
                 f'{path}, "at"',
-                f"{self.what(node)} is not later than the time of the window before, {time_text(before)}",
+                f"{self.what(node)} is not later than the time of the window before, "
+                f"{time_text(before)}",
             )
         return at
 
@@ -660,7 +666,8 @@ class Walk:
 
 
 def mistakes_of(data: bytes) -> tuple[list[Mistake], Node | None]:
-    """All mistakes of the text, in the order of the walk, and its value with places, or none where it is no JSON text."""
+    """All mistakes of the text, in the order of the walk, and its value with places, or none where
+    it is no JSON text."""
     if len(data) > LIMITS["bytes"]:
         count, limit = LIMITS["bytes"] + 1, LIMITS["bytes"]
         says = f"at most {limit} bytes (docs/LIMITS.md); {len(data)} stand there"

@@ -1,8 +1,8 @@
 """Tells the record of a day in sentences: who waited for whom, who was taken back and why, what was
 undone, what is down.
 
-With its trace (`--trace`) each run is told step by step, with its waits and what was undone to what;
-without, how it ended. Of a wait is told what the history shows: what a grip that is out keeps
+With its trace (`--trace`) each run is told step by step, with its waits and what was undone to
+what; without, how it ended. Of a wait is told what the history shows: what a grip that is out keeps
 waiting it does not. The first lines say what the check of records finds. A record that was cut is
 told as far as it goes.
 """
@@ -158,7 +158,8 @@ class WindowTeller:
                 words = (
                     f"{self.device(d)} was driven back to {value}"
                     if drove
-                    else f"{self.device(d)} was not driven, since it was down; it is to stand at {value}"
+                    else f"{self.device(d)} was not driven, since it was down; it is to stand at "
+                    f"{value}"
                 )
                 self.of_run[run].append((line, entry, words))
             case Fell(d):
@@ -174,7 +175,8 @@ class WindowTeller:
                 self.of_run[entry.run].append((line, entry, ""))
 
     def met(self, k: int, d: int) -> str:
-        """Who was told first that the device had failed: the run whose entry stands behind it, or a probe alone."""
+        """Who was told first that the device had failed: the run whose entry stands behind it, or a
+        probe alone."""
         match self.told.entries[k + 1 : k + 2]:
             case [Did(run, c, answer)] if answer == DOWN and self.commands(run)[c].device == d:
                 return f": run {run} was told so at its command {c + 1}"
@@ -193,7 +195,8 @@ class WindowTeller:
                 return f"{self.device(d)} stopped answering between its first and its last command there"
             case Revoked(lender, d, deadline, moment):
                 return (
-                    f"it had {self.device(d)} on lease from {self.called(lender)} until {deadline} ms, and was not done there "
+                    f"it had {self.device(d)} on lease from {self.called(lender)} until {deadline} "
+                    "ms, and was not done there "
                     f"when that one asked for it at {moment} ms"
                 )
             case DownAtEnd(d):
@@ -224,7 +227,8 @@ class WindowTeller:
             yield Said(f"{head} committed.", lines, 1)
         elif dooms:
             yield Said(
-                f"{head} {'was taken back' if ends else 'was being taken back'}: {self.cause(run, dooms[0])}.",
+                f"{head} {'was taken back' if ends else 'was being taken back'}: "
+                f"{self.cause(run, dooms[0])}.",
                 lines,
                 1,
             )
@@ -268,7 +272,8 @@ class WindowTeller:
             if isinstance(entry, Placed):
                 behind = f", once {self.called(follows)} had ended" if follows else ""
                 words.append(
-                    f"got the {ordinal(entry.place + 1)} place in the line (place {entry.place}) at {entry.moment} ms{behind}"
+                    f"got the {ordinal(entry.place + 1)} place in the line (place {entry.place}) at "
+                    f"{entry.moment} ms{behind}"
                 )
         yield Said(
             f"It {listed(words) if words else 'had not come'}.",
@@ -340,7 +345,8 @@ class WindowTeller:
         )
         if left:
             yield Said(
-                f"Not undone: {listed(left)}, since a run behind it in the line wrote there, and that stands.",
+                f"Not undone: {listed(left)}, since a run behind it in the line wrote there, and "
+                "that stands.",
                 (),
                 2,
             )
@@ -435,7 +441,8 @@ def sentences(script: Script, text: str, choice: Choice = Choice()) -> Iterator[
         yield Said(verdict(script, text, day))
     else:
         yield Said(
-            f"The record was cut behind line {day.lines}: the program ended with another status than 0, which its line on "
+            f"The record was cut behind line {day.lines}: the program ended with another status "
+            "than 0, which its line on "
             "standard error tells."
         )
     for number in shown:
@@ -498,8 +505,8 @@ def summary(
 
 
 def facts_of(script: Script, text: str, choice: Choice = Choice()) -> dict[str, Any]:
-    """The record as JSON has it: of each window its runs with their causes, waits and undos, its order and its home. Raises
-    `Unread`."""
+    """The record as JSON has it: of each window its runs with their causes, waits and undos, its
+    order and its home. Raises `Unread`."""
     day = read_day(script, text)
     windows = [
         window_facts(WindowTeller(script, day, number), choice.runs(script, day, number))

@@ -33,7 +33,8 @@ DAY_EXAMPLES = {
 }
 RECORD_HELP = "its record, a file or -; where none is named, the day is replayed with its trace"
 STATUSES = (
-    "Ends with 0; 1 where the script is refused, 2 for other words, 3 where a file cannot be read, 4 where nothing can be "
+    "Ends with 0; 1 where the script is refused, 2 for other words, 3 where a file cannot be read, "
+    "4 where nothing can be "
     "written, and as docs/FORMATS.md has it for the rest."
 )
 
@@ -165,7 +166,8 @@ class Maker:
             action=Once,
             type=one_of("scheduler", SCHEDULERS),
             metavar=shaped(SCHEDULERS),
-            help="fcfs first come first served (the default), jit just in time, timeline; the last two with ev alone",
+            help="fcfs first come first served (the default), jit just in time, timeline; the last "
+            "two with ev alone",
         )
 
     def played(self, name: str) -> None:
@@ -240,6 +242,14 @@ class Maker:
             ["lazbendix explain day.json", "lazbendix explain --json - < day.json"],
         )
         self.day(made)
+        made.add_argument(
+            "--scheduler",
+            action=Once,
+            type=one_of("scheduler", SCHEDULERS),
+            metavar=shaped(SCHEDULERS),
+            default="fcfs",
+            help="by jit and timeline also what may surprise about leases; fcfs by default",
+        )
         made.add_argument("--json", action="store_true", help="print mistakes and notes as JSON")
         made = self.looked(
             "summary",
@@ -312,7 +322,8 @@ class Maker:
         """The command that compares records, models, schedulers or seeds."""
         made = self.command(
             "compare",
-            "compare what came of a day: two records of it, or its replays under models, schedulers or seeds",
+            "compare what came of a day: two records of it, or its replays under models, schedulers "
+            "or seeds",
             [
                 "lazbendix compare --models day.json",
                 "lazbendix compare --seeds 1-5 --model psv day.json",

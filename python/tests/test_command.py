@@ -1,5 +1,5 @@
-"""The words of the command: help, versions, files, pipes, terminals and refusals. What is wanted comes from docs/FORMATS.md, the
-examples and their stored records."""
+"""The words of the command: help, versions, files, pipes, terminals and refusals. What is wanted
+comes from docs/FORMATS.md, the examples and their stored records."""
 import json
 import os
 import pty
@@ -127,8 +127,8 @@ class Words(unittest.TestCase):
         if shutil.which("bash"):
             made = called("completions", "bash").stdout.decode()
             script = (
-                made
-                + "\nCOMP_WORDS=(lazbendix replay --model p); COMP_CWORD=3; _lazbendix; echo ${COMPREPLY[*]}"
+                made + "\nCOMP_WORDS=(lazbendix replay --model p); COMP_CWORD=3; _lazbendix; echo "
+                "${COMPREPLY[*]}"
             )
             told = subprocess.run(["bash", "-c", script], capture_output=True, text=True).stdout
             self.assertEqual(told, "psv\n")

@@ -1,4 +1,5 @@
-"""Two records of a day side by side, and which model suits a home. What is wanted is counted off the records' own lines."""
+"""Two records of a day side by side, and which model suits a home. What is wanted is counted off
+the records' own lines."""
 import json
 import os
 import sys
@@ -65,7 +66,8 @@ class Models(unittest.TestCase):
         self.assertIn("Under gsv runs go one at a time: its day is 60% longer", facts["why"])
 
     def test_ev_suits_where_runs_meet_at_one_device(self) -> None:
-        """The second run waits at the shared device alone under ev, and for the whole first run under psv."""
+        """The second run waits at the shared device alone under ev, and for the whole first run
+        under psv."""
         data = day(
             [{"routine": "x"}, {"routine": "y"}],
             {"x": [("a", 100), ("b", 900)], "y": [("a", 100), ("c", 900)]},
@@ -126,7 +128,8 @@ class Records(unittest.TestCase):
 
     def test_a_seed_is_put_into_each_window(self) -> None:
         data = (
-            b'{"safehome": 1, "devices": [], "routines": [], "windows": [{"at": "2021-04-26", "runs": []},'
+            b'{"safehome": 1, "devices": [], "routines": [], "windows": [{"at": "2021-04-26", '
+            b'"runs": []},'
             b' { "at": "2021-04-27", "seed": 7, "runs": []}]}'
         )
         seeds = [window.seed for window in read_script(with_seed(data, 12)).windows]
@@ -148,7 +151,8 @@ class Records(unittest.TestCase):
 
 class Moments(unittest.TestCase):
     def test_a_replay_moves_one_clock(self) -> None:
-        """By the script's times: each command takes 100 ms but where it says otherwise, and the record's own moments agree."""
+        """By the script's times: each command takes 100 ms but where it says otherwise, and the
+        record's own moments agree."""
         script = read_script(example_bytes("leaving.json"))
         record = called("replay", "--trace", example("leaving.json")).stdout.decode()
         told = read_day(script, record).windows[0]

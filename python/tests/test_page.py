@@ -1,5 +1,6 @@
-"""The page of a large day in a headless Chromium, where one is installed: packed windows, the day as a whole, the axis by ms, and the
-zoom. LAZBENDIX_LARGE=1 takes 288 windows of 64 runs, and asks how long the page takes."""
+"""The page of a large day in a headless Chromium, where one is installed: packed windows, the day
+as a whole, the axis by ms, and the zoom. LAZBENDIX_LARGE=1 takes 288 windows of 64 runs, and asks
+how long the page takes."""
 import base64
 import json
 import os
@@ -165,7 +166,8 @@ class Page(unittest.TestCase):
         ]
         self.assertTrue(tab.value("page.isDayShown"))
         causes = tab.value(
-            "[...document.querySelectorAll('.cause')].map((it) => [it.querySelector('code').textContent, "
+            "[...document.querySelectorAll('.cause')].map((it) => "
+            "[it.querySelector('code').textContent, "
             "Number(it.querySelector('.count').textContent)])"
         )
         words = [line[4] for line in aborted]
@@ -179,7 +181,8 @@ class Page(unittest.TestCase):
     def check_windows(self, tab: "Tab") -> None:  # type: ignore[name-defined] # noqa: F821
         """Windows change, the filter stays, the axis turns, and the zoom keeps the chosen step."""
         seconds = tab.value(
-            "(async () => { const begin = performance.now(); await page.open(7); return (performance.now() - begin) "
+            "(async () => { const begin = performance.now(); await page.open(7); return "
+            "(performance.now() - begin) "
             "/ 1000; })()"
         )
         self.assertEqual(tab.value("page.window.label"), "7")
@@ -199,7 +202,8 @@ class Page(unittest.TestCase):
             self.assertLess(abs(tab.value(place) - before), 2)
             self.assertEqual(tab.value("page.step"), 40)
         widths = tab.value(
-            "page.layout.columns.every((step, column) => page.layout.stepAt(page.layout.x(step)) === step)"
+            "page.layout.columns.every((step, column) => page.layout.stepAt(page.layout.x(step)) "
+            "=== step)"
         )
         self.assertTrue(widths)
 
