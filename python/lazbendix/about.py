@@ -11,9 +11,11 @@ HERE = os.path.dirname(os.path.abspath(__file__))
 CHROMIUMS = ("chromium", "chromium-browser", "google-chrome")
 DAY = b"""{"safehome": 2,
  "devices": [{"name": "lamp", "states": ["off", "on"], "start": "off", "down": [[2, 3]]}],
- "routines": [{"name": "light", "commands": [{"on": "lamp", "do": "set", "to": "on"}, {"on": "lamp", "do": "load"},
+ "routines": [{"name": "light", "commands": [
+  {"on": "lamp", "do": "set", "to": "on"}, {"on": "lamp", "do": "load"},
   {"on": "lamp", "do": "set", "to": "off", "when": {"is": 1}}]}],
- "windows": [{"at": "2021-04-26T07:00", "probes": 1, "runs": [{"routine": "light"}, {"routine": "light"}]}]}
+ "windows": [{"at": "2021-04-26T07:00", "probes": 1,
+  "runs": [{"routine": "light"}, {"routine": "light"}]}]}
 """
 
 

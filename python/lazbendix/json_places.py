@@ -88,7 +88,8 @@ class Reader:
         if found:
             return f"{found[0].decode()[:40]} stands there"
         letter = self.data[self.at : self.at + 4].decode("utf-8", "ignore")[:1]
-        return f"{letter if letter.isprintable() and letter else f'the byte 0x{self.data[self.at]:02x}'} stands there"
+        byte = f"the byte 0x{self.data[self.at]:02x}"
+        return f"{letter if letter.isprintable() and letter else byte} stands there"
 
     def bracket(self) -> str:
         sign, at = self.open[-1]
@@ -105,7 +106,10 @@ class Reader:
         elif found == b"'":
             advice = "texts and names stand in double quotes"
         elif self.data.startswith(b"%%", self.at):
-            advice = "%% divides a script from its record where it stands alone on its line: end the line before it"
+            advice = (
+                "%% divides a script from its record where it stands alone on its line: end the "
+                "line before it"
+            )
         elif self.data.startswith(b"\xef\xbb\xbf", self.at):
             advice = "a byte order mark: save the file without it"
         elif not self.open and YAML.match(self.data, self.at):
@@ -165,7 +169,10 @@ class Reader:
     def after_number(self, stop: str) -> str:
         before = self.data[max(self.at - 1, 0) : self.at]
         if before.isdigit() and stop in tuple(".eE0123456789"):
-            return "a number has no leading zeros, and digits on both sides of its point and behind its e"
+            return (
+                "a number has no leading zeros, and digits on both sides of its point and behind "
+                "its e"
+            )
         return ""
 
     def told(self, at: int) -> str:
@@ -246,7 +253,8 @@ class Reader:
             if kind not in ESCAPES:
                 raise Broken(
                     begin,
-                    r"an escape that there is not: only \" \\ \/ \b \f \n \r \t and \u with four digits",
+                    r"an escape that there is not: only \" \\ \/ \b \f \n \r \t "
+                    r"and \u with four digits",
                 )
             self.at += 2
             return ESCAPES[kind]

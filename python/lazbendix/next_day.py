@@ -78,7 +78,8 @@ def edits(
         calls = "[]" if stand.up else f"[[1, {silent + 1}]]"
         if down is not None:
             left_out = device.downs and stand.up
-            yield down.at, down.end, calls, f"{device.name}: which of its calls fail then is not known: left out" if left_out else None
+            says = f"{device.name}: which of its calls fail then is not known: left out"
+            yield down.at, down.end, calls, says if left_out else None
         elif not stand.up:
             yield start.end, start.end, f', "down": {calls}', None
         if not stand.up:
@@ -91,9 +92,9 @@ def edits(
     windows = top.value["windows"].value
     if days is None and whole:
         stop = windows[len(whole)].at if len(whole) < len(windows) else windows[-1].end
-        yield windows[
-            0
-        ].at, stop, "", f"the rest of the day has {len(windows) - len(whole)} of {len(windows)} windows"
+        rest = len(windows) - len(whole)
+        says = f"the rest of the day has {rest} of {len(windows)} windows"
+        yield windows[0].at, stop, "", says
     if days is not None:
         for window, node in zip(script.windows, windows):
             at = node.value["at"]

@@ -119,7 +119,7 @@ class WindowPainter:
         return self.left + WIDTH * (place - self.begin + (0.5 if is_shown else 0))
 
     def edge(self, step: int) -> float:
-        """Where what holds from the step on begins, or what holds up to it ends, within the band."""
+        """Where what holds from the step on begins, or up to it ends, within the band."""
         return min(max(self.x(step), self.left), self.right)
 
     def seen(self, stretches: list[Facts]) -> Iterator[tuple[Facts, float, float]]:
@@ -194,7 +194,10 @@ class WindowPainter:
             self.signs.add("lease")
             y = self.device_y(lease["device"]) + 21
             self.bracket(x, to_x, y, "4 2")
-            text = f"{lease['borrower']} has it on lease from {' and '.join(map(str, lease['lenders']))} until {lease['deadline']} ms"
+            text = (
+                f"{lease['borrower']} has it on lease from "
+                f"{' and '.join(map(str, lease['lenders']))} until {lease['deadline']} ms"
+            )
             self.picture.text(x, y + 14, text)
 
     def bracket(self, x: float, to_x: float, y: float, dash: str = "") -> None:
@@ -203,7 +206,7 @@ class WindowPainter:
         self.picture.line(x, y, to_x, y, 1.5, dash)
 
     def paint_waits(self) -> None:
-        """Names the run for which a run waits, where it begins to, and for how long there is room."""
+        """Names the run for which a run waits, where it begins to, as far as there is room."""
         waits = [
             (stretch, x)
             for stretch, x, _ in self.seen(self.history["states"])

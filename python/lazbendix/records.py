@@ -450,7 +450,7 @@ class Retelling:
             self.note(k, run)
 
     def is_placed_next(self, run: int) -> bool:
-        """Whether the next step of the run is sure to place it: but just in time nobody is denied."""
+        """Whether the run's next step is sure to place it: but just in time nobody is denied."""
         history = self.history
         return (
             run not in history.placed

@@ -116,7 +116,8 @@ class Hints:
                         "check that decides nothing",
                         node,
                         path,
-                        "a check that is not must is recorded, and the run goes on whatever it finds",
+                        "a check that is not must is recorded, and the run goes on whatever it "
+                        "finds",
                     )
                 if command.job == "store":
                     self.stored(node, path, command, loaded)
@@ -130,7 +131,8 @@ class Hints:
                         node,
                         path,
                         f"{name} has calls that it does not answer: "
-                        'a run that meets one here is taken back whole; "must": false lets it go on',
+                        'a run that meets one here is taken back whole; "must": false lets it go '
+                        "on",
                     )
                 if command.writes and name not in written:
                     written.append(name)
@@ -143,7 +145,8 @@ class Hints:
                 "store before a load",
                 node,
                 path,
-                f"nothing is loaded before it, so it drives to the value nearest to 0, which is {low}",
+                "nothing is loaded before it, so it drives to the value nearest to 0, which is "
+                f"{low}",
             )
             return
         source = self.script.devices[loaded]
@@ -223,11 +226,13 @@ class Hints:
                     self.tell(
                         "takes more than its estimate",
                         self.node("routines", r, "commands", c, "takes"),
-                        f'routine "{routine.name}", command {c + 1} ({self.names[command.device]}), '
+                        f'routine "{routine.name}", command {c + 1} '
+                        f"({self.names[command.device]}), "
                         '"takes"',
                         f"it takes {command.takes} ms and is estimated at {command.ms}: just in "
                         "time and by the timeline "
-                        "leases end by the estimate, and runs may be revoked that did nothing wrong",
+                        "leases end by the estimate, and runs may be revoked that did nothing "
+                        "wrong",
                     )
         for k, window in enumerate(self.script.windows):
             self.long_command(k, window)
@@ -295,7 +300,8 @@ class Hints:
                         "follows",
                         node.value["runs"].value[r].value["follows"],
                         f'window {k + 1}, run {r + 1}, "follows"',
-                        f"it waits for the end of run {run.follows}, committed or taken back; it is "
+                        f"it waits for the end of run {run.follows}, committed or taken back; it "
+                        "is "
                         "run in both cases",
                     )
 

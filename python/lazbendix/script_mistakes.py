@@ -148,7 +148,10 @@ def why_no_name(text: str) -> str:
         return f"it has {len(text)} characters, and a name at most 32"
     if not re.match("[a-z]", text):
         return "it does not begin with a letter from a to z"
-    return f"{next(sign for sign in text if not re.match('[a-z0-9_-]', sign))!r} is none of a-z, 0-9, _ and -"
+    return (
+        f"{next(sign for sign in text if not re.match('[a-z0-9_-]', sign))!r} is none of a-z, 0-9, "
+        "_ and -"
+    )
 
 
 def why_no_time(text: str) -> str:
@@ -274,11 +277,17 @@ class Walk:
             return f'there is no member "{name[:SHOWN]}"; did you mean "{meant[0]}"?'
         if (name == "when" or MEANT.get(name) == "when") and "do" in types and "when" not in types:
             wanted = "" if name == "when" else ', and are called "when"'
-            return f'there is no member "{name}" in version 1 of the format: guards want "safehome": 2{wanted}'
+            return (
+                f'there is no member "{name}" in version 1 of the format: guards want "safehome": '
+                f"2{wanted}"
+            )
         if name.lower() in NO_GUARDS and set(types) == {"is", "below"}:
             return f'a guard asks with "is" or with "below" alone, and never with "{name[:SHOWN]}"'
         if name.lower() in NOTES:
-            return f'there is no member "{name}": notes, titles and the name of a schema stand outside (docs/HOW-TO-WRITE.md)'
+            return (
+                f'there is no member "{name}": notes, titles and the name of a schema stand '
+                "outside (docs/HOW-TO-WRITE.md)"
+            )
         return f'there is no member "{name[:SHOWN]}"; the members are {", ".join(types)}'
 
     def typed_otherwise(self, wanted: Test, node: Node) -> str:

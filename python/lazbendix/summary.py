@@ -190,9 +190,15 @@ class WindowTeller:
                 return f"its command {c + 1}, {self.command(run, c)}, found the device down"
             case Refuted(c, found):
                 d = self.commands(run)[c].device
-                return f"its command {c + 1}, {self.command(run, c)}, found {self.device(d)} at {self.value(d, found)}"
+                return (
+                    f"its command {c + 1}, {self.command(run, c)}, found {self.device(d)} at "
+                    f"{self.value(d, found)}"
+                )
             case Lost(d):
-                return f"{self.device(d)} stopped answering between its first and its last command there"
+                return (
+                    f"{self.device(d)} stopped answering between its first and its last command "
+                    "there"
+                )
             case Revoked(lender, d, deadline, moment):
                 return (
                     f"it had {self.device(d)} on lease from {self.called(lender)} until {deadline} "
@@ -200,7 +206,10 @@ class WindowTeller:
                     f"when that one asked for it at {moment} ms"
                 )
             case DownAtEnd(d):
-                return f"{self.device(d)}, which it had used, was down at its end, and no run commits so under {self.mode.model}"
+                return (
+                    f"{self.device(d)}, which it had used, was down at its end, and no run commits "
+                    f"so under {self.mode.model}"
+                )
 
     # The runs.
 
@@ -272,7 +281,8 @@ class WindowTeller:
             if isinstance(entry, Placed):
                 behind = f", once {self.called(follows)} had ended" if follows else ""
                 words.append(
-                    f"got the {ordinal(entry.place + 1)} place in the line (place {entry.place}) at "
+                    f"got the {ordinal(entry.place + 1)} place in the line (place {entry.place}) "
+                    "at "
                     f"{entry.moment} ms{behind}"
                 )
         yield Said(
@@ -286,11 +296,20 @@ class WindowTeller:
             case Follow(x):
                 why = f"It waited with its place for the end of {self.called(x)}"
             case Denied(d, x):
-                why = f"It waited with its place for {self.called(x)}, which had {self.device(d)} or was not sure of it"
+                why = (
+                    f"It waited with its place for {self.called(x)}, which had {self.device(d)} or "
+                    "was not sure of it"
+                )
             case Behind(d, x):
-                why = f"It waited at {self.device(d)} for {self.called(x)}, which was before it and not done there"
+                why = (
+                    f"It waited at {self.device(d)} for {self.called(x)}, which was before it and "
+                    "not done there"
+                )
             case Dirty(d, x):
-                why = f"It waited before it read {self.device(d)} for {self.called(x)}, whose write there might be taken back"
+                why = (
+                    f"It waited before it read {self.device(d)} for {self.called(x)}, whose write "
+                    "there might be taken back"
+                )
             case Strict(x):
                 why = f"It waited for the end of {self.called(x)}, as {self.mode.model} asks"
         if wait.until is None:
@@ -379,7 +398,10 @@ class WindowTeller:
         if self.told.order is None:
             return "Order: the weak model claims none."
         if not self.told.order:
-            return "Order: there is nothing in it, since no run committed and no device failed or came back."
+            return (
+                "Order: there is nothing in it, since no run committed and no device failed or "
+                "came back."
+            )
         words = [
             self.called(item.run)
             if isinstance(item, Ran)
@@ -397,7 +419,10 @@ class WindowTeller:
             if commits and commits != runs
             else ""
         )
-        return f"Order: answers and home are as if it had gone so, one after another: {', then '.join(words)}.{also}"
+        return (
+            "Order: answers and home are as if it had gone so, one after another: "
+            f"{', then '.join(words)}.{also}"
+        )
 
     def home(self) -> str:
         changed, same, down = [], [], []
@@ -422,7 +447,10 @@ def verdict(script: Script, text: str, day: Day) -> str:
         return "The check of records does not judge the weak model."
     try:
         check_record(script, text.encode())
-        return "The check of records agrees: answers and homes are those of the orders that are printed."
+        return (
+            "The check of records agrees: answers and homes are those of the orders that are "
+            "printed."
+        )
     except Differs as differs:
         return (
             f"The check of records does not agree: {differs}. What follows is what the record says."
@@ -433,7 +461,10 @@ def sentences(script: Script, text: str, choice: Choice = Choice()) -> Iterator[
     """The summary of a record, sentence by sentence. Raises `Unread`."""
     day = read_day(script, text)
     shown = choice.numbers(script, day)
-    counts = f"{some(len(script.windows), 'window')}, {some(sum(len(window.runs) for window in script.windows), 'run')}"
+    counts = (
+        f"{some(len(script.windows), 'window')}, "
+        f"{some(sum(len(window.runs) for window in script.windows), 'run')}"
+    )
     yield Said(
         f"A day under {MODELS[day.mode.model]}, {SCHEDULERS[day.mode.scheduler]}: {counts}.", (1, 2)
     )
@@ -456,7 +487,10 @@ def total_told(script: Script, day: Day) -> Said:
     ends = [cause for window in day.windows for cause in window.ends.values()]
     stands = stands_before(script, day, len(day.windows))
     down = [device.name for device, stand in zip(script.devices, stands) if not stand.up]
-    counts = f"{some(len(day.windows), 'window')}, {some(len(ends), 'run')}, {ends.count(None)} committed, "
+    counts = (
+        f"{some(len(day.windows), 'window')}, {some(len(ends), 'run')}, {ends.count(None)} "
+        "committed, "
+    )
     counts += f"{len(ends) - ends.count(None)} taken back."
     return Said(
         f"In all: {counts}" + (f" Down at the end: {listed(down)}." if down else ""),

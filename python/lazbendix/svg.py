@@ -6,9 +6,10 @@ MARGIN = 14
 LETTER = 6.3  # width of a letter of 11 px, about
 HALF_TAG = 10  # half the height of a box or a tag
 STYLE = (
-    "text{font:11px 'DejaVu "
-    "Sans',Verdana,sans-serif;paint-order:stroke;stroke:#fff;stroke-width:3px;stroke-linejoin:round}"
-    ".middle{text-anchor:middle}.on-black{fill:#fff;stroke:none}.grey{fill:#444}.bold{font-weight:bold}.large{font-size:14px}"
+    "text{font:11px 'DejaVu Sans',Verdana,sans-serif;paint-order:stroke;stroke:#fff;"
+    "stroke-width:3px;stroke-linejoin:round}"
+    ".middle{text-anchor:middle}.on-black{fill:#fff;stroke:none}.grey{fill:#444}"
+    ".bold{font-weight:bold}.large{font-size:14px}"
 )
 
 

@@ -239,7 +239,7 @@ class HistoryTeller:
         return [self.entries[-1]["device"]]
 
     def tell_stands(self, step: int, devices: Iterable[int]) -> None:
-        """Tells where the devices should stand behind the entry of this step, and which are down."""
+        """Tells where the devices should stand behind the step, and which are down."""
         for device in devices:
             self.downs.tell(device, step, not self.history.up[device] or None)
             self.values.tell(device, step, self.stand(device))

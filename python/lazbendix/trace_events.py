@@ -167,7 +167,7 @@ class WindowTracer:
                 since = None
 
     def wait(self, wait: Wait) -> None:
-        """The wait up to the entry that ended it, and an arrow from there to what the run did next."""
+        """The wait up to the entry that ended it, and an arrow to what the run did next."""
         until = len(self.entries) if wait.until is None else wait.until
         begin, end = self.at(wait.since + 1), self.at(
             until + 1 if wait.until is not None else until

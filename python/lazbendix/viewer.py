@@ -203,7 +203,10 @@ def data_block(name: str, data: Facts) -> str:
 def packed_block(name: str, data: Facts) -> str:
     """A block of packed data, which the page unpacks when it is looked at."""
     packed = zlib.compress(json.dumps(data, separators=(",", ":")).encode(), 6)
-    return f'<script type="application/zlib" id="{name}">{base64.b64encode(packed).decode()}</script>\n'
+    return (
+        '<script type="application/zlib" '
+        f'id="{name}">{base64.b64encode(packed).decode()}</script>\n'
+    )
 
 
 def with_columns(window: Facts) -> Facts:

@@ -32,6 +32,7 @@ DAY_EXAMPLES = {
     "rooms": ["lazbendix rooms day.json"],
 }
 RECORD_HELP = "its record, a file or -; where none is named, the day is replayed with its trace"
+ABOUT = "Plays days of a smart home through a proved hub, and shows what came of them."
 STATUSES = (
     "Ends with 0; 1 where the script is refused, 2 for other words, 3 where a file cannot be read, "
     "4 where nothing can be "
@@ -122,7 +123,7 @@ class Maker:
         self.acts = acts
         self.top = Reader(
             prog="lazbendix",
-            description="Plays days of a smart home through a proved hub, and shows what came of them.",
+            description=ABOUT,
             epilog="lazbendix COMMAND --help has examples. " + STATUSES,
         )
         self.top.add_argument("--version", action="store_true", help="print the version")
@@ -172,7 +173,10 @@ class Maker:
 
     def played(self, name: str) -> None:
         """A command that plays a day through the program."""
-        more = "A comment from // to the end of its line, and $schema, are taken out before the program reads the script."
+        more = (
+            "A comment from // to the end of its line, and $schema, are taken out before the "
+            "program reads the script."
+        )
         made = self.command(name, DAY_ABOUT[name], DAY_EXAMPLES[name], more)
         self.day(made)
         self.mode(made)
@@ -237,7 +241,8 @@ class Maker:
         self.judged()
         made = self.command(
             "explain",
-            "report every mistake of a script, with line, column and the nearest name, and what may "
+            "report every mistake of a script, with line, column and the nearest name, and what "
+            "may "
             "surprise",
             ["lazbendix explain day.json", "lazbendix explain --json - < day.json"],
         )
@@ -322,7 +327,8 @@ class Maker:
         """The command that compares records, models, schedulers or seeds."""
         made = self.command(
             "compare",
-            "compare what came of a day: two records of it, or its replays under models, schedulers "
+            "compare what came of a day: two records of it, or its replays under models, "
+            "schedulers "
             "or seeds",
             [
                 "lazbendix compare --models day.json",

@@ -11,8 +11,8 @@ sys.path.insert(0, os.path.dirname(os.path.abspath(__file__)))
 
 from places import called, errors, example, example_bytes
 
-from lazbendix.compare import advice, column_of, suited, with_seed
-from lazbendix.moments import Overlapping, moments_of
+from lazbendix.compare import column_of, with_seed
+from lazbendix.moments import moments_of
 from lazbendix.records import read_day
 from lazbendix.reference.script import read_script
 
