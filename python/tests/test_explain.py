@@ -18,16 +18,30 @@ from lazbendix.explain import explained, explanation
 from lazbendix.plain import plain_check, plain_script, yaml_script
 from lazbendix.reference.json_text import read_json
 
-SCRIPT = """{ "safehome": 1, "devices": [ {"name": "hall_lamp", "states": ["off", "on"], "start":
-         "off"}, {"name": "heat", "low": 10, "high": 30, "start": 18}, {"name": "door", "states":
-         ["open", "shut"], "start": "shut"} ], "routines": [ {"name": "wake", "commands": [ {"on":
-         "hall_lamp", "do": "set", "to": "on"}, {"on": "heat", "do": "set", "to": 21, "must": false}
-         ]}, {"name": "leave", "commands": [{"on": "hall_lamp", "do": "set", "to": "off"}]},
-         {"name": "arrive", "commands": [ {"on": "heat", "do": "load"}, {"on": "hall_lamp", "do":
-         "set", "to": "on"} ]} ], "windows": [ {"at": "2021-04-26T07:00:00", "turns": [1], "runs":
-         [{"routine": "wake"}, {"routine": "leave"}]}, {"at": "2021-04-26T18:00:00", "turns": [1],
-         "probes": 1, "runs": [{"routine": "arrive"}, {"routine": "wake", "follows": 1}]} ] }
-         """
+SCRIPT = """{
+  "safehome": 1,
+  "devices": [
+    {"name": "hall_lamp", "states": ["off", "on"], "start": "off"},
+    {"name": "heat", "low": 10, "high": 30, "start": 18},
+    {"name": "door", "states": ["open", "shut"], "start": "shut"}
+  ],
+  "routines": [
+    {"name": "wake", "commands": [
+      {"on": "hall_lamp", "do": "set", "to": "on"},
+      {"on": "heat", "do": "set", "to": 21, "must": false}
+    ]},
+    {"name": "leave", "commands": [{"on": "hall_lamp", "do": "set", "to": "off"}]},
+    {"name": "arrive", "commands": [
+      {"on": "heat", "do": "load"},
+      {"on": "hall_lamp", "do": "set", "to": "on"}
+    ]}
+  ],
+  "windows": [
+    {"at": "2021-04-26T07:00:00", "turns": [1], "runs": [{"routine": "wake"}, {"routine": "leave"}]},
+    {"at": "2021-04-26T18:00:00", "turns": [1], "probes": 1, "runs": [{"routine": "arrive"}, {"routine": "wake", "follows": 1}]}
+  ]
+}
+"""  # noqa: E501
 VERSION_2 = '"safehome": 1', '"safehome": 2'
 LOAD = '{"on": "hall_lamp", "do": "set", "to": "on"}\n    ]}\n  ],'
 GUARDED = '{"on": "hall_lamp", "do": "set", "to": "on", "when": {"below": 5}}\n    ]}\n  ],'
