@@ -13,7 +13,7 @@ from collections.abc import Callable
 
 from lazbendix import about, compare, shells
 from lazbendix.choice import Choice
-from lazbendix.explain import explanation, told_as_json
+from lazbendix.explain import MOST_LETTERS, explanation, told_as_json
 from lazbendix.given import Given, Text, Unplayed, read_bytes, read_given, read_text
 from lazbendix.next_day import NoNext, next_day
 from lazbendix.picture import picture_of
@@ -113,16 +113,38 @@ def check_input(asked: argparse.Namespace) -> tuple[bytes, Text]:
     return joined(text.written, read_bytes(asked.record, "a record")), text
 
 
+def record_line(record: bytes, window: int, place: str) -> tuple[int, str] | None:
+    """The line of a record at which a check finds something: its number, from 1, and its text."""
+    lines = record.decode("utf-8", "replace").split("\n")
+    words = place.split(" ")
+    begin = f"window {window} "
+    if words[0] == "answer":
+        words = ["run", words[1].partition(".")[0]]
+    head = {"window": begin, "run": f"run {words[-1]} ", "order": "order ", "total": "total "}
+    wanted = head.get(words[0], "home ")
+    is_there = words[0] == "total"
+    for number, line in enumerate(lines, 1):
+        is_there = is_there or line.startswith(begin)
+        if is_there and line.startswith(wanted):
+            return number, line
+    return None
+
+
 def check(asked: argparse.Namespace) -> int:
     if asked.day == "-" and asked.record == "-":
         raise OtherWords(
             "lazbendix check", "script and record cannot both come from standard input"
         )
     data, text = check_input(asked)
-    if not asked.json:
-        return finished(call(["check"], data), text)
-    ended = kept_call(["check"], data)
+    ended = kept_call(["check"], data) if asked.json else call(["check"], data)
     place = re.fullmatch(r"check: window (\d+) (.*)", ended.line)
+    if not asked.json:
+        status = finished(ended, text)
+        found = place and record_line(divided(data)[1], int(place[1]), place[2])
+        if found:
+            name = asked.record if asked.record not in (None, "-") else "record"
+            complain(f"{name}:{found[0]}: {found[1][:MOST_LETTERS]}")
+        return status
     verdict: dict[str, object] = {"agrees": ended.status == 0, "status": ended.status}
     if place:
         verdict |= {"window": int(place[1]), "place": place[2]}

@@ -20,6 +20,7 @@ NAME = "hub_main"
 PLACES = (
     os.path.join(HERE, NAME),
     os.path.join(HERE, "bin", NAME),
+    os.path.join(HERE, "..", "..", "bin", NAME),
     os.path.join(HERE, "..", "..", "crates", NAME, "out", NAME),
 )
 NO_PROGRAM = 127  # the status where the variable names no program, as a shell has it

@@ -199,6 +199,7 @@ class Played(unittest.TestCase):
         altered = called("check", LIGHT, "-", data=RECORD.replace(b"lamp=on", b"lamp=off"))
         self.assertEqual((altered.returncode, altered.stdout), (7, b""))
         self.assertEqual(errors(altered).split("\n")[0], "check: window 1 device lamp")
+        self.assertIn("record:6: home lamp=off\n", errors(altered))
         told = called("check", "--json", LIGHT, "-", data=RECORD.replace(b"lamp=on", b"lamp=off"))
         wanted = {
             "agrees": False,
