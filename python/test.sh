@@ -6,7 +6,9 @@ if command -v mypy >/dev/null; then mypy || exit; else echo "mypy is not there: 
 if command -v ruff >/dev/null; then
     ruff check . || exit
 elif command -v flake8 >/dev/null; then
-    flake8 --max-line-length 100 --extend-ignore E203,W503,W504,E704 --exclude lazbendix/reference . || exit
+    flake8 --max-line-length 100 --extend-ignore E203,W503,W504,E704 --exclude lazbendix/reference \
+        --per-file-ignores 'tests/*:E402 lazbendix/__init__.py:E501 lazbendix/_calls.py:E501 lazbendix/hubs.py:E501,F401 lazbendix/told.py:E501' \
+        . || exit
 else
     echo "ruff is not there: the style was not looked at"
 fi

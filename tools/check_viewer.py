@@ -240,7 +240,7 @@ def check_foreign(script: Facts, read: Script, plain: str, counts: Counts) -> No
     turned = " ".join(["order", *reversed(order.split(" ")[1:])])
     if turned != order:
         told = Blocks(page_of(read, plain.replace(order, turned, 1), "turned")).blocks
-        need(all(told[name]["history"] is None for name in told if name != "day" and script["windows"][0]["runs"]), plain)
+        need(all(told[name]["history"] is None for name in told if name.startswith("window-") and script["windows"][0]["runs"]), plain)
         counts["records that are no replay, told without a history"] += 1
 
 

@@ -11,9 +11,11 @@ HERE = os.path.dirname(os.path.abspath(__file__))
 CHROMIUMS = ("chromium", "chromium-browser", "google-chrome")
 DAY = b"""{"safehome": 2,
  "devices": [{"name": "lamp", "states": ["off", "on"], "start": "off", "down": [[2, 3]]}],
- "routines": [{"name": "light", "commands": [{"on": "lamp", "do": "set", "to": "on"}, {"on": "lamp", "do": "load"},
+ "routines": [{"name": "light", "commands": [
+  {"on": "lamp", "do": "set", "to": "on"}, {"on": "lamp", "do": "load"},
   {"on": "lamp", "do": "set", "to": "off", "when": {"is": 1}}]}],
- "windows": [{"at": "2021-04-26T07:00", "probes": 1, "runs": [{"routine": "light"}, {"routine": "light"}]}]}
+ "windows": [{"at": "2021-04-26T07:00", "probes": 1,
+  "runs": [{"routine": "light"}, {"routine": "light"}]}]}
 """
 
 
@@ -33,14 +35,16 @@ def library_place() -> str | None:
 
 
 def findings() -> list[tuple[str, bool | None, str]]:
-    """What is looked for: its name, whether it is as it should be (none where nothing hangs on it), and words."""
+    """What is looked for: its name, whether it is as it should be (none where nothing hangs on it),
+    and words."""
     told: list[tuple[str, bool | None, str]] = [("lazbendix", True, version())]
     told.append(("Python", True, f"{platform.python_version()} on {platform.machine()}"))
     try:
         program = found_program()
         words = (
             program
-            or "none: the reference plays; LAZBENDIX_PROGRAM may name one, or hub_main be on the path"
+            or "none: the reference plays; LAZBENDIX_PROGRAM may name one, or hub_main be on the "
+            "path"
         )
         told.append(("proved program", True if program else None, words))
         told += plays_as_the_reference() if program else []

@@ -1,7 +1,7 @@
 """The command `lazbendix`: it stands in front of the proved program, and has the tools for people.
 
-What plays and judges is the program, with its own words, statuses and bytes; this reads files, takes comments out, explains
-what is refused, and shows what came of a day.
+What plays and judges is the program, with its own words, statuses and bytes; this reads files,
+takes comments out, explains what is refused, and shows what came of a day.
 """
 import argparse
 import gc
@@ -11,9 +11,9 @@ import re
 import sys
 from collections.abc import Callable
 
-from lazbendix import about, shells
+from lazbendix import about, compare, shells
 from lazbendix.choice import Choice
-from lazbendix.explain import explanation, told_as_json
+from lazbendix.explain import MOST_LETTERS, explanation, told_as_json
 from lazbendix.given import Given, Text, Unplayed, read_bytes, read_given, read_text
 from lazbendix.next_day import NoNext, next_day
 from lazbendix.picture import picture_of
@@ -30,7 +30,7 @@ from lazbendix.program import (
 )
 from lazbendix.records import Unread
 from lazbendix.reference.calls import divided
-from lazbendix.reference.script import Refusal
+from lazbendix.reference.script import Refusal, read_script
 from lazbendix.reference.words import read_words
 from lazbendix.script_mistakes import near
 from lazbendix.summary import facts_of, summary
@@ -40,11 +40,16 @@ from lazbendix.viewer import page_of
 from lazbendix.words import Maker, OtherWords, Reader, is_file, why_no_mode
 
 HELPS = {
-    7: 'the record is not what its script gives in the order that it prints: docs/FORMATS.md, "The check of a record"',
+    7: 'the record is not what its script gives in the order that it prints: docs/FORMATS.md, "The '
+    'check of a record"',
     9: "home.journal could not be opened, read, written or synced: nothing that is kept is lost",
     10: 'home.journal is of another home, or was changed: docs/FORMATS.md, "The journal"',
-    11: "a run has commands in two rooms, or follows a run of another one: lazbendix run plays the day as it is",
+    11: "a run has commands in two rooms, or follows a run of another one: lazbendix run plays the "
+    "day as it is",
 }
+
+
+MOST_SEEDS = 12  # that stand beside each other
 
 
 def complain(*lines: str) -> None:
@@ -108,16 +113,38 @@ def check_input(asked: argparse.Namespace) -> tuple[bytes, Text]:
     return joined(text.written, read_bytes(asked.record, "a record")), text
 
 
+def record_line(record: bytes, window: int, place: str) -> tuple[int, str] | None:
+    """The line of a record at which a check finds something: its number, from 1, and its text."""
+    lines = record.decode("utf-8", "replace").split("\n")
+    words = place.split(" ")
+    begin = f"window {window} "
+    if words[0] == "answer":
+        words = ["run", words[1].partition(".")[0]]
+    head = {"window": begin, "run": f"run {words[-1]} ", "order": "order ", "total": "total "}
+    wanted = head.get(words[0], "home ")
+    is_there = words[0] == "total"
+    for number, line in enumerate(lines, 1):
+        is_there = is_there or line.startswith(begin)
+        if is_there and line.startswith(wanted):
+            return number, line
+    return None
+
+
 def check(asked: argparse.Namespace) -> int:
     if asked.day == "-" and asked.record == "-":
         raise OtherWords(
             "lazbendix check", "script and record cannot both come from standard input"
         )
     data, text = check_input(asked)
-    if not asked.json:
-        return finished(call(["check"], data), text)
-    ended = kept_call(["check"], data)
+    ended = kept_call(["check"], data) if asked.json else call(["check"], data)
     place = re.fullmatch(r"check: window (\d+) (.*)", ended.line)
+    if not asked.json:
+        status = finished(ended, text)
+        found = place and record_line(divided(data)[1], int(place[1]), place[2])
+        if found:
+            name = asked.record if asked.record not in (None, "-") else "record"
+            complain(f"{name}:{found[0]}: {found[1][:MOST_LETTERS]}")
+        return status
     verdict: dict[str, object] = {"agrees": ended.status == 0, "status": ended.status}
     if place:
         verdict |= {"window": int(place[1]), "place": place[2]}
@@ -142,10 +169,13 @@ def trial(asked: argparse.Namespace) -> int:
 def explain(asked: argparse.Namespace) -> int:
     text = read_text(asked.day, asked.yaml)
     if asked.json:
-        facts = told_as_json(text.name, text.plain)
+        facts = told_as_json(text.name, text.plain, asked.scheduler)
         print(json.dumps(facts, indent=2))
         return 0 if facts["read"] else 1
-    told, is_read = explanation(text.name, text.plain, text.written, colours_of(sys.stdout))
+    colours = colours_of(sys.stdout)
+    told, is_read = explanation(
+        text.name, text.plain, text.written, colours, scheduler=asked.scheduler
+    )
     sys.stdout.write(told)
     return 0 if is_read else 1
 
@@ -222,6 +252,59 @@ def show_trace(asked: argparse.Namespace) -> int:
     )
 
 
+def records_of(asked: argparse.Namespace, text: Text) -> list[tuple[str, str]]:
+    """The records that are compared, each with its name. Raises `Unplayed`."""
+    if asked.records:
+        names = [os.path.basename(name) for name in asked.records]
+        names = names if len(set(names)) == len(names) else asked.records
+        told = [read_bytes(name, "a record").decode("utf-8", "replace") for name in asked.records]
+        return list(zip(names, told))
+    mode = mode_words(asked)
+    if asked.models:
+        calls = [(f"{model} fcfs", ["--model", model], text.plain) for model in compare.MODELS]
+    elif asked.schedulers:
+        calls = [(f"ev {it}", ["--scheduler", it], text.plain) for it in compare.SCHEDULERS]
+    else:
+        first, last = asked.seeds
+        seeds = range(first, last + 1)
+        calls = [(f"seed {seed}", mode, compare.with_seed(text.plain, seed)) for seed in seeds]
+    return [(name, replayed(words, data)) for name, words, data in calls]
+
+
+def replayed(mode: list[str], data: bytes) -> str:
+    """The record of a replay. Raises `Unplayed`."""
+    ended = kept_call(["replay", "--trace", *mode], data)
+    if ended.status:
+        raise Unplayed(ended)
+    return ended.output.decode()
+
+
+def compare_records(asked: argparse.Namespace) -> int:
+    kinds = [bool(asked.records), asked.models, asked.schedulers, asked.seeds is not None]
+    if sum(kinds) != 1 or len(asked.records) == 1:
+        wanted = "two records or more, or one of --models, --schedulers and --seeds, are compared"
+        raise OtherWords("lazbendix compare", wanted)
+    if (asked.model or asked.scheduler) and asked.seeds is None:
+        raise OtherWords("lazbendix compare", "a model and a scheduler go with --seeds alone")
+    if asked.seeds and asked.seeds[1] >= min(2**64, asked.seeds[0] + MOST_SEEDS):
+        raise OtherWords("lazbendix compare", f"at most {MOST_SEEDS} seeds below 2^64 are compared")
+    text = read_text(asked.day, asked.yaml)
+    try:
+        script = read_script(text.plain)
+        columns = [compare.column_of(script, told, name) for name, told in records_of(asked, text)]
+    except Refusal as refusal:
+        complain(f"script: {refusal}")
+        explain_refusal(text)
+        return 1
+    except Unplayed as why:
+        return finished(why.ended, text)
+    if asked.json:
+        print(json.dumps(compare.facts_of(script, columns, asked.models), indent=1))
+    else:
+        sys.stdout.write(compare.comparison(script, columns, asked.models))
+    return 0
+
+
 def make_next(asked: argparse.Namespace) -> int:
     def show(given: Given) -> str:
         made, told = next_day(given.data, given.record, asked.days, asked.silent, asked.rest)
@@ -281,6 +364,7 @@ ACTS: dict[str, Callable[[argparse.Namespace], int]] = {
     "view": show_page,
     "picture": show_picture,
     "trace": show_trace,
+    "compare": compare_records,
     "next": make_next,
     "doctor": doctor,
     "version": version,
@@ -339,7 +423,8 @@ def acted(argv: list[str]) -> int:
 
 
 def main(argv: list[str]) -> int:
-    """Does what the words ask for, and answers the status. Where the reader of a pipe has gone, nothing is said."""
+    """Does what the words ask for, and answers the status. Where the reader of a pipe has gone,
+    nothing is said."""
     try:
         status = acted(argv)
         sys.stdout.flush()

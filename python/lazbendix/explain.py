@@ -34,8 +34,8 @@ def refusal_of(data: bytes) -> tuple[Script | None, str | None]:
 
 
 def explained(data: bytes, scheduler: str = "fcfs") -> tuple[list[Mistake], list[Hint]]:
-    """The mistakes and the hints of a script; the first mistake is the refusal. Hints on leases are for the schedulers that
-    make some."""
+    """The mistakes and the hints of a script; the first mistake is the refusal. Hints on leases are
+    for the schedulers that make some."""
     script, refusal = refusal_of(data)
     mistakes, top = mistakes_of(data)
     first = mistakes[0].refusal if mistakes else None
@@ -49,7 +49,8 @@ def explained(data: bytes, scheduler: str = "fcfs") -> tuple[list[Mistake], list
 
 
 def shown(data: bytes, at: int, end: int) -> tuple[str, str, str]:
-    """The line of a place, or a part of it: what stands before it there, what is marked, and what stands behind."""
+    """The line of a place, or a part of it: what stands before it there, what is marked, and what
+    stands behind."""
     begin = data.rfind(b"\n", 0, at) + 1
     stop = (data + b"\n").index(b"\n", at)
     end = min(end, stop)
@@ -76,7 +77,8 @@ def places_told(data: bytes, hint: Hint) -> str:
 
 
 class Teller:
-    """Tells mistakes and hints of a script, by what is written; places are bytes of what is read, as long."""
+    """Tells mistakes and hints of a script, by what is written; places are bytes of what is read,
+    as long."""
 
     def __init__(self, name: str, written: bytes, colours: Colours) -> None:
         self.name, self.written, self.colours = name, written, colours
@@ -106,8 +108,8 @@ def explanation(
     notes: bool = True,
     scheduler: str = "fcfs",
 ) -> tuple[str, bool]:
-    """The text that tells all mistakes and hints, and whether the script is read. The lines are shown as they were written,
-    where that has as many bytes."""
+    """The text that tells all mistakes and hints, and whether the script is read. The lines are
+    shown as they were written, where that has as many bytes."""
     mistakes, hints = explained(data, scheduler)
     hints = hints if notes else []
     as_long = written is not None and len(written) == len(data)
@@ -118,7 +120,8 @@ def explanation(
         parts.append(f"{name}: the script is read{told}\n")
     elif mistakes[1:]:
         parts.append(
-            f"{name}: {len(mistakes)} mistakes; the program refuses it for the first: script: {mistakes[0].refusal}\n"
+            f"{name}: {len(mistakes)} mistakes; the program refuses it for the first: script: "
+            f"{mistakes[0].refusal}\n"
         )
     else:
         parts.append(f"{name}: refused: script: {mistakes[0].refusal}\n")

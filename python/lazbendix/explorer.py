@@ -1,5 +1,6 @@
-"""What the page tells of the whole day: every run with its end and how long it waited, the longest waits, and each device through
-the day. All of it is gathered window by window, from what the page is told of each."""
+"""What the page tells of the whole day: every run with its end and how long it waited, the longest
+waits, and each device through the day. All of it is gathered window by window, from what the page
+is told of each."""
 import heapq
 import itertools
 from typing import Any

@@ -1,5 +1,5 @@
-"""What the tools for people are given: a script, and its record, by the names of their files; where no record is named, the
-day is played."""
+"""What the tools for people are given: a script, and its record, by the names of their files; where
+no record is named, the day is played."""
 import os
 import sys
 from typing import NamedTuple
@@ -55,7 +55,8 @@ def read_text(name: str, is_yaml: bool = False) -> Text:
 
 
 def read_given(text: Text, record: str | None, mode: list[str]) -> Given:
-    """A script with its record, or with the record of its replay in a mode. Raises `OSError`, `Refusal` and `Unplayed`."""
+    """A script with its record, or with the record of its replay in a mode. Raises `OSError`,
+    `Refusal` and `Unplayed`."""
     script = read_script(text.plain)
     if record is None:
         ended = kept_call(["replay", "--trace", *mode], text.plain)

@@ -1,4 +1,5 @@
-"""Who has a device, and who has it on lease, behind an entry of a window's history, as far as the history tells it."""
+"""Who has a device, and who has it on lease, behind an entry of a window's history, as far as the
+history tells it."""
 from typing import NamedTuple
 
 from lazbendix.records import QuickHub
@@ -6,7 +7,8 @@ from lazbendix.reference.hub import Hub
 
 
 class Lease(NamedTuple):
-    """A run, the borrower, stands before runs that were placed before it, and is to use the device before they do."""
+    """A run, the borrower, stands before runs that were placed before it, and is to use the device
+    before they do."""
 
     device: int
     borrower: int
@@ -23,7 +25,8 @@ def holders(hub: Hub, quick: QuickHub, device: int) -> list[int]:
 
 
 def leases_on(hub: Hub, quick: QuickHub, device: int) -> list[Lease]:
-    """The leases of the device that may be revoked. The weak model knows none, and first come first served makes none."""
+    """The leases of the device that may be revoked. The weak model knows none, and first come first
+    served makes none."""
     history = hub.history
     if hub.is_weak or history.mode.scheduler == "fcfs":
         return []

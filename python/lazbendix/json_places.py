@@ -1,8 +1,9 @@
 """A JSON text with the place of each value in it, or the byte at which it is none, and why.
 
-It takes what `reference.json_text` takes, and reads the same values; `tools/check_explain.py` compares the two. Where a text is
-no JSON, the byte is the first one that does not go on from what stands before it: of a number that is too great, of an escape
-and of a bracket too deep their first byte, of a text that is cut off the one behind its last.
+It takes what `reference.json_text` takes, and reads the same values; `tools/check_explain.py`
+compares the two. Where a text is no JSON, the byte is the first one that does not go on from what
+stands before it: of a number that is too great, of an escape and of a bracket too deep their first
+byte, of a text that is cut off the one behind its last.
 """
 import re
 from dataclasses import dataclass, field
@@ -15,6 +16,7 @@ NUMBER = re.compile(rb"-?(?:0|[1-9][0-9]*)(\.[0-9]+)?([eE][+-]?[0-9]+)?")
 STOP = re.compile(rb'["\\\x00-\x1f]')  # in a text: what is no plain letter
 UNIT = re.compile(rb"\\u([0-9a-fA-F]{4})")
 TOKEN = re.compile(rb"[A-Za-z_$][\w$-]*|[^\s\x80-\xff]")
+YAML = re.compile(rb"---|[A-Za-z_][\w-]*:\s|- ")
 ESCAPES = {
     b'"': '"',
     b"\\": "\\",
@@ -39,7 +41,8 @@ class Broken(Exception):
 
 @dataclass
 class Node:
-    """A value, from the byte `at` up to the one before `end`. A list holds nodes, an object its members' nodes by name."""
+    """A value, from the byte `at` up to the one before `end`. A list holds nodes, an object its
+    members' nodes by name."""
 
     at: int
     end: int
@@ -59,7 +62,8 @@ class Node:
 
 
 def position(data: bytes, at: int) -> tuple[int, int]:
-    """The line and the column of a byte, from 1. Columns count characters, and bytes that are no UTF-8 each as one."""
+    """The line and the column of a byte, from 1. Columns count characters, and bytes that are no
+    UTF-8 each as one."""
     begin = data.rfind(b"\n", 0, at) + 1
     return data.count(b"\n", 0, at) + 1, len(data[begin:at].decode("utf-8", "surrogateescape")) + 1
 
@@ -84,7 +88,8 @@ class Reader:
         if found:
             return f"{found[0].decode()[:40]} stands there"
         letter = self.data[self.at : self.at + 4].decode("utf-8", "ignore")[:1]
-        return f"{letter if letter.isprintable() and letter else f'the byte 0x{self.data[self.at]:02x}'} stands there"
+        byte = f"the byte 0x{self.data[self.at]:02x}"
+        return f"{letter if letter.isprintable() and letter else byte} stands there"
 
     def bracket(self) -> str:
         sign, at = self.open[-1]
@@ -95,13 +100,20 @@ class Reader:
         """The reading ends at this place, where something else was to stand."""
         found = self.data[self.at : self.at + 1]
         if found in (b"/", b"#"):
-            advice = "JSON has no comments"
+            advice = (
+                "JSON has no comments; those from // to the end of their line lazbendix takes out"
+            )
         elif found == b"'":
             advice = "texts and names stand in double quotes"
         elif self.data.startswith(b"%%", self.at):
-            advice = "%% divides a script from its record where it stands alone on its line: end the line before it"
+            advice = (
+                "%% divides a script from its record where it stands alone on its line: end the "
+                "line before it"
+            )
         elif self.data.startswith(b"\xef\xbb\xbf", self.at):
             advice = "a byte order mark: save the file without it"
+        elif not self.open and YAML.match(self.data, self.at):
+            advice = "YAML, as it seems: lazbendix reads it with --yaml"
         return Broken(
             self.at, f"expected {what}; {self.stands()}" + (f" ({advice})" if advice else "")
         )
@@ -157,7 +169,10 @@ class Reader:
     def after_number(self, stop: str) -> str:
         before = self.data[max(self.at - 1, 0) : self.at]
         if before.isdigit() and stop in tuple(".eE0123456789"):
-            return "a number has no leading zeros, and digits on both sides of its point and behind its e"
+            return (
+                "a number has no leading zeros, and digits on both sides of its point and behind "
+                "its e"
+            )
         return ""
 
     def told(self, at: int) -> str:
@@ -238,7 +253,8 @@ class Reader:
             if kind not in ESCAPES:
                 raise Broken(
                     begin,
-                    r"an escape that there is not: only \" \\ \/ \b \f \n \r \t and \u with four digits",
+                    r"an escape that there is not: only \" \\ \/ \b \f \n \r \t "
+                    r"and \u with four digits",
                 )
             self.at += 2
             return ESCAPES[kind]

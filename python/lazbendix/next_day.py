@@ -1,8 +1,8 @@
 """Makes the script of the next day: the devices start where a record left them.
 
 The record is a whole one of the script, or, for the rest of a day, one that was cut; the check of
-records is to accept it, as far as it goes (under the weak model it cannot be asked). The script stays
-as it is, byte for byte, but for
+records is to accept it, as far as it goes (under the weak model it cannot be asked). The script
+stays as it is, byte for byte, but for
 
 - each `start`, which is the value of the record's last home line;
 - each window's `at`, which is so many days later: as many as are asked for, or as the windows span;
@@ -10,14 +10,14 @@ as it is, byte for byte, but for
   list is emptied.
 
 A device that was left down, `!` in the home line, cannot be said to be: each device of a script
-starts counted up. What can be said is that it does not answer its first calls, 1 or as many as asked
-for: `"down": [[1, CALLS + 1]]`. So the first run or probe that comes to it finds it down, and a later
-probe finds it back. Its `start` is the value at which it is to stand; where it does stand nobody
-knows.
+starts counted up. What can be said is that it does not answer its first calls, 1 or as many as
+asked for: `"down": [[1, CALLS + 1]]`. So the first run or probe that comes to it finds it down, and
+a later probe finds it back. Its `start` is the value at which it is to stand; where it does stand
+nobody knows.
 
 Of the rest of a day the windows that the record tells whole are left out, and the others keep their
-times. A window is told when it has ended; so of the one that was open as the program ended no record
-tells what its runs had done, and its devices may stand otherwise than the script says.
+times. A window is told when it has ended; so of the one that was open as the program ended no
+record tells what its runs had done, and its devices may stand otherwise than the script says.
 """
 from collections.abc import Iterator
 
@@ -68,7 +68,8 @@ def later(at: Time, days: int) -> Time:
 def edits(
     top: Node, script: Script, whole: list[WindowLines], days: int | None, silent: int
 ) -> Iterator[Edit]:
-    """What stands where in the next script: a first byte, the one behind the last, and the bytes between; and what is told."""
+    """What stands where in the next script: a first byte, the one behind the last, and the bytes
+    between; and what is told."""
     last = whole[-1].last or [] if whole else []
     for device, node, stand in zip(script.devices, top.value["devices"].value, last):
         start, down = node.value["start"], node.value.get("down")
@@ -77,21 +78,23 @@ def edits(
         calls = "[]" if stand.up else f"[[1, {silent + 1}]]"
         if down is not None:
             left_out = device.downs and stand.up
-            yield down.at, down.end, calls, f"{device.name}: which of its calls fail then is not known: left out" if left_out else None
+            says = f"{device.name}: which of its calls fail then is not known: left out"
+            yield down.at, down.end, calls, says if left_out else None
         elif not stand.up:
             yield start.end, start.end, f', "down": {calls}', None
         if not stand.up:
             calls = f"{silent} calls" if silent > 1 else "call"
             yield 0, 0, "", (
-                f"{device.name} was left down: it starts counted up, at {word}, where it is to stand, and does not "
+                f"{device.name} was left down: it starts counted up, at {word}, where it is to "
+                "stand, and does not "
                 f"answer its first {calls}"
             )
     windows = top.value["windows"].value
     if days is None and whole:
         stop = windows[len(whole)].at if len(whole) < len(windows) else windows[-1].end
-        yield windows[
-            0
-        ].at, stop, "", f"the rest of the day has {len(windows) - len(whole)} of {len(windows)} windows"
+        rest = len(windows) - len(whole)
+        says = f"the rest of the day has {rest} of {len(windows)} windows"
+        yield windows[0].at, stop, "", says
     if days is not None:
         for window, node in zip(script.windows, windows):
             at = node.value["at"]
@@ -127,7 +130,8 @@ def next_day(
     day = read_day(script, text)
     if not (day.total_line or rest):
         raise NoNext(
-            f"the record was cut behind line {day.lines}: --rest makes the script of the rest of its day"
+            f"the record was cut behind line {day.lines}: --rest makes the script of the rest of "
+            "its day"
         )
     whole = whole_windows(script, day, text)
     if rest and len(whole) == len(script.windows):

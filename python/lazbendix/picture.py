@@ -1,11 +1,11 @@
 """Draws a day as an SVG, from its script and its record with trace.
 
 Each window has a column for each entry of its history, 36 beside each other (or as many as asked
-for), and a row for each run and for each device that a run names, or for every device. A column is a
-step, not time. On the row of a run stand its answers, its doom, its undos and its end, and the line
-between them tells whether it waits, and for which run, as far as the history shows it: what a grip
-that is out keeps waiting does not show. On the row of a device stand who has it, its value, its
-leases, failures and restarts. Below is the serial order.
+for), and a row for each run and for each device that a run names, or for every device. A column is
+a step, not time. On the row of a run stand its answers, its doom, its undos and its end, and the
+line between them tells whether it waits, and for which run, as far as the history shows it: what a
+grip that is out keeps waiting does not show. On the row of a device stand who has it, its value,
+its leases, failures and restarts. Below is the serial order.
 """
 import bisect
 from collections import Counter
@@ -58,7 +58,8 @@ DOWN, SKIPPED = (
 
 
 class WindowPainter:
-    """Draws a window: a band of rows for each so many entries. The signs that it uses it adds to a set."""
+    """Draws a window: a band of rows for each so many entries. The signs that it uses it adds to a
+    set."""
 
     def __init__(
         self,
@@ -118,12 +119,12 @@ class WindowPainter:
         return self.left + WIDTH * (place - self.begin + (0.5 if is_shown else 0))
 
     def edge(self, step: int) -> float:
-        """Where what holds from the step on begins, or what holds up to it ends, within the band."""
+        """Where what holds from the step on begins, or up to it ends, within the band."""
         return min(max(self.x(step), self.left), self.right)
 
     def seen(self, stretches: list[Facts]) -> Iterator[tuple[Facts, float, float]]:
-        """Those of the stretches that reach into the band, each with where it begins and ends there. Those of runs that are
-        not shown are left out."""
+        """Those of the stretches that reach into the band, each with where it begins and ends
+        there. Those of runs that are not shown are left out."""
         for stretch in stretches:
             run = stretch.get("run", stretch.get("borrower"))
             if run is not None and run not in self.rows:
@@ -193,7 +194,10 @@ class WindowPainter:
             self.signs.add("lease")
             y = self.device_y(lease["device"]) + 21
             self.bracket(x, to_x, y, "4 2")
-            text = f"{lease['borrower']} has it on lease from {' and '.join(map(str, lease['lenders']))} until {lease['deadline']} ms"
+            text = (
+                f"{lease['borrower']} has it on lease from "
+                f"{' and '.join(map(str, lease['lenders']))} until {lease['deadline']} ms"
+            )
             self.picture.text(x, y + 14, text)
 
     def bracket(self, x: float, to_x: float, y: float, dash: str = "") -> None:
@@ -202,7 +206,7 @@ class WindowPainter:
         self.picture.line(x, y, to_x, y, 1.5, dash)
 
     def paint_waits(self) -> None:
-        """Names the run for which a run waits, where it begins to, and for how long there is room."""
+        """Names the run for which a run waits, where it begins to, as far as there is room."""
         waits = [
             (stretch, x)
             for stretch, x, _ in self.seen(self.history["states"])
@@ -356,11 +360,13 @@ class WindowPainter:
 
 
 class Legend:
-    """What each sign means that a picture uses, sample beside sample, and its words, line below line."""
+    """What each sign means that a picture uses, sample beside sample, and its words, line below
+    line."""
 
     WORDS = {
         "is placed": "place N: the run has got place N in the line, counted from 0",
-        "behind": "behind N: it waits for run N, which stands before it in the line and has, or is still to use, the device",
+        "behind": "behind N: it waits for run N, which stands before it in the line and has, or is "
+        "still to use, the device",
         "dirty": "dirty N: it waits to read what run N has written until that run has ended",
         "strict": "strict N: it waits for the end of run N, as the model wants it",
         "follow": "follow N: it is placed when run N has ended, which it follows",
@@ -452,7 +458,8 @@ class DayPainter:
         self.picture, self.script, self.day = picture, script, day
 
     def paint(self, numbers: list[int]) -> None:
-        """A run is a box, black where it committed; behind them stand how many were aborted, and why."""
+        """A run is a box, black where it committed; behind them stand how many were aborted, and
+        why."""
         left = MARGIN + 190
         widest = max((len(self.day.windows[number].ends) for number in numbers), default=0)
         self.legend()
@@ -500,7 +507,8 @@ def described(day: Day) -> str:
     aborted = sum(cause is not None for cause in runs)
     entries = sum(len(window.entries) for window in day.windows)
     return (
-        f"Under {MODELS[day.mode.model]}, {SCHEDULERS[day.mode.scheduler]}: windows {len(day.windows)}, steps {entries}, "
+        f"Under {MODELS[day.mode.model]}, {SCHEDULERS[day.mode.scheduler]}: windows "
+        f"{len(day.windows)}, steps {entries}, "
         f"runs {len(runs)}, committed {len(runs) - aborted}, aborted {aborted}. "
         "Each window shows its runs, its devices and its serial order."
     )

@@ -1,8 +1,8 @@
 """Scripts as people write them, made into the plain JSON that the program reads.
 
-Comments from `//` to the end of their line and the member `$schema` of the day are made into blanks, byte for byte, so that
-every place stays where it is. A text without these stays as it is, also one that is no JSON. YAML is read where PyYAML is
-installed, and has no places.
+Comments from `//` to the end of their line and the member `$schema` of the day are made into
+blanks, byte for byte, so that every place stays where it is. A text without these stays as it is,
+also one that is no JSON. YAML is read where PyYAML is installed, and has no places.
 """
 import json
 import re
@@ -60,8 +60,8 @@ def plain_script(data: bytes) -> bytes:
 
 
 def plain_check(data: bytes) -> bytes:
-    """The input of a check, a script, a line `%%` and a record. Where that line ends with a carriage return, those of the
-    lines behind it are left out too."""
+    """The input of a check, a script, a line `%%` and a record. Where that line ends with a
+    carriage return, those of the lines behind it are left out too."""
     found = DIVIDER.search(data)
     if found and found[0].endswith(b"\r"):
         data = data[: found.start()] + b"%%" + data[found.end() :].replace(b"\r\n", b"\n")

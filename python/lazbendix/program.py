@@ -2,6 +2,7 @@
 
 Words, statuses and bytes are those of docs/FORMATS.md. Nothing here changes what is written.
 """
+import functools
 import os
 import select
 import shutil
@@ -19,6 +20,7 @@ NAME = "hub_main"
 PLACES = (
     os.path.join(HERE, NAME),
     os.path.join(HERE, "bin", NAME),
+    os.path.join(HERE, "..", "..", "bin", NAME),
     os.path.join(HERE, "..", "..", "crates", NAME, "out", NAME),
 )
 NO_PROGRAM = 127  # the status where the variable names no program, as a shell has it
@@ -30,7 +32,8 @@ class NoProgram(Exception):
 
 
 class Ended(NamedTuple):
-    """How a call ended: its status, its line on standard error, and what it wrote where that was kept."""
+    """How a call ended: its status, its line on standard error, and what it wrote where that was
+    kept."""
 
     status: int
     line: str
@@ -58,7 +61,8 @@ class StandardSink:
 
 
 def call(words: list[str], data: bytes = b"") -> Ended:
-    """Makes a call that writes to standard output as it goes. Of `watch` the progress goes to standard error itself."""
+    """Makes a call that writes to standard output as it goes. Of `watch` the progress goes to
+    standard error itself."""
     program = found_program()
     if program is None:
         tell_reference()
@@ -82,8 +86,9 @@ def kept_call(words: list[str], data: bytes = b"") -> Ended:
     return Ended(ended.returncode, ended.stderr.decode("utf-8", "replace").strip(), ended.stdout)
 
 
+@functools.cache
 def tell_reference() -> None:
-    """Says that no proved program plays."""
+    """Says, once, that no proved program plays."""
     print(
         "lazbendix: no proved program is installed, so the reference plays (lazbendix doctor)",
         file=sys.stderr,

@@ -1,7 +1,8 @@
 """The record of a day, read with its script line by line, and told again entry by entry.
 
-A line is read where it prints again as it stands; so what is read says all that the record says. A record that was cut is read as
-far as it goes. Whether it is true is not asked: that is the check of records (`reference.check`).
+A line is read where it prints again as it stands; so what is read says all that the record says. A
+record that was cut is read as far as it goes. Whether it is true is not asked: that is the check of
+records (`reference.check`).
 """
 import re
 from collections.abc import Iterator
@@ -276,7 +277,8 @@ def is_whole_step(entries: list[Entry], k: int) -> bool:
 
 @dataclass
 class Wait:
-    """A run waited behind the entry `since` and no more behind the entry `until`, as far as the history shows it."""
+    """A run waited behind the entry `since` and no more behind the entry `until`, as far as the
+    history shows it."""
 
     run: int
     why: Why
@@ -285,8 +287,8 @@ class Wait:
 
 
 class QuickHub:
-    """Answers what a hub with no grip out is asked most often as its own calls do, and looks only at runs that matter. It takes
-    their place in the hub."""
+    """Answers what a hub with no grip out is asked most often as its own calls do, and looks only
+    at runs that matter. It takes their place in the hub."""
 
     def __init__(self, hub: Hub) -> None:
         self.hub, self.history = hub, hub.history
@@ -304,8 +306,8 @@ class QuickHub:
             setattr(hub, "overdue", lambda run, device, moment: None)
 
     def find_places(self) -> None:
-        """Finds where the runs stand in the line, where that has changed. Runs end one after another, and between two ends the
-        line grows."""
+        """Finds where the runs stand in the line, where that has changed. Runs end one after
+        another, and between two ends the line grows."""
         history = self.history
         if (len(history.line), len(history.ends)) != self.seen:
             self.seen = len(history.line), len(history.ends)
@@ -331,7 +333,8 @@ class QuickHub:
         return self.found[device]
 
     def wait_in_line(self, run: int, command: Command, sees_down: bool) -> Why | None:
-        """For which run before it in the line a run waits at this command: one that has the device names it."""
+        """For which run before it in the line a run waits at this command: one that has the device
+        names it."""
         device, users = command.device, self.live_users(command.device)
         place = self.lives[run]
         for x in users:
@@ -360,7 +363,8 @@ class QuickHub:
 
 
 class Retelling:
-    """The hub of a window as the trace tells it, entry after entry. What a grip that is out keeps waiting is not told there."""
+    """The hub of a window as the trace tells it, entry after entry. What a grip that is out keeps
+    waiting is not told there."""
 
     def __init__(
         self, script: Script, number: int, mode: Mode, stands: list[Stand], told: WindowLines
@@ -446,7 +450,7 @@ class Retelling:
             self.note(k, run)
 
     def is_placed_next(self, run: int) -> bool:
-        """Whether the next step of the run is sure to place it: but just in time nobody is denied."""
+        """Whether the run's next step is sure to place it: but just in time nobody is denied."""
         history = self.history
         return (
             run not in history.placed
@@ -465,7 +469,8 @@ class Retelling:
         return wait if isinstance(wait, WAITS) else None
 
     def wait_placed(self, run: int) -> Why | None:
-        """Why a run waits that has its place and is not doomed: as `Hub.decide_command` has it, where no grip is out."""
+        """Why a run waits that has its place and is not doomed: as `Hub.decide_command` has it,
+        where no grip is out."""
         hub, history = self.hub, self.history
         commands, done = hub.runs[run].commands, len(history.answers[run])
         if done == len(commands):

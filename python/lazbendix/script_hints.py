@@ -1,6 +1,7 @@
 """What is legal in a script and surprises who has not met it: each hint with its place.
 
-A hint is no mistake; the program plays the day. Each kind is told once, at the first place where it stands, with the others.
+A hint is no mistake; the program plays the day. Each kind is told once, at the first place where it
+stands, with the others.
 """
 import re
 from collections.abc import Iterator
@@ -107,14 +108,16 @@ class Hints:
                         node,
                         path,
                         f"where it finds another value, what the run wrote on "
-                        f"{' and '.join(written)} is taken back: a check that decides whether to begin stands first",
+                        f"{' and '.join(written)} is taken back: a check that decides whether to "
+                        "begin stands first",
                     )
                 if command.job == "check" and not command.must:
                     self.tell(
                         "check that decides nothing",
                         node,
                         path,
-                        "a check that is not must is recorded, and the run goes on whatever it finds",
+                        "a check that is not must is recorded, and the run goes on whatever it "
+                        "finds",
                     )
                 if command.job == "store":
                     self.stored(node, path, command, loaded)
@@ -128,7 +131,8 @@ class Hints:
                         node,
                         path,
                         f"{name} has calls that it does not answer: "
-                        'a run that meets one here is taken back whole; "must": false lets it go on',
+                        'a run that meets one here is taken back whole; "must": false lets it go '
+                        "on",
                     )
                 if command.writes and name not in written:
                     written.append(name)
@@ -141,7 +145,8 @@ class Hints:
                 "store before a load",
                 node,
                 path,
-                f"nothing is loaded before it, so it drives to the value nearest to 0, which is {low}",
+                "nothing is loaded before it, so it drives to the value nearest to 0, which is "
+                f"{low}",
             )
             return
         source = self.script.devices[loaded]
@@ -192,7 +197,8 @@ class Hints:
                     "no probes at the end",
                     node,
                     path,
-                    f"behind window {probing[-1] + 1} no window probes: where it is counted down then, it stays so",
+                    f"behind window {probing[-1] + 1} no window probes: where it is counted down "
+                    "then, it stays so",
                 )
             if self.probes_take_calls(d):
                 first = min(begin for begin, _ in self.script.devices[d].downs)
@@ -201,11 +207,13 @@ class Hints:
                     node,
                     path,
                     "calls are counted over the day, those of probes with those of commands: "
-                    f"without turns the seed decides which of them meets call {first} (docs/HOW-TO-WRITE.md)",
+                    f"without turns the seed decides which of them meets call {first} "
+                    "(docs/HOW-TO-WRITE.md)",
                 )
 
     def probes_take_calls(self, device: int) -> bool:
-        """Whether a probe may be called before the first call that fails, in a window whose picks are drawn."""
+        """Whether a probe may be called before the first call that fails, in a window whose picks
+        are drawn."""
         drawn = any(window.probes and not window.turns for window in self.script.windows)
         return drawn and min(begin for begin, _ in self.script.devices[device].downs) > 1
 
@@ -218,9 +226,13 @@ class Hints:
                     self.tell(
                         "takes more than its estimate",
                         self.node("routines", r, "commands", c, "takes"),
-                        f'routine "{routine.name}", command {c + 1} ({self.names[command.device]}), "takes"',
-                        f"it takes {command.takes} ms and is estimated at {command.ms}: just in time and by the timeline "
-                        "leases end by the estimate, and runs may be revoked that did nothing wrong",
+                        f'routine "{routine.name}", command {c + 1} '
+                        f"({self.names[command.device]}), "
+                        '"takes"',
+                        f"it takes {command.takes} ms and is estimated at {command.ms}: just in "
+                        "time and by the timeline "
+                        "leases end by the estimate, and runs may be revoked that did nothing "
+                        "wrong",
                     )
         for k, window in enumerate(self.script.windows):
             self.long_command(k, window)
@@ -236,7 +248,8 @@ class Hints:
                     return
 
     def outlasted(self, routine: int, borrower: int) -> int | None:
-        """A device of both routines on which the second one's lease is shorter than a command of the first; or none."""
+        """A device of both routines on which the second one's lease is shorter than a command of
+        the first; or none."""
         key = routine, borrower
         if key not in self.found:
             slow, leases = self.slowest[routine].takes, self.leases[borrower]
@@ -251,8 +264,10 @@ class Hints:
             "long command",
             self.node("windows", k, "runs", r),
             f"window {k + 1}, run {r + 1} ({self.routine(long)})",
-            f"its command on {self.names[slow.device]} takes {slow.takes} ms. A replay has one clock, which "
-            f"each command of any run moves for all: just in time, run {other + 1} ({self.routine(short)}) may have "
+            f"its command on {self.names[slow.device]} takes {slow.takes} ms. A replay has one "
+            "clock, which "
+            f"each command of any run moves for all: just in time, run {other + 1} "
+            f"({self.routine(short)}) may have "
             f"{self.names[d]} on lease for {lease} ms, and be revoked meanwhile"
             + (
                 f"; a run that is denied a device waits {PATIENCE} ms at most"
@@ -275,7 +290,8 @@ class Hints:
                     self.node("windows", k, "runs"),
                     f"window {k + 1}",
                     "it has no turns, so a replay draws who "
-                    f"steps, by the seed {window.seed}: another seed may end otherwise, and each end is a legal one; "
+                    f"steps, by the seed {window.seed}: another seed may end otherwise, and each "
+                    "end is a legal one; "
                     '"turns": [1, 1, ..] lets run 1 go first (docs/HOW-TO-WRITE.md)',
                 )
             for r, run in enumerate(window.runs):
@@ -284,7 +300,9 @@ class Hints:
                         "follows",
                         node.value["runs"].value[r].value["follows"],
                         f'window {k + 1}, run {r + 1}, "follows"',
-                        f"it waits for the end of run {run.follows}, committed or taken back; it is run in both cases",
+                        f"it waits for the end of run {run.follows}, committed or taken back; it "
+                        "is "
+                        "run in both cases",
                     )
 
     def times(self) -> None:
@@ -295,7 +313,8 @@ class Hints:
                     "not heeded",
                     node,
                     f'window {k + 1}, "at"',
-                    "parts of a second, an offset and a zone are read and not heeded: times are ordered as they are written",
+                    "parts of a second, an offset and a zone are read and not heeded: times are "
+                    "ordered as they are written",
                 )
 
 
@@ -327,7 +346,8 @@ def doubled_members(node: Node, path: str) -> Iterator[Hint]:
 
 
 def are_linked(window: WindowText, one: int, other: int) -> bool:
-    """Whether these runs, from 0, are one, or one of them waits for the end of the other before it is placed."""
+    """Whether these runs, from 0, are one, or one of them waits for the end of the other before it
+    is placed."""
     later, earlier = max(one, other), min(one, other)
     while later > earlier:
         follows = window.runs[later].follows

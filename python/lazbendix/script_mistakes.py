@@ -1,7 +1,9 @@
-"""The walk through a script that does not stop at its first mistake: each with the program's words for it, its place, and more.
+"""The walk through a script that does not stop at its first mistake: each with the program's words
+for it, its place, and more.
 
-The steps stand in the order of `reference.script`, whose members, types, limits and names they use; so the first mistake is the
-refusal. What would follow from an earlier mistake alone, as the states of a device that has none, is not told again.
+The steps stand in the order of `reference.script`, whose members, types, limits and names they use;
+so the first mistake is the refusal. What would follow from an earlier mistake alone, as the states
+of a device that has none, is not told again.
 """
 import difflib
 import re
@@ -146,7 +148,10 @@ def why_no_name(text: str) -> str:
         return f"it has {len(text)} characters, and a name at most 32"
     if not re.match("[a-z]", text):
         return "it does not begin with a letter from a to z"
-    return f"{next(sign for sign in text if not re.match('[a-z0-9_-]', sign))!r} is none of a-z, 0-9, _ and -"
+    return (
+        f"{next(sign for sign in text if not re.match('[a-z0-9_-]', sign))!r} is none of a-z, 0-9, "
+        "_ and -"
+    )
 
 
 def why_no_time(text: str) -> str:
@@ -168,7 +173,8 @@ def why_no_time(text: str) -> str:
 
 
 def meant_by(name: str, absent: list[str]) -> list[str]:
-    """The member that is meant by a name, out of those that are not there; in a list, which is empty where none is."""
+    """The member that is meant by a name, out of those that are not there; in a list, which is
+    empty where none is."""
     if name.lower() in NOTES:
         return []
     if MEANT.get(name.lower()) in absent:
@@ -219,7 +225,8 @@ class Walk:
     # Shapes.
 
     def members(self, node: Node, members: tuple[Any, Any], spot: str, path: str) -> Members | None:
-        """The members that have their types, also under a name like theirs; none where there is no object. The rest is told."""
+        """The members that have their types, also under a name like theirs; none where there is no
+        object. The rest is told."""
         if not isinstance(node.value, dict):
             self.expected(f"shape {spot}", node, path, "an object, in braces")
             return None
@@ -270,11 +277,17 @@ class Walk:
             return f'there is no member "{name[:SHOWN]}"; did you mean "{meant[0]}"?'
         if (name == "when" or MEANT.get(name) == "when") and "do" in types and "when" not in types:
             wanted = "" if name == "when" else ', and are called "when"'
-            return f'there is no member "{name}" in version 1 of the format: guards want "safehome": 2{wanted}'
+            return (
+                f'there is no member "{name}" in version 1 of the format: guards want "safehome": '
+                f"2{wanted}"
+            )
         if name.lower() in NO_GUARDS and set(types) == {"is", "below"}:
             return f'a guard asks with "is" or with "below" alone, and never with "{name[:SHOWN]}"'
         if name.lower() in NOTES:
-            return f'there is no member "{name}": notes, titles and the name of a schema stand outside (docs/HOW-TO-WRITE.md)'
+            return (
+                f'there is no member "{name}": notes, titles and the name of a schema stand '
+                "outside (docs/HOW-TO-WRITE.md)"
+            )
         return f'there is no member "{name[:SHOWN]}"; the members are {", ".join(types)}'
 
     def typed_otherwise(self, wanted: Test, node: Node) -> str:
@@ -442,7 +455,8 @@ class Walk:
                     step,
                     "calls count from 1"
                     if ends[0] == 0
-                    else f"{ends[1]} is not above {ends[0]}: the calls from the first number on, and before the second, fail",
+                    else f"{ends[1]} is not above {ends[0]}: the calls from the first number on, "
+                    "and before the second, fail",
                 )
 
     def value_fits(self, kept: Kept, node: Node, spot: str, path: str, what: str) -> None:
@@ -622,7 +636,8 @@ class Walk:
                 f"bad time {spot}",
                 node,
                 f'{path}, "at"',
-                f"{self.what(node)} is not later than the time of the window before, {time_text(before)}",
+                f"{self.what(node)} is not later than the time of the window before, "
+                f"{time_text(before)}",
             )
         return at
 
@@ -660,7 +675,8 @@ class Walk:
 
 
 def mistakes_of(data: bytes) -> tuple[list[Mistake], Node | None]:
-    """All mistakes of the text, in the order of the walk, and its value with places, or none where it is no JSON text."""
+    """All mistakes of the text, in the order of the walk, and its value with places, or none where
+    it is no JSON text."""
     if len(data) > LIMITS["bytes"]:
         count, limit = LIMITS["bytes"] + 1, LIMITS["bytes"]
         says = f"at most {limit} bytes (docs/LIMITS.md); {len(data)} stand there"

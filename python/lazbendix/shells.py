@@ -43,14 +43,26 @@ def bash(top: argparse.ArgumentParser) -> Iterator[str]:
     yield "_lazbendix() {"
     yield "    local word=${COMP_WORDS[COMP_CWORD]} before=${COMP_WORDS[COMP_CWORD-1]}"
     yield '    if [ "$COMP_CWORD" -eq 1 ]; then'
-    yield f"        mapfile -t COMPREPLY < <(compgen -W '{' '.join(commands)} --help --version' -- \"$word\")"
+    yield (
+        f"        mapfile -t COMPREPLY < <(compgen -W '{' '.join(commands)} --help --version' -- "
+        '"$word")'
+    )
     yield "        return"
     yield "    fi"
     yield "    case $before in"
     for name, words in MODES.items():
-        yield f"    {name}) mapfile -t COMPREPLY < <(compgen -W '{' '.join(words)}' -- \"$word\"); return ;;"
-    yield "    completions) mapfile -t COMPREPLY < <(compgen -W 'bash zsh fish' -- \"$word\"); return ;;"
-    yield f"    help) mapfile -t COMPREPLY < <(compgen -W '{' '.join(commands)}' -- \"$word\"); return ;;"
+        yield (
+            f"    {name}) mapfile -t COMPREPLY < <(compgen -W '{' '.join(words)}' -- \"$word\"); "
+            "return ;;"
+        )
+    yield (
+        "    completions) mapfile -t COMPREPLY < <(compgen -W 'bash zsh fish' -- \"$word\"); "
+        "return ;;"
+    )
+    yield (
+        f"    help) mapfile -t COMPREPLY < <(compgen -W '{' '.join(commands)}' -- \"$word\"); "
+        "return ;;"
+    )
     yield "    esac"
     yield "    local options="
     yield "    case ${COMP_WORDS[1]} in"
@@ -122,7 +134,10 @@ def fish(top: argparse.ArgumentParser) -> Iterator[str]:
             takes = f" -x -a '{' '.join(words)}'" if words else "" if action.nargs == 0 else " -r"
             for option in action.option_strings:
                 flag = f"-l {option[2:]}" if option.startswith("--") else f"-s {option[1:]}"
-                yield f"complete -c lazbendix {seen} {flag}{takes} -d '{fish_text(action.help or '')}'"
+                yield (
+                    f"complete -c lazbendix {seen} {flag}{takes} -d "
+                    f"'{fish_text(action.help or '')}'"
+                )
     yield "complete -c lazbendix -n '__fish_seen_subcommand_from completions' -f -a 'bash zsh fish'"
 
 

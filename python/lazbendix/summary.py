@@ -1,8 +1,8 @@
 """Tells the record of a day in sentences: who waited for whom, who was taken back and why, what was
 undone, what is down.
 
-With its trace (`--trace`) each run is told step by step, with its waits and what was undone to what;
-without, how it ended. Of a wait is told what the history shows: what a grip that is out keeps
+With its trace (`--trace`) each run is told step by step, with its waits and what was undone to
+what; without, how it ended. Of a wait is told what the history shows: what a grip that is out keeps
 waiting it does not. The first lines say what the check of records finds. A record that was cut is
 told as far as it goes.
 """
@@ -158,7 +158,8 @@ class WindowTeller:
                 words = (
                     f"{self.device(d)} was driven back to {value}"
                     if drove
-                    else f"{self.device(d)} was not driven, since it was down; it is to stand at {value}"
+                    else f"{self.device(d)} was not driven, since it was down; it is to stand at "
+                    f"{value}"
                 )
                 self.of_run[run].append((line, entry, words))
             case Fell(d):
@@ -174,7 +175,8 @@ class WindowTeller:
                 self.of_run[entry.run].append((line, entry, ""))
 
     def met(self, k: int, d: int) -> str:
-        """Who was told first that the device had failed: the run whose entry stands behind it, or a probe alone."""
+        """Who was told first that the device had failed: the run whose entry stands behind it, or a
+        probe alone."""
         match self.told.entries[k + 1 : k + 2]:
             case [Did(run, c, answer)] if answer == DOWN and self.commands(run)[c].device == d:
                 return f": run {run} was told so at its command {c + 1}"
@@ -188,16 +190,26 @@ class WindowTeller:
                 return f"its command {c + 1}, {self.command(run, c)}, found the device down"
             case Refuted(c, found):
                 d = self.commands(run)[c].device
-                return f"its command {c + 1}, {self.command(run, c)}, found {self.device(d)} at {self.value(d, found)}"
+                return (
+                    f"its command {c + 1}, {self.command(run, c)}, found {self.device(d)} at "
+                    f"{self.value(d, found)}"
+                )
             case Lost(d):
-                return f"{self.device(d)} stopped answering between its first and its last command there"
+                return (
+                    f"{self.device(d)} stopped answering between its first and its last command "
+                    "there"
+                )
             case Revoked(lender, d, deadline, moment):
                 return (
-                    f"it had {self.device(d)} on lease from {self.called(lender)} until {deadline} ms, and was not done there "
+                    f"it had {self.device(d)} on lease from {self.called(lender)} until {deadline} "
+                    "ms, and was not done there "
                     f"when that one asked for it at {moment} ms"
                 )
             case DownAtEnd(d):
-                return f"{self.device(d)}, which it had used, was down at its end, and no run commits so under {self.mode.model}"
+                return (
+                    f"{self.device(d)}, which it had used, was down at its end, and no run commits "
+                    f"so under {self.mode.model}"
+                )
 
     # The runs.
 
@@ -224,7 +236,8 @@ class WindowTeller:
             yield Said(f"{head} committed.", lines, 1)
         elif dooms:
             yield Said(
-                f"{head} {'was taken back' if ends else 'was being taken back'}: {self.cause(run, dooms[0])}.",
+                f"{head} {'was taken back' if ends else 'was being taken back'}: "
+                f"{self.cause(run, dooms[0])}.",
                 lines,
                 1,
             )
@@ -268,7 +281,9 @@ class WindowTeller:
             if isinstance(entry, Placed):
                 behind = f", once {self.called(follows)} had ended" if follows else ""
                 words.append(
-                    f"got the {ordinal(entry.place + 1)} place in the line (place {entry.place}) at {entry.moment} ms{behind}"
+                    f"got the {ordinal(entry.place + 1)} place in the line (place {entry.place}) "
+                    "at "
+                    f"{entry.moment} ms{behind}"
                 )
         yield Said(
             f"It {listed(words) if words else 'had not come'}.",
@@ -281,11 +296,20 @@ class WindowTeller:
             case Follow(x):
                 why = f"It waited with its place for the end of {self.called(x)}"
             case Denied(d, x):
-                why = f"It waited with its place for {self.called(x)}, which had {self.device(d)} or was not sure of it"
+                why = (
+                    f"It waited with its place for {self.called(x)}, which had {self.device(d)} or "
+                    "was not sure of it"
+                )
             case Behind(d, x):
-                why = f"It waited at {self.device(d)} for {self.called(x)}, which was before it and not done there"
+                why = (
+                    f"It waited at {self.device(d)} for {self.called(x)}, which was before it and "
+                    "not done there"
+                )
             case Dirty(d, x):
-                why = f"It waited before it read {self.device(d)} for {self.called(x)}, whose write there might be taken back"
+                why = (
+                    f"It waited before it read {self.device(d)} for {self.called(x)}, whose write "
+                    "there might be taken back"
+                )
             case Strict(x):
                 why = f"It waited for the end of {self.called(x)}, as {self.mode.model} asks"
         if wait.until is None:
@@ -340,7 +364,8 @@ class WindowTeller:
         )
         if left:
             yield Said(
-                f"Not undone: {listed(left)}, since a run behind it in the line wrote there, and that stands.",
+                f"Not undone: {listed(left)}, since a run behind it in the line wrote there, and "
+                "that stands.",
                 (),
                 2,
             )
@@ -373,7 +398,10 @@ class WindowTeller:
         if self.told.order is None:
             return "Order: the weak model claims none."
         if not self.told.order:
-            return "Order: there is nothing in it, since no run committed and no device failed or came back."
+            return (
+                "Order: there is nothing in it, since no run committed and no device failed or "
+                "came back."
+            )
         words = [
             self.called(item.run)
             if isinstance(item, Ran)
@@ -391,7 +419,10 @@ class WindowTeller:
             if commits and commits != runs
             else ""
         )
-        return f"Order: answers and home are as if it had gone so, one after another: {', then '.join(words)}.{also}"
+        return (
+            "Order: answers and home are as if it had gone so, one after another: "
+            f"{', then '.join(words)}.{also}"
+        )
 
     def home(self) -> str:
         changed, same, down = [], [], []
@@ -416,7 +447,10 @@ def verdict(script: Script, text: str, day: Day) -> str:
         return "The check of records does not judge the weak model."
     try:
         check_record(script, text.encode())
-        return "The check of records agrees: answers and homes are those of the orders that are printed."
+        return (
+            "The check of records agrees: answers and homes are those of the orders that are "
+            "printed."
+        )
     except Differs as differs:
         return (
             f"The check of records does not agree: {differs}. What follows is what the record says."
@@ -427,7 +461,10 @@ def sentences(script: Script, text: str, choice: Choice = Choice()) -> Iterator[
     """The summary of a record, sentence by sentence. Raises `Unread`."""
     day = read_day(script, text)
     shown = choice.numbers(script, day)
-    counts = f"{some(len(script.windows), 'window')}, {some(sum(len(window.runs) for window in script.windows), 'run')}"
+    counts = (
+        f"{some(len(script.windows), 'window')}, "
+        f"{some(sum(len(window.runs) for window in script.windows), 'run')}"
+    )
     yield Said(
         f"A day under {MODELS[day.mode.model]}, {SCHEDULERS[day.mode.scheduler]}: {counts}.", (1, 2)
     )
@@ -435,7 +472,8 @@ def sentences(script: Script, text: str, choice: Choice = Choice()) -> Iterator[
         yield Said(verdict(script, text, day))
     else:
         yield Said(
-            f"The record was cut behind line {day.lines}: the program ended with another status than 0, which its line on "
+            f"The record was cut behind line {day.lines}: the program ended with another status "
+            "than 0, which its line on "
             "standard error tells."
         )
     for number in shown:
@@ -449,7 +487,10 @@ def total_told(script: Script, day: Day) -> Said:
     ends = [cause for window in day.windows for cause in window.ends.values()]
     stands = stands_before(script, day, len(day.windows))
     down = [device.name for device, stand in zip(script.devices, stands) if not stand.up]
-    counts = f"{some(len(day.windows), 'window')}, {some(len(ends), 'run')}, {ends.count(None)} committed, "
+    counts = (
+        f"{some(len(day.windows), 'window')}, {some(len(ends), 'run')}, {ends.count(None)} "
+        "committed, "
+    )
     counts += f"{len(ends) - ends.count(None)} taken back."
     return Said(
         f"In all: {counts}" + (f" Down at the end: {listed(down)}." if down else ""),
@@ -498,8 +539,8 @@ def summary(
 
 
 def facts_of(script: Script, text: str, choice: Choice = Choice()) -> dict[str, Any]:
-    """The record as JSON has it: of each window its runs with their causes, waits and undos, its order and its home. Raises
-    `Unread`."""
+    """The record as JSON has it: of each window its runs with their causes, waits and undos, its
+    order and its home. Raises `Unread`."""
     day = read_day(script, text)
     windows = [
         window_facts(WindowTeller(script, day, number), choice.runs(script, day, number))

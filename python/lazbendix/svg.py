@@ -1,12 +1,15 @@
-"""An SVG in black and white that is written part by part: lines and boxes, and above all of them the texts."""
+"""An SVG in black and white that is written part by part: lines and boxes, and above all of them
+the texts."""
 from html import escape
 
 MARGIN = 14
 LETTER = 6.3  # width of a letter of 11 px, about
 HALF_TAG = 10  # half the height of a box or a tag
 STYLE = (
-    "text{font:11px 'DejaVu Sans',Verdana,sans-serif;paint-order:stroke;stroke:#fff;stroke-width:3px;stroke-linejoin:round}"
-    ".middle{text-anchor:middle}.on-black{fill:#fff;stroke:none}.grey{fill:#444}.bold{font-weight:bold}.large{font-size:14px}"
+    "text{font:11px 'DejaVu Sans',Verdana,sans-serif;paint-order:stroke;stroke:#fff;"
+    "stroke-width:3px;stroke-linejoin:round}"
+    ".middle{text-anchor:middle}.on-black{fill:#fff;stroke:none}.grey{fill:#444}"
+    ".bold{font-weight:bold}.large{font-size:14px}"
 )
 
 
@@ -33,7 +36,8 @@ class Picture:
         most: int | None = None,
         widens: bool = True,
     ) -> None:
-        """Writes a text from x on, or around x where its look is `middle`. A text longer than `most` letters is cut."""
+        """Writes a text from x on, or around x where its look is `middle`. A text longer than
+        `most` letters is cut."""
         shown = text if most is None or len(text) <= most else text[: most - 1] + "…"
         told = f"<title>{escape(text)}</title>" if shown != text else ""
         attribute = f' class="{look}"' if look else ""
@@ -61,7 +65,8 @@ class Picture:
         )
         dashes = f' stroke-dasharray="{dash}"{start}' if dash else ""
         self.add(
-            f'<line x1="{x:g}" y1="{y:g}" x2="{to_x:g}" y2="{to_y:g}" stroke="{color}" stroke-width="{width:g}"{dashes}/>',
+            f'<line x1="{x:g}" y1="{y:g}" x2="{to_x:g}" y2="{to_y:g}" stroke="{color}" '
+            f'stroke-width="{width:g}"{dashes}/>',
             to_x,
         )
 
@@ -78,7 +83,8 @@ class Picture:
     ) -> None:
         dashes = f' stroke-dasharray="{dash}"' if dash else ""
         self.add(
-            f'<rect x="{x:g}" y="{y:g}" width="{width:g}" height="{height:g}" rx="{round}" fill="{fill}" '
+            f'<rect x="{x:g}" y="{y:g}" width="{width:g}" height="{height:g}" rx="{round}" '
+            f'fill="{fill}" '
             f'stroke="{stroke}"{dashes}/>',
             x + width,
         )
@@ -91,7 +97,8 @@ class Picture:
             f' stroke-dasharray="{dash}"' if dash else "",
         )
         self.add(
-            f'<path d="M{left:g} {y:g} l9 {-HALF_TAG} H{right:g} v{2 * HALF_TAG} H{left + 9:g} z" fill="white" '
+            f'<path d="M{left:g} {y:g} l9 {-HALF_TAG} H{right:g} v{2 * HALF_TAG} H{left + 9:g} z" '
+            'fill="white" '
             f'stroke="black"{dashes}/>',
             right,
         )
@@ -116,7 +123,8 @@ class Picture:
     def triangle(self, x: float, y: float, up: bool) -> None:
         tip, base = (y - 8, y + 6) if up else (y + 8, y - 6)
         self.add(
-            f'<path d="M{x:g} {tip:g} L{x - 8:g} {base:g} L{x + 8:g} {base:g} Z" fill="{"white" if up else "black"}" '
+            f'<path d="M{x:g} {tip:g} L{x - 8:g} {base:g} L{x + 8:g} {base:g} Z" '
+            f'fill="{"white" if up else "black"}" '
             f'stroke="black"/>'
         )
 
@@ -127,13 +135,16 @@ class Picture:
         width, height = round(self.width), round(self.y + MARGIN)
         return "\n".join(
             [
-                f'<svg xmlns="http://www.w3.org/2000/svg" viewBox="0 0 {width} {height}" width="{width}" height="{height}" '
+                f'<svg xmlns="http://www.w3.org/2000/svg" viewBox="0 0 {width} {height}" '
+                f'width="{width}" height="{height}" '
                 'role="img" aria-labelledby="title description">',
                 f'<title id="title">{escape(title)}</title>',
                 f'<desc id="description">{escape(description)}</desc>',
                 f"<style>{STYLE}</style>",
-                '<defs><pattern id="down" width="6" height="6" patternUnits="userSpaceOnUse" patternTransform="rotate(45)">'
-                '<line x1="0" y1="0" x2="0" y2="6" stroke="#777" stroke-width="2"/></pattern></defs>',
+                '<defs><pattern id="down" width="6" height="6" patternUnits="userSpaceOnUse" '
+                'patternTransform="rotate(45)">'
+                '<line x1="0" y1="0" x2="0" y2="6" stroke="#777" '
+                'stroke-width="2"/></pattern></defs>',
                 f'<rect width="{width}" height="{height}" fill="white"/>',
                 *self.parts,
                 *self.texts,

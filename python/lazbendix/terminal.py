@@ -27,6 +27,7 @@ def note_wait(what: str) -> None:
     """Where standard input is a terminal, says that it is read, and how that ends."""
     if sys.stdin.isatty():
         print(
-            f"lazbendix: {what} is read from the terminal; Ctrl-D ends it, and a file may be named instead",
+            f"lazbendix: {what} is read from the terminal; Ctrl-D ends it, and a file may be named "
+            "instead",
             file=sys.stderr,
         )

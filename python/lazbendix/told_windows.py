@@ -1,8 +1,10 @@
-"""The history of a window as pictures and pages are told it: its entries, and what holds between them.
+"""The history of a window as pictures and pages are told it: its entries, and what holds between
+them.
 
-All is told in plain data, as JSON has it. A step is a number: 0 is before the first entry, N behind entry N. A stretch holds from
-its step `from` on, up to its step `to`; where it lasts to the end, that is one more than there are entries. Runs count from 1,
-devices and commands from 0, values are words.
+All is told in plain data, as JSON has it. A step is a number: 0 is before the first entry, N behind
+entry N. A stretch holds from its step `from` on, up to its step `to`; where it lasts to the end,
+that is one more than there are entries. Runs count from 1, devices and commands from 0, values are
+words.
 """
 import operator
 from collections.abc import Iterable
@@ -47,7 +49,8 @@ Value = TypeVar("Value")
 
 
 class Stretches(Generic[Key, Value]):
-    """What holds for a while: for each key a value, from the step that first has it to the one that first has it no more."""
+    """What holds for a while: for each key a value, from the step that first has it to the one that
+    first has it no more."""
 
     def __init__(self) -> None:
         self.now: dict[Key, tuple[int, Value]] = {}
@@ -138,7 +141,8 @@ class HistoryTeller:
         }
 
     def states(self, run: int, last: int) -> list[Facts]:
-        """What the run is at, stretch after stretch, from its arrival to its end: it works, waits or is doomed."""
+        """What the run is at, stretch after stretch, from its arrival to its end: it works, waits
+        or is doomed."""
         steps = {self.entries[step - 1]["kind"]: step for step in self.steps_of[run]}
         end = steps.get("ended", last)
         doom = steps.get("doomed", end)
@@ -160,8 +164,9 @@ class HistoryTeller:
     # The entry.
 
     def turn(self) -> Facts:
-        """Where the entry puts something into the line, or takes it out; `first` has the places of the items that a placing brings
-        to the front, in their order, where it rearranges the line."""
+        """Where the entry puts something into the line, or takes it out; `first` has the places of
+        the items that a placing brings to the front, in their order, where it rearranges the line.
+        """
         if len(self.line) == len(self.history.line):
             return {}
         before, self.line = self.line, list(self.history.line)
@@ -234,7 +239,7 @@ class HistoryTeller:
         return [self.entries[-1]["device"]]
 
     def tell_stands(self, step: int, devices: Iterable[int]) -> None:
-        """Tells where the devices should stand behind the entry of this step, and which are down."""
+        """Tells where the devices should stand behind the step, and which are down."""
         for device in devices:
             self.downs.tell(device, step, not self.history.up[device] or None)
             self.values.tell(device, step, self.stand(device))
@@ -255,7 +260,8 @@ class HistoryTeller:
 
 
 def wait_facts(why: Why) -> Facts:
-    """A wait as the page is told it: its kind, and the other run and the device, where it names them."""
+    """A wait as the page is told it: its kind, and the other run and the device, where it names
+    them."""
     named = {"other": getattr(why, "run", None), "device": getattr(why, "device", None)}
     return {
         "kind": type(why).__name__.lower(),

@@ -1,5 +1,5 @@
-"""Writes a traced record as Chrome trace events, for Perfetto (ui.perfetto.dev) and chrome://tracing.
-Both open the file without sending it anywhere.
+"""Writes a traced record as Chrome trace events, for Perfetto (ui.perfetto.dev) and
+chrome://tracing. Both open the file without sending it anywhere.
 
 A window is a process, and has a lane (a thread) for each run and each device. By steps, a step is
 drawn as one millisecond: the entry with the number k, from 0, of a window begins at ms k + 1 behind
@@ -7,9 +7,9 @@ the window's begin, and a window begins one ms behind the end of the one before;
 numbers of steps, and no times. By ms, a window begins at its time behind that of the first one, and
 an entry at the moment of the one before: what made it lies between the two. An entry lasts a
 microsecond at least. The moments that a record has stand in the arguments of their events. On the
-lane of a run lie the run from its arrival to its end, its waits, and its entries; on that of a device
-each answer and undo there but for skipped commands, and the stretches in which it is counted down.
-An arrow leads from the entry that ended a wait to the run's next entry.
+lane of a run lie the run from its arrival to its end, its waits, and its entries; on that of a
+device each answer and undo there but for skipped commands, and the stretches in which it is counted
+down. An arrow leads from the entry that ended a wait to the run's next entry.
 """
 import bisect
 import json
@@ -71,7 +71,8 @@ class WindowTracer:
         return [(self.begin + 1 + k) * STEP for k in range(len(self.entries) + 1)]
 
     def times(self, script: Script, number: int) -> list[int]:
-        """The same by the moments: an entry begins at that of the one before, and lasts a microsecond at least."""
+        """The same by the moments: an entry begins at that of the one before, and lasts a
+        microsecond at least."""
         ats = [(self.begin + 1) * STEP]
         for moment in moments_of(script, number, self.teller.told):
             ats.append(max((self.begin + 1 + moment) * STEP, ats[-1] + 1))
@@ -166,7 +167,7 @@ class WindowTracer:
                 since = None
 
     def wait(self, wait: Wait) -> None:
-        """The wait up to the entry that ended it, and an arrow from there to what the run did next."""
+        """The wait up to the entry that ended it, and an arrow to what the run did next."""
         until = len(self.entries) if wait.until is None else wait.until
         begin, end = self.at(wait.since + 1), self.at(
             until + 1 if wait.until is not None else until
@@ -274,7 +275,8 @@ def begin_of(script: Script, number: int) -> int:
 def windows_of(
     script: Script, text: str, axis: str = "step", choice: Choice = Choice()
 ) -> tuple[Event, Iterator[list[Event]]]:
-    """What is said of all events, and the events of each window of a traced record that is chosen. Raises `Unread`."""
+    """What is said of all events, and the events of each window of a traced record that is chosen.
+    Raises `Unread`."""
     day = read_day(script, text)
     if any(told.ends and not told.entries for told in day.windows):
         raise Unread("no trace in the record: make it with --trace")

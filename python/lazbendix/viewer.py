@@ -1,5 +1,5 @@
-"""Makes a page in which one looks into a day, from its script and its record: one HTML file that needs
-no network.
+"""Makes a page in which one looks into a day, from its script and its record: one HTML file that
+needs no network.
 
 Where the record has its trace, the page shows each window's history, entry by entry. Where it has
 none, and is what a replay of the script prints, the history is made anew by that replay; else the
@@ -25,7 +25,7 @@ from lazbendix.told_windows import Facts, cause_facts, told_history
 
 PARTS = os.path.join(os.path.dirname(os.path.abspath(__file__)), "viewer_page")
 ROWS = ("entries", "states", "holds", "downs", "leases", "values")  # of a history
-PLAIN_UP_TO = 200_000  # bytes of a record whose page is not packed
+PLAIN_UP_TO = 120_000  # bytes of a record whose page is not packed
 PART = re.compile(r"[ ]*<!-- part (\S+) -->\n")
 
 
@@ -100,7 +100,8 @@ class WindowTeller:
 
 
 def replay(script: Script, day: Day, lines: list[str]) -> None:
-    """Gives a day without traces the entries of a replay, for as long as that prints what the record says."""
+    """Gives a day without traces the entries of a replay, for as long as that prints what the
+    record says."""
     home = Home(script)
     for number, window in enumerate(day.windows):
         record = home.replay(script.windows[number], day.mode)
@@ -165,8 +166,8 @@ def verdict(script: Script, record: str) -> str:
 def day_told(
     script: Script, record: str, title: str, choice: Choice
 ) -> tuple[Facts, Iterator[tuple[Facts, Facts]]]:
-    """The day as the page is told it, and, one after another, each window that is chosen, with what the list of windows says
-    of it. The record is a text."""
+    """The day as the page is told it, and, one after another, each window that is chosen, with what
+    the list of windows says of it. The record is a text."""
     day, lines = read_day(script, record), record.split("\n")
     if not any(window.entries for window in day.windows):
         replay(script, day, lines)
@@ -202,7 +203,10 @@ def data_block(name: str, data: Facts) -> str:
 def packed_block(name: str, data: Facts) -> str:
     """A block of packed data, which the page unpacks when it is looked at."""
     packed = zlib.compress(json.dumps(data, separators=(",", ":")).encode(), 6)
-    return f'<script type="application/zlib" id="{name}">{base64.b64encode(packed).decode()}</script>\n'
+    return (
+        '<script type="application/zlib" '
+        f'id="{name}">{base64.b64encode(packed).decode()}</script>\n'
+    )
 
 
 def with_columns(window: Facts) -> Facts:
@@ -221,7 +225,8 @@ def part_text(name: str) -> str:
 
 
 def page_of(script: Script, record: str, title: str, choice: Choice = Choice()) -> str:
-    """The page of a day, from its script as it is read and the text of its record. A large day is packed. Raises `Unread`."""
+    """The page of a day, from its script as it is read and the text of its record. A large day is
+    packed. Raises `Unread`."""
     day, windows = day_told(script, record, title, choice)
     is_large = len(record) > PLAIN_UP_TO
     explorer, summaries, blocks = Explorer(script), list[Facts](), list[str]()

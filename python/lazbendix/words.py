@@ -32,8 +32,10 @@ DAY_EXAMPLES = {
     "rooms": ["lazbendix rooms day.json"],
 }
 RECORD_HELP = "its record, a file or -; where none is named, the day is replayed with its trace"
+ABOUT = "Plays days of a smart home through a proved hub, and shows what came of them."
 STATUSES = (
-    "Ends with 0; 1 where the script is refused, 2 for other words, 3 where a file cannot be read, 4 where nothing can be "
+    "Ends with 0; 1 where the script is refused, 2 for other words, 3 where a file cannot be read, "
+    "4 where nothing can be "
     "written, and as docs/FORMATS.md has it for the rest."
 )
 
@@ -93,13 +95,21 @@ def count(word: str) -> int:
     return int(word)
 
 
-def window_span(word: str) -> tuple[int, int]:
-    """A window's number, or the first and the last one, as 3-7."""
-    first, dash, last = word.partition("-")
-    span = count(first), count(last if dash else first)
-    if span[0] > span[1]:
-        raise argparse.ArgumentTypeError(f'"{word}" ends before it begins')
-    return span
+def span(what: str, least: int) -> Callable[[str], tuple[int, int]]:
+    """A reader of one number, or of a first and a last one, as 3-7."""
+
+    def read(word: str) -> tuple[int, int]:
+        first, dash, last = word.partition("-")
+        numbers = [first, last if dash else first]
+        if not all(it.isascii() and it.isdigit() and int(it) >= least for it in numbers):
+            raise argparse.ArgumentTypeError(
+                f'"{word}" is no {what} from {least} on, and none to another, as 3-7'
+            )
+        if int(numbers[0]) > int(numbers[1]):
+            raise argparse.ArgumentTypeError(f'"{word}" ends before it begins')
+        return int(numbers[0]), int(numbers[1])
+
+    return read
 
 
 def shaped(names: Sequence[str]) -> str:
@@ -113,7 +123,7 @@ class Maker:
         self.acts = acts
         self.top = Reader(
             prog="lazbendix",
-            description="Plays days of a smart home through a proved hub, and shows what came of them.",
+            description=ABOUT,
             epilog="lazbendix COMMAND --help has examples. " + STATUSES,
         )
         self.top.add_argument("--version", action="store_true", help="print the version")
@@ -157,12 +167,16 @@ class Maker:
             action=Once,
             type=one_of("scheduler", SCHEDULERS),
             metavar=shaped(SCHEDULERS),
-            help="fcfs first come first served (the default), jit just in time, timeline; the last two with ev alone",
+            help="fcfs first come first served (the default), jit just in time, timeline; the last "
+            "two with ev alone",
         )
 
     def played(self, name: str) -> None:
         """A command that plays a day through the program."""
-        more = "A comment from // to the end of its line, and $schema, are taken out before the program reads the script."
+        more = (
+            "A comment from // to the end of its line, and $schema, are taken out before the "
+            "program reads the script."
+        )
         made = self.command(name, DAY_ABOUT[name], DAY_EXAMPLES[name], more)
         self.day(made)
         self.mode(made)
@@ -210,7 +224,7 @@ class Maker:
         """Which part of a day is shown."""
         to.add_argument(
             "--window",
-            type=window_span,
+            type=span("window", 1),
             metavar="K[-L]",
             help="the window K alone, or those from K to L",
         )
@@ -227,11 +241,20 @@ class Maker:
         self.judged()
         made = self.command(
             "explain",
-            "report every mistake of a script, with line, column and the nearest name, and what may "
+            "report every mistake of a script, with line, column and the nearest name, and what "
+            "may "
             "surprise",
             ["lazbendix explain day.json", "lazbendix explain --json - < day.json"],
         )
         self.day(made)
+        made.add_argument(
+            "--scheduler",
+            action=Once,
+            type=one_of("scheduler", SCHEDULERS),
+            metavar=shaped(SCHEDULERS),
+            default="fcfs",
+            help="by jit and timeline also what may surprise about leases; fcfs by default",
+        )
         made.add_argument("--json", action="store_true", help="print mistakes and notes as JSON")
         made = self.looked(
             "summary",
@@ -295,9 +318,47 @@ class Maker:
             default="step",
             help="a step is one ms (the default), or the moments of the record",
         )
+        self.compared()
         self.next_day()
         self.others()
         return self.top
+
+    def compared(self) -> None:
+        """The command that compares records, models, schedulers or seeds."""
+        made = self.command(
+            "compare",
+            "compare what came of a day: two records of it, or its replays under models, "
+            "schedulers "
+            "or seeds",
+            [
+                "lazbendix compare --models day.json",
+                "lazbendix compare --seeds 1-5 --model psv day.json",
+                "lazbendix compare day.json monday.record tuesday.record",
+            ],
+            "Of models it ends in the one that suits the home, and why.",
+        )
+        self.day(made, needed=True)
+        made.add_argument(
+            "records",
+            metavar="RECORD",
+            nargs="*",
+            help="records of the day, files or -; two or more",
+        )
+        which = made.add_mutually_exclusive_group()
+        which.add_argument(
+            "--models", action="store_true", help="replay it under ev, psv, gsv and wv"
+        )
+        which.add_argument(
+            "--schedulers", action="store_true", help="replay it under ev by fcfs, jit and timeline"
+        )
+        which.add_argument(
+            "--seeds",
+            type=span("seed", 0),
+            metavar="M-N",
+            help="replay it with each of these seeds in all its windows",
+        )
+        self.mode(made)
+        made.add_argument("--json", action="store_true", help="print the comparison as JSON")
 
     def next_day(self) -> None:
         made = self.looked(

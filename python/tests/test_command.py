@@ -1,5 +1,5 @@
-"""The words of the command: help, versions, files, pipes, terminals and refusals. What is wanted comes from docs/FORMATS.md, the
-examples and their stored records."""
+"""The words of the command: help, versions, files, pipes, terminals and refusals. What is wanted
+comes from docs/FORMATS.md, the examples and their stored records."""
 import json
 import os
 import pty
@@ -12,7 +12,6 @@ import unittest
 sys.path.insert(0, os.path.dirname(os.path.abspath(__file__)))
 
 from places import (
-    EXAMPLES,
     HAS_PROGRAM,
     PYTHON,
     TOP,
@@ -35,6 +34,7 @@ COMMANDS = (
     "check",
     "trial",
     "explain",
+    "compare",
     "summary",
     "view",
     "picture",
@@ -53,8 +53,7 @@ RECORD = example_bytes("one-light.record")
 class Words(unittest.TestCase):
     def test_every_command_has_help_with_examples(self) -> None:
         commands = shells.commands_of(reader())
-        missing = [name for name in COMMANDS if name not in commands and name not in ("compare",)]
-        self.assertEqual(missing, [])
+        self.assertEqual(sorted(commands), sorted(COMMANDS))
         for name, made in commands.items():
             told = made.format_help()
             self.assertIn("usage: lazbendix " + name, told)
@@ -127,8 +126,8 @@ class Words(unittest.TestCase):
         if shutil.which("bash"):
             made = called("completions", "bash").stdout.decode()
             script = (
-                made
-                + "\nCOMP_WORDS=(lazbendix replay --model p); COMP_CWORD=3; _lazbendix; echo ${COMPREPLY[*]}"
+                made + "\nCOMP_WORDS=(lazbendix replay --model p); COMP_CWORD=3; _lazbendix; echo "
+                "${COMPREPLY[*]}"
             )
             told = subprocess.run(["bash", "-c", script], capture_output=True, text=True).stdout
             self.assertEqual(told, "psv\n")
@@ -200,6 +199,7 @@ class Played(unittest.TestCase):
         altered = called("check", LIGHT, "-", data=RECORD.replace(b"lamp=on", b"lamp=off"))
         self.assertEqual((altered.returncode, altered.stdout), (7, b""))
         self.assertEqual(errors(altered).split("\n")[0], "check: window 1 device lamp")
+        self.assertIn("record:6: home lamp=off\n", errors(altered))
         told = called("check", "--json", LIGHT, "-", data=RECORD.replace(b"lamp=on", b"lamp=off"))
         wanted = {
             "agrees": False,

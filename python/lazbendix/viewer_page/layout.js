@@ -29,20 +29,24 @@ class Choice {
     this.onlyAborted = false;
   }
 
-  /** Goes on from one window to the next: the devices stay, and of the runs those of the same routines, or the aborted ones. In the
-   * first window it is what was asked for as the page was made. */
-  goOn(before, window, asked) {
-    if (!before) {
-      this.onlyAborted = asked.aborted;
-      if (asked.run) this.runs.add(asked.run);
-      const device = window.day.devices.findIndex((it) => it.name === asked.device);
-      if (device >= 0) this.devices.add(device);
-    }
-    const routines = new Set([...this.runs].map((run) => before?.run(run)?.routine));
-    if (before) this.runs.clear();
-    const meant = (run) => (this.onlyAborted ? run.end === "aborted" : routines.has(run.routine));
-    for (const run of window.runs) if (meant(run) && before) this.runs.add(run.number);
-    for (const run of window.runs) if (!before && this.onlyAborted && run.end === "aborted") this.runs.add(run.number);
+  /** What was asked for as the page was made. */
+  begin(window, asked) {
+    this.onlyAborted = asked.aborted;
+    if (asked.run) this.runs.add(asked.run);
+    const device = window.day.devices.findIndex((it) => it.name === asked.device);
+    if (device >= 0) this.devices.add(device);
+    if (this.onlyAborted) this.addRuns(window, (run) => run.end === "aborted");
+  }
+
+  /** Goes on from one window to the next: the devices stay, and of the runs those of the same routines, or the aborted ones. */
+  goOn(before, window) {
+    const routines = new Set([...this.runs].map((run) => before.run(run).routine));
+    this.runs.clear();
+    this.addRuns(window, (run) => (this.onlyAborted ? run.end === "aborted" : routines.has(run.routine)));
+  }
+
+  addRuns(window, isMeant) {
+    for (const run of window.runs) if (isMeant(run)) this.runs.add(run.number);
   }
 
   runsOf(window) {

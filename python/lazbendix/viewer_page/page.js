@@ -106,7 +106,8 @@ class Page {
     this.window = this.day.window(number);
     this.words = new Words(this.window);
     this.selected = this.pointed = null;
-    this.choice.goOn(before, this.window, this.day.choice);
+    if (before) this.choice.goOn(before, this.window);
+    else this.choice.begin(this.window, this.day.choice);
     this.step = 0;
     part("window-title").textContent = `Window ${this.window.label} · ${timeOf(this.window.told.title)}`;
     this.windows.show(number);
