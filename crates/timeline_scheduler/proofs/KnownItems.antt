@@ -55,7 +55,7 @@ module _ (w : Setting) (allowed : IsRosterFor (length w.first) w.runs) where
 module _ (parts : WindowParts) (r : ℕ) where
   -- the items of the line are known
   pub all_known : MayPlan parts r → ItemsAreKnown parts.runs (items_of parts.line)
-  all_known (Planning s stands run) at i there =
+  all_known (Planning s stands run timed) at i there =
       subst (λ rs. IsKnown rs i) stands.its_roster
       (known_item s.setting stands.allowed i
       (not_at (is_stray s.setting) (read_of s).line at i (none_strays s.setting (entries_of s.history) stands.well_formed) (ap (λ is. slice_get is at) (sym stands.its_line.items) ∙ there)))
@@ -65,7 +65,7 @@ module _ (parts : WindowParts) (r : ℕ) where
 
   -- each command is on a device of the table
   pub all_homed : MayPlan parts r → RunsAreHomed (length parts.table) parts.runs
-  all_homed (Planning s stands run) x d on =
+  all_homed (Planning s stands run timed) x d on =
       let size = stands.its_table.devices in
       let below = device_within s stands x d (ap (λ rs. touches rs x d) stands.its_roster ∙ on) in
       omega (arith, size, below)

@@ -14,10 +14,12 @@ use Rattle.std.specs.Prelude.{Bool, IsTrue, List, length, ◌≡◌}
 use Rattle.timeline_scheduler.specs.Scratches.{HoldsTimes}
 use Rattle.timeline_scheduler.specs.declared.slots.Slot.{Slot}
 
--- the parts belong to one window, which is not of the weak model, and the run is one of its roster
+-- the parts belong to one window, which is not of the weak model and whose runs are placed by the
+-- timeline, and the run is one of its roster
 pub data MayPlan (parts : WindowParts) (r : RunId) : Type 0 where
   Planning : (s : Configuration) (stands : IsStandingOf s parts)
-      (run : IsTrue (is_run parts.runs r)) → MayPlan parts r
+      (run : IsTrue (is_run parts.runs r)) (timed : scheduler_of s.setting.mode ≡ Timeline)
+      → MayPlan parts r
 
 -- this holds of the window of each configuration to which the parts belong and whose runs are
 -- placed by the timeline

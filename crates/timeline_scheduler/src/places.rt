@@ -16,10 +16,10 @@ use lock_leasing::Standing;
 /// run outside of it is planned to start there. All items are always such a set. The scratch then
 /// holds the set, and the times of that plan.
 ///
-/// The four parts belong to one window, whose model is not the weak one, and `r` is in its roster;
-/// the scratch was opened for the table's number of devices, and for no fewer items than the line
-/// has. Takes no memory, and goes over the line three times, and again each time that the set
-/// grows.
+/// The four parts belong to one window, whose model is not the weak one and whose runs are placed
+/// by the timeline, and `r` is in its roster; the scratch was opened for the table's number of
+/// devices, and for no fewer items than the line has. Takes no memory, and goes over the line three
+/// times, and again each time that the set grows.
 pub fn place(s: &Standing, r: RunNo, moment: u64, scratch: &mut Scratch) -> u32
     requires may { MayPlan s.now r.0 }
     requires room { length scratch.old.slots ≡ length s.now.table }

@@ -8,7 +8,9 @@ use Rattle.std.proofs.Common.{ap, sym, ◌∙◌}
 use Rattle.timeline_scheduler.specs.Placings.{Planning}
 
 pub place-requires-clause-may : goal.place-requires-clause-may
-place-requires-clause-may g c = Planning (configuration_of c.args.self.now) c.standing-standing.ensures (sym (ap (λ runs. is_run runs c.args.r.0) c.standing-standing.ensures.its_roster) ∙ c.requires.run)
+place-requires-clause-may g c =
+    let timed = sym (ap (λ (s : OpenHub g.row.D.Denot). scheduler_of s.setting.mode) c.self.view_is) ∙ sym c.scheduler.ensures ∙ c.in-Timeline.is in
+    Planning (configuration_of c.args.self.now) c.standing-standing.ensures (sym (ap (λ runs. is_run runs c.args.r.0) c.standing-standing.ensures.its_roster) ∙ c.requires.run) timed
 
 pub place-requires-clause-room : goal.place-requires-clause-room
 place-requires-clause-room g c = c.requires.scratch.devices ∙ sym c.standing-standing.ensures.its_table.devices
