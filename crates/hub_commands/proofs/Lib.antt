@@ -33,3 +33,4 @@ mod KeptCalls
 mod AskedRooms
 mod NewRooms
 mod ToldLines
+mod GivenDays

@@ -127,12 +127,14 @@ SplitsEnd script (Check window place name) = ⊥
 SplitsEnd script Disk = ⊥
 SplitsEnd script (Damaged slot) = ⊥
 
--- nothing was worked, and nothing was written
-pub record NothingIsWorked {D : Type 0} (sink : Writes) (windows : Windows)
+-- nothing was worked, and nothing was written; the bench is as it was, so it has built no device,
+-- and none was called
+pub record NothingIsWorked {B D : Type 0} (bench after : B) (sink : Writes) (windows : Windows)
     (devices : Option (Listed D)) : Type 0 where
   pub no_window : windows ≡ []
   pub no_devices : devices ≡ None
   pub unwritten : IsUnwritten sink
+  pub unasked : after ≡ bench
 
 -- the script was read, and its windows were not all split among the rooms, for this fault
 pub record RoomsAreUnsplit (source : Reads) (fault : Option Fault) : Type 0 where
@@ -151,12 +153,13 @@ pub record RoomDayIsWorked {D : Type 0} (earliest latest : Moment) (shows : D �
   pub splits : SplitBefore script (length script.windows.items)
   pub ends : RoomDayEnds earliest latest shows script mode sink windows devices fault
 
--- how the call ends, by the mode that its words ask for, if they are of the command
-abbrev pub RoomCallEnds : {D : Type 0} → Moment → Moment → (D → Shown) → Option Mode → Reads
-    → Writes → Windows → Option (Listed D) → Option Fault → Type 0
-RoomCallEnds earliest latest shows None source sink windows devices fault =
-    WordsAreRefused source fault × NothingIsWorked sink windows devices
-RoomCallEnds earliest latest shows (Some mode) source sink windows devices fault =
+-- how the call ends, by the mode that its words ask for, if they are of the command, and by the
+-- bench before and after it
+abbrev pub RoomCallEnds : {B D : Type 0} → Moment → Moment → (D → Shown) → Option Mode → B → B
+    → Reads → Writes → Windows → Option (Listed D) → Option Fault → Type 0
+RoomCallEnds earliest latest shows None bench after source sink windows devices fault =
+    WordsAreRefused source fault × NothingIsWorked bench after sink windows devices
+RoomCallEnds earliest latest shows (Some mode) bench after source sink windows devices fault =
     ((NoScriptIsRead source fault ⊎ RoomsAreUnsplit source fault)
-    × NothingIsWorked sink windows devices)
+    × NothingIsWorked bench after sink windows devices)
     ⊎ RoomDayIsWorked earliest latest shows mode source sink windows devices fault

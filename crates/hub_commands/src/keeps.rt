@@ -81,6 +81,7 @@ fn keep_script<K: Sink, B: Bench, Q: Disk>(
         script.now options
         (written (K.holds sink.old) (K.holds sink.new) (K.faults sink.old) (K.faults sink.new)) disk
         result.1 result.0.day result.0.fault }
+    ensures unasked { result.0.day ≡ None → bench.new ≡ bench.old }
 {
     match open_journal(alloc, script, disk) {
         Ok(journal) => keep_day(alloc, script, options, journal, sink, bench),
@@ -112,6 +113,8 @@ pub fn keep_command<S: Source, K: Sink, B: Bench, Q: Disk>(
         (S.left source.new) (S.faults source.old) (S.faults source.new))
         (written (K.holds sink.old) (K.holds sink.new) (K.faults sink.old) (K.faults sink.new)) disk
         result.1 result.0.day result.0.fault }
+    // No device is built, so none is called, before a day begins.
+    ensures unasked { result.0.day ≡ None → bench.new ≡ bench.old }
 {
     let options = match read_keep_words(alloc, words) {
         Ok(options) => options,

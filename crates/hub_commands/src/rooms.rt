@@ -85,7 +85,7 @@ fn rooms_of(alloc: Global, script: &Script) -> Result<Rooms, Fault>
 ///
 /// The status tells how the call ended, as that of `run_command` does; and 11, a window has a run
 /// with commands in two rooms, or one that follows a run of another room. All windows are looked at
-/// before one is opened, and nothing is written then.
+/// before a device is built, and nothing is written then.
 pub fn room_command<R: Threads + Wait + Sync, S: Source, K: Sink, B: Bench, C: Clock + Sync>(
     rt: &R,
     alloc: Global,
@@ -99,8 +99,8 @@ where
     B::Dev: Send,
     ensures status { result.status ≡ status_for_fault result.fault }
     ensures ends { RoomCallEnds (C.earliest clock.now) (C.latest clock.now) B.Dev.shows
-        (room_mode_of (map string_bytes words.now)) (read_off (S.left source.old)
-        (S.left source.new) (S.faults source.old) (S.faults source.new))
+        (room_mode_of (map string_bytes words.now)) bench.old bench.new (read_off
+        (S.left source.old) (S.left source.new) (S.faults source.old) (S.faults source.new))
         (written (K.holds sink.old) (K.holds sink.new) (K.faults sink.old) (K.faults sink.new))
         result.windows.items result.devices result.fault }
 {

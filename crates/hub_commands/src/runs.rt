@@ -181,6 +181,8 @@ where
         result.day result.fault }
     ensures probed { result.fault ≡ None → IsProbedInAll B.Dev.shows (read_off (S.left source.old)
         (S.left source.new) (S.faults source.old) (S.faults source.new)) result.day }
+    // No device is built, so none is called, before a day begins.
+    ensures unasked { result.day ≡ None → bench.new ≡ bench.old }
 {
     let options = match read_run_words(alloc, words) {
         Ok(options) => options,

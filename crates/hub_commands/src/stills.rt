@@ -1,5 +1,5 @@
 //! The call for the commands that wait for nobody.
-ghost use Rattle.std.specs.Prelude.{◌≡◌, IsTrue, map, string_bytes};
+ghost use Rattle.std.specs.Prelude.{◌≡◌, IsTrue, None, map, string_bytes};
 ghost use Rattle.hub_commands.specs.Calls.{CallEnds, DayCallEnds};
 ghost use Rattle.hub_commands.specs.CommandsTaken.{still_line_of};
 ghost use Rattle.hub_commands.specs.Days.{plain};
@@ -34,6 +34,7 @@ fn replay_input<S: Source, K: Sink, B: Bench>(
         (S.left source.new) (S.faults source.old) (S.faults source.new))
         (written (K.holds sink.old) (K.holds sink.new) (K.faults sink.old) (K.faults sink.new))
         result.day result.fault }
+    ensures unasked { result.day ≡ None → bench.new ≡ bench.old }
 {
     match read_input(alloc, source) {
         Ok(script) => replay_day(alloc, &script, options, sink, bench),
@@ -68,6 +69,8 @@ pub fn still_command<S: Source, K: Sink, B: Bench>(
         (S.faults source.new))
         (written (K.holds sink.old) (K.holds sink.new) (K.faults sink.old) (K.faults sink.new))
         result.day result.fault }
+    // No device is built, so none is called, where there is no day.
+    ensures unasked { result.day ≡ None → bench.new ≡ bench.old }
 {
     match read_words(alloc, words) {
         Ok(CommandLine::Replay(options)) => replay_input(alloc, options, source, sink, bench),

@@ -1,5 +1,5 @@
 //! The command `trial`: a day that is made of a number is played, and its record is checked.
-ghost use Rattle.std.specs.Prelude.{◌≡◌, ◌≤◌, [], None, Some, false, length};
+ghost use Rattle.std.specs.Prelude.{◌≡◌, ◌≢◌, ◌≤◌, [], None, Some, false, length};
 ghost use Rattle.day_report.specs.Days.{day_text};
 ghost use Rattle.home_types.specs.Limits.{most_windows};
 ghost use Rattle.hub_commands.specs.Finishes.{written};
@@ -67,6 +67,7 @@ fn judge_day<K: Sink, Dev: Device>(
     ensures judged { HasJudged number script.now
         (written (K.holds sink.old) (K.holds sink.new) (K.faults sink.old) (K.faults sink.new))
         day result.day result.fault }
+    ensures given { result.day ≢ None }
 {
     held_day_agrees(script, OPTIONS.mode, OPTIONS.trace, &day.windows);
     let Ok(verdict) = check_record(alloc, script, text) else {
@@ -94,6 +95,7 @@ fn play_script<K: Sink, B: Bench>(
     ensures ends { TrialEnds B.Dev.shows number
         (written (K.holds sink.old) (K.holds sink.new) (K.faults sink.old) (K.faults sink.new))
         result.day result.fault }
+    ensures given { result.day ≢ None }
 {
     let Finish { day, fault, .. } = replay_day(alloc, script, OPTIONS, &mut text, bench);
     match (day, fault) {
@@ -118,6 +120,7 @@ pub fn play_trial<K: Sink, B: Bench>(
     ensures ends { TrialEnds B.Dev.shows number
         (written (K.holds sink.old) (K.holds sink.new) (K.faults sink.old) (K.faults sink.new))
         result.day result.fault }
+    ensures unasked { result.day ≡ None → bench.new ≡ bench.old }
 {
     let room = (u64::from(number) + 1) * WINDOW_BYTES;
     let Ok(text) = BytesSink::new(alloc, room, List::new(alloc), u64::MAX) else {

@@ -216,6 +216,8 @@ where
         result.0.day result.0.fault }
     ensures probed { result.0.fault ≡ None → IsProbedInAll B.Dev.shows (read_off (S.left source.old)
         (S.left source.new) (S.faults source.old) (S.faults source.new)) result.0.day }
+    // No device is built, so none is called, before a day begins.
+    ensures unasked { result.0.day ≡ None → bench.new ≡ bench.old }
     ensures published { IfSome result.1 (λ publisher. IsPublished publisher.list result.0.day) }
     ensures opened { result.0.fault ≡ None → IsSome result.1 }
     ensures unopened { result.1 ≡ None → IsUnwritten
@@ -263,6 +265,8 @@ where
         result.0.day result.0.fault }
     ensures probed { result.0.fault ≡ None → IsProbedInAll B.Dev.shows (read_off (S.left source.old)
         (S.left source.new) (S.faults source.old) (S.faults source.new)) result.0.day }
+    // No device is built, so none is called, before a day begins.
+    ensures unasked { result.0.day ≡ None → bench.new ≡ bench.old }
     ensures published { IfSome result.1 (λ publisher. IsPublished publisher.list result.0.day) }
     ensures opened { result.0.fault ≡ None → IsSome result.1 }
     ensures unopened { result.1 ≡ None → IsUnwritten

@@ -1,6 +1,9 @@
+use Rattle.hub_commands.proofs.GivenDays.{kept_given}
 use Rattle.hub_commands.proofs.KeptCalls.{opened_ends}
 use Rattle.hub_commands.proofs.keeps.keep_script.Goals as goal
+use Rattle.hub_commands.specs.KeptDays.{kept_course}
 use Rattle.hub_commands.specs.Finishes.{IsUnwritten, written}
+use Rattle.hub_commands.specs.Ways.{IsReplayOf}
 use Rattle.std.proofs.Common.{inl, inr, rules}
 
 pub returns-in-Ok-clause-ends : goal.returns-in-Ok-clause-ends
@@ -11,6 +14,14 @@ returns-in-Ok-clause-ends g c =
     inr (opened_ends D.shows Q.told Q.seen Q.images Q.moment Q.images_since Q.faults c.args.script.now c.args.options
     (written (K.holds c.args.sink.now) (K.holds c.keep_day.new.sink) (K.faults c.args.sink.now) (K.faults c.keep_day.new.sink)) c.args.disk c.keep_day.result.1 c.keep_day.result.0.day
     c.in-Ok.journal c.in-Ok.ensures c.keep_day.ensures.durable c.keep_day.result.0.fault c.keep_day.ensures.ends)
+
+pub returns-in-Ok-clause-unasked : goal.returns-in-Ok-clause-unasked
+returns-in-Ok-clause-unasked g c none =
+    let D = g.B.Dev.Device in
+    let K = g.K.Sink in
+    absurd (kept_given IsReplayOf D.shows (kept_course c.in-Ok.journal.kept c.keep_day.ensures.ends.begins) c.args.options
+    (written (K.holds c.args.sink.now) (K.holds c.keep_day.new.sink) (K.faults c.args.sink.now) (K.faults c.keep_day.new.sink))
+    c.keep_day.result.0.day c.keep_day.result.0.fault c.keep_day.ensures.ends.ended.ends none)
 
 pub returns-in-Err-clause-ends : goal.returns-in-Err-clause-ends
 returns-in-Err-clause-ends g c =

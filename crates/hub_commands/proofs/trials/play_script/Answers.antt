@@ -1,8 +1,11 @@
+use Rattle.hub_commands.proofs.GivenDays.{day_given, starved_given}
 use Rattle.hub_commands.proofs.TrialDays.{judged_ends, whole_legal}
 use Rattle.hub_commands.proofs.trials.play_script.Goals as goal
+use Rattle.hub_commands.specs.Days.{new_course, plain}
 use Rattle.hub_commands.specs.Finishes.{written}
 use Rattle.hub_commands.specs.Trials.{trial_mode}
-use Rattle.std.proofs.Common.{None, Some, false, rules, ◌≡◌}
+use Rattle.hub_commands.specs.Ways.{IsReplayOf}
+use Rattle.std.proofs.Common.{None, Some, false, rules, ◌∙◌, ◌≡◌}
 
 pub judge_day-requires-clause-legal : goal.judge_day-requires-clause-legal
 judge_day-requires-clause-legal g c =
@@ -25,3 +28,13 @@ returns-in-Some-None-clause-ends g c =
     (written (K.holds c.args.sink.now) (K.holds judged.new.sink) (K.faults c.args.sink.now) (K.faults judged.new.sink))
     judged.result.day c.replay_day-day.result.day c.replay_day-day.result.fault c.in-Some-None.day judged.result.fault day none c.replay_day-day.ensures.ends
     judged.ensures.agrees judged.ensures.judged
+
+pub returns-clause-given : goal.returns-clause-given
+returns-clause-given g c =
+    let D = g.B.Dev.Device in
+    let replay = c.replay_day-day in
+    let same : replay.result.day ≡ c.in_default-1.day = search rules in
+    starved_given c.in_default-1.day c.starve.result.day c.starve.result.fault c.starve.ensures.starved
+    (λ none. day_given IsReplayOf D.shows plain (new_course c.args.script.now) (record { mode = trial_mode; trace = false })
+    (written (Some c.args.text.held) (Some replay.new.sink.held) c.args.text.faults replay.new.sink.faults)
+    replay.result.day replay.result.fault replay.ensures.ends (same ∙ none))

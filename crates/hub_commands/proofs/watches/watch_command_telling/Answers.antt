@@ -1,7 +1,8 @@
 use Rattle.hub_commands.proofs.AskedModes.{watch_goes}
+use Rattle.hub_commands.proofs.GivenDays.{day_given}
 use Rattle.hub_commands.proofs.ProbedDays.{probed_in_all}
 use Rattle.hub_commands.proofs.watches.watch_command_telling.Goals as goal
-use Rattle.hub_commands.specs.Days.{boarded}
+use Rattle.hub_commands.specs.Days.{boarded, new_course}
 use Rattle.hub_commands.specs.Finishes.{IsUnread, IsUnwritten, read_off, written}
 use Rattle.std.proofs.Common.{Some, inl, map, refl, rules, string_bytes}
 use Rattle.command_words.specs.declared.command_lines.CommandLine.TheVariants.{Watch}
@@ -23,6 +24,14 @@ returns-clause-probed g c none =
     (written (K.holds c.args.sink.now) (K.holds c.watch_day.new.sink) (K.faults c.args.sink.now) (K.faults c.watch_day.new.sink))
     c.watch_day.result.0.day c.watch_day.result.0.fault
     c.in-Ok-read_input.ensures.read c.watch_day.ensures.ends none
+
+pub returns-clause-unasked : goal.returns-clause-unasked
+returns-clause-unasked g c none =
+    let D = g.B.Dev.Device in
+    let K = g.K.Sink in
+    absurd (day_given (IsRunWithin (g.C.Clock.earliest c.args.clock.now) (g.C.Clock.latest c.args.clock.now)) D.shows boarded (new_course c.in-Ok-read_input.script) c.in-Ok.options
+    (written (K.holds c.args.sink.now) (K.holds c.watch_day.new.sink) (K.faults c.args.sink.now) (K.faults c.watch_day.new.sink))
+    c.watch_day.result.0.day c.watch_day.result.0.fault c.watch_day.ensures.ends none)
 
 pub returns-in-Err-NoMemory-clause-ends : goal.returns-in-Err-NoMemory-clause-ends
 returns-in-Err-NoMemory-clause-ends g c =
