@@ -292,7 +292,9 @@ class QuickHub:
 
     def __init__(self, hub: Hub) -> None:
         self.hub, self.history = hub, hub.history
-        self.seen = -1, -1  # the lengths of the line and of the ends when the places were found
+        self.is_stale = (
+            True  # whether the line or the ends have changed since the places were found
+        )
         self.order, self.lives, self.places = list[int](), dict[int, int](), dict[int, int]()
         self.found: dict[int, list[int]] = {}  # of each device its live users
         self.users: dict[int, list[int]] = {}  # of each device the runs that have a command there
@@ -306,11 +308,9 @@ class QuickHub:
             setattr(hub, "overdue", lambda run, device, moment: None)
 
     def find_places(self) -> None:
-        """Finds where the runs stand in the line, where that has changed. Runs end one after
-        another, and between two ends the line grows."""
-        history = self.history
-        if (len(history.line), len(history.ends)) != self.seen:
-            self.seen = len(history.line), len(history.ends)
+        """Finds where the runs stand in the line, where that has changed."""
+        if self.is_stale:
+            history, self.is_stale = self.history, False
             self.places = {
                 item.run: place for place, item in enumerate(history.line) if isinstance(item, Ran)
             }
@@ -326,7 +326,8 @@ class QuickHub:
 
     def live_users(self, device: int) -> list[int]:
         """The live runs that have a command on the device, in the order of the line."""
-        self.find_places()
+        if self.is_stale:
+            self.find_places()
         if device not in self.found:
             users = [run for run in self.users.get(device, ()) if run in self.lives]
             self.found[device] = sorted(users, key=self.lives.__getitem__)
@@ -422,6 +423,8 @@ class Retelling:
                 self.go_on(run, c)
             case Undid(run, _, _):
                 runs.add(run)
+        if isinstance(entry, Placed | Ended | Fell | Rose):
+            self.quick.is_stale = True
         if isinstance(entry, Placed | Doomed | Ended):
             runs.add(entry.run)
             devices.update(self.hub.runs[entry.run].footprint)

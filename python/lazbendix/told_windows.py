@@ -88,6 +88,7 @@ class HistoryTeller:
         self.line: list[Item] = []
         self.steps_of: dict[int, list[int]] = {run: [] for run in self.hub.runs}
         self.waits_of: dict[int, list[Wait]] = {}
+        self.have: dict[int, set[int]] = {}  # of each device that was met who has it
         self.has_leases = day.mode.scheduler != "fcfs"
         self.met: set[int] = set()  # devices, since holdings were told
         self.downs, self.values = Stretches[int, bool](), Stretches[int, str]()
@@ -171,9 +172,8 @@ class HistoryTeller:
             return {}
         before, self.line = self.line, list(self.history.line)
         if len(self.line) < len(before):
-            return {
-                "outOf": next(place for place, item in enumerate(before) if item not in self.line)
-            }
+            stays = set(map(id, self.line))
+            return {"outOf": next(at for at, item in enumerate(before) if id(item) not in stays)}
         same = next(
             (place for place, pair in enumerate(zip(before, self.line)) if pair[0] is not pair[1]),
             len(before),
@@ -252,9 +252,11 @@ class HistoryTeller:
                 lease.borrower: (lease.lenders, lease.deadline)
                 for lease in leases_on(self.hub, self.again.quick, device)
             }
-            for run in self.again.quick.users.get(device, ()):
-                self.holds.tell((device, run), step, run in have or None)
-                if self.has_leases:
+            before, self.have[device] = self.have.get(device, set()), set(have)
+            for run in sorted(before ^ self.have[device]):
+                self.holds.tell((device, run), step, run in self.have[device] or None)
+            if self.has_leases:
+                for run in self.again.quick.users.get(device, ()):
                     self.leases.tell((device, run), step, leases.get(run))
         self.met = set()
 
