@@ -3,8 +3,6 @@
 
 pub mod answers;
 pub mod devices;
-#[cfg(test)]
-mod tests;
 
 pub use answers::{hand_in, may_tell};
 pub use devices::{HandedBench, HandedDevice};
