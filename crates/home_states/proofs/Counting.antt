@@ -166,7 +166,7 @@ at_home : (s : OpenHub HandedDevice) (d : ℕ) (device : HandedDevice) → slice
 at_home s d device home = rw home refl
 
 any_slip : Slip
-any_slip = record { ticket = 0; device = device_no 0; maker = 0; stood = 0; turns = 0; probes = 0; faults = 0 }
+any_slip = record { ticket = 0; device = device_no 0; maker = 0; stood = 0; turns = 0; drives = 0; probes = 0; faults = 0 }
 
 -- a step that hands nothing out
 answered : (s t : OpenHub HandedDevice) (r m : ℕ) (made : List Entry) (choice : Choice) → Answers s r m choice t → after_choice (at_moment (configuration_of s) m) r choice ≡ with_entries (at_moment (configuration_of s) m) r made

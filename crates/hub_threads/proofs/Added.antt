@@ -74,7 +74,7 @@ took_adds s t r m slip choice step =
     }
 
 pub some_slip : Slip
-some_slip = record { ticket = 0; device = record { 0 = 0 }; maker = 0; stood = 0; turns = 0; probes = 0; faults = 0 }
+some_slip = record { ticket = 0; device = record { 0 = 0 }; maker = 0; stood = 0; turns = 0; drives = 0; probes = 0; faults = 0 }
 
 pub turn_adds : {D : Type 0} (s t : OpenHub D) (r m : ℕ) (turn : Turn D) → IsTurn s r m turn t → Adds s r (entries_told turn) (max s.moment m) t
 turn_adds s t r m (Go grip) is = took_adds s t r m grip.slip (HandsOut grip.slip.device.0 is.purpose) is.step

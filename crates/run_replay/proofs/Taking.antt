@@ -86,7 +86,7 @@ pub record IsAnswered {D : Type 0} (s t : PlayerState D) (r : ℕ) (choice : Cho
   pub moves : t.moves ≡ s.moves
 
 pub some_slip : Slip
-some_slip = record { ticket = 0; device = record { 0 = 0 }; maker = 0; stood = 0; turns = 0; probes = 0; faults = 0 }
+some_slip = record { ticket = 0; device = record { 0 = 0 }; maker = 0; stood = 0; turns = 0; drives = 0; probes = 0; faults = 0 }
 
 pub chosen : {D : Type 0} (s t : PlayerState D) (r : ℕ) (choice : Choice) → Answers s.hub r s.hub.moment choice t.hub → choice ≡ choice_of (configuration_of s.hub) r s.hub.moment
 chosen s t r choice answers = took_choice (hub_state_of s.hub) (hub_state_of t.hub) r s.hub.moment some_slip choice (answers.step some_slip)
