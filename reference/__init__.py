@@ -1,6 +1,6 @@
 """The rules of this repository once more, as a program of Python's standard library alone. README.md beside it says more.
 
-The folder is the package `lazbendix.reference`, to which a link leads in python/lazbendix. At the top of the repository it is also
+The folder has the modules of the package `lazbendix.reference`, which looks for them here. At the top of the repository it is also
 `reference`: the names are passed on, so that each module is there once.
 """
 import importlib

@@ -1,4 +1,5 @@
 """The version, and what is installed here."""
+import importlib.metadata
 import importlib.util
 import os
 import platform
@@ -7,7 +8,8 @@ import shutil
 from lazbendix.program import NoProgram, found_program, kept_call
 from lazbendix.reference.calls import BytesSink, BytesSource, Call
 
-HERE = os.path.dirname(os.path.abspath(__file__))
+# in a checkout, the version of the whole
+VERSION = os.path.join(os.path.dirname(os.path.abspath(__file__)), "..", "..", "VERSION")
 CHROMIUMS = ("chromium", "chromium-browser", "google-chrome")
 DAY = b"""{"safehome": 2,
  "devices": [{"name": "lamp", "states": ["off", "on"], "start": "off", "down": [[2, 3]]}],
@@ -21,7 +23,9 @@ DAY = b"""{"safehome": 2,
 
 def version() -> str:
     """The version of the package."""
-    with open(os.path.join(HERE, "VERSION"), encoding="utf-8") as file:
+    if not os.path.isfile(VERSION):
+        return importlib.metadata.version("lazbendix")
+    with open(VERSION, encoding="utf-8") as file:
         return file.read().strip()
 
 

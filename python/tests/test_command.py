@@ -232,7 +232,10 @@ class Played(unittest.TestCase):
     def test_the_reference_plays_where_no_program_is(self) -> None:
         """The package is copied, so that none is beside it, and none is on the path."""
         with tempfile.TemporaryDirectory() as folder:
-            shutil.copytree(os.path.join(PYTHON, "lazbendix"), os.path.join(folder, "lazbendix"))
+            package = os.path.join(folder, "lazbendix")
+            shutil.copytree(os.path.join(PYTHON, "lazbendix"), package)
+            reference = os.path.join(PYTHON, "..", "reference")
+            shutil.copytree(reference, os.path.join(package, "reference"), dirs_exist_ok=True)
             variables = {"PYTHONPATH": folder, "PATH": "/nowhere"}
             call = called("replay", LIGHT, env=variables, cwd=folder)
         self.assertEqual((call.returncode, call.stdout), (0, RECORD))
