@@ -5,9 +5,8 @@
 
 The gate leaves each crate's library in out/ without the mark by which rt's other commands know that it is of the text that
 stands, and they would prove each once more. This sets the marks of the libraries below lazbendix_c. It is for the moment behind
-a gate that passed, and that began without libraries in out/ (.ci/run removes them), since rt puts back at the gate's end what
-stood there before. A library that is not there, or has a mark of an older text, is left to rt, and with it those above it:
-`rt lib` proves them once more.
+a gate that passed. Where earlier commands left libraries in out/, rt puts these back at the gate's end: one that is of the text
+that stands is taken, and what is older, or is not there, is left to `rt lib`, which proves it once more with those above it.
 
 It wants Python 3, and `rt` on the path.
 """

@@ -6,7 +6,6 @@ use Rattle.device_gate.specs.declared.gates.Place.{Place}
 use Rattle.device_gate.specs.declared.grips.Done.{Done}
 use Rattle.device_gate.specs.declared.grips.Ready.{Ready}
 use Rattle.device_gate.specs.declared.slips.Slip.{Slip}
-use Rattle.device_gate.specs.declared.slips.Task.{Task}
 use Rattle.device_gate.specs.declared.slips.Told.TheVariants.{Died, Sensed, Worked}
 use Rattle.device_gate.specs.declared.slips.Told.{Told}
 use Rattle.command_rules.specs.Rosters.{device_no}
@@ -20,14 +19,12 @@ use Rattle.home_states.specs.Tickets.{CallsAreFew, WindowTickets, least_entries,
 use Rattle.hub_core.proofs.Cited.{decide_is, gave_back, gave_probe_back, length_with, took_after, took_choice, took_probe}
 use Rattle.hub_core.specs.HubCalls.{Answers, IsGiven, IsOpened, IsProbeGiven, IsProbed, IsTurn}
 use Rattle.hub_core.specs.Homes.{HomeState}
-use Rattle.hub_core.specs.HubSteps.{CallAnswer, Carried, Chose, Gave, HubState, HubStep, Returned, Take, give_if, is_kept, same_carried}
+use Rattle.hub_core.specs.HubSteps.{CallAnswer, Carried, Gave, HubState, Returned, give_if, is_kept, same_carried}
 use Rattle.hub_core.specs.OpenHubs.{OpenHub, carried_in, configuration_of, hub_state_of}
 use Rattle.hub_core.specs.Openings.{MayOpen}
-use Rattle.hub_core.specs.Steps.{Absent as IsAbsent, Choice, HandsOut, Moves, Over as IsOver, Waits, after_choice, after_give, after_take, after_take_probe, at_moment, choice_of, give_entries, may_probe, probe_grip, opened, with_entries, with_grip}
+use Rattle.hub_core.specs.Steps.{Absent as IsAbsent, Choice, HandsOut, Moves, Over as IsOver, Waits, after_choice, after_give, after_take_probe, at_moment, choice_of, give_entries, may_probe, probe_grip, opened, with_entries, with_grip}
 use Rattle.hub_core.specs.declared.turns.Turn.TheVariants.{Absent, Go, Moved, Over, Wait}
 use Rattle.hub_core.specs.declared.turns.Turn.{Turn}
-use Rattle.hub_core.specs.declared.waits.Why.{Why}
-use Rattle.hub_table.specs.Answers.{HasComeBack}
 use Rattle.hub_table.specs.Tables.{IsBack}
 use Rattle.lock_leasing.specs.Configurations.{Configuration, Grip, is_out, read_of}
 use Rattle.lock_leasing.specs.declared.purposes.Purpose.TheVariants.{Commands, Probes, Undoes}
@@ -37,7 +34,7 @@ use Rattle.std.proofs.Common.{ap, arith, inl, inr, refl, rules, subst, sym, ◌�
 use Rattle.std.proofs.lemmas.Grind.{common_steps}
 use Rattle.std.proofs.lemmas.List.{length-map}
 use Rattle.std.proofs.lemmas.Option.{slice_get_within}
-use Rattle.std.specs.Prelude.{Bool, List, None, Ok, Option, Some, [], false, if◌then◌else◌, is_some, length, max, nat_lt, not, option_map, slice_get, slice_set, suc, true, unwrap_or, zero, ℕ, ⊤, ◌&&◌, ◌*◌, ◌+◌, ◌-◌, ◌<◌, ◌==◌, ◌≡◌, ◌≢◌, ◌≤◌}
+use Rattle.std.specs.Prelude.{Bool, List, None, Ok, Option, Some, false, if◌then◌else◌, is_some, length, max, nat_lt, not, option_map, slice_get, suc, true, unwrap_or, zero, ℕ, ⊤, ◌&&◌, ◌*◌, ◌+◌, ◌-◌, ◌<◌, ◌==◌, ◌≡◌, ◌≢◌, ◌≤◌}
 
 -- Sums
 

@@ -1,7 +1,5 @@
 -- The numbers of device calls go on from step to step.
-use Rattle.device_gate.specs.Calls.{may_tell}
 use Rattle.device_gate.specs.Grips.{Gripped}
-use Rattle.device_gate.specs.Places.{all_home, kept_of}
 use Rattle.device_gate.specs.declared.gates.Place.TheVariants.{Home, Out}
 use Rattle.device_gate.specs.declared.gates.Place.{Place}
 use Rattle.device_gate.specs.declared.grips.Done.{Done}
@@ -14,8 +12,7 @@ use Rattle.history_book.specs.declared.entries.Entry.{Entry}
 use Rattle.home_states.proofs.Counting.{back_counted, probe_counted, turn_counted}
 use Rattle.home_states.specs.LiveHomes.{FitsScript, IsCounted, IsLive, LiveState, number_in, tickets_given}
 use Rattle.home_states.specs.Openings.{IsOpenedOn}
-use Rattle.home_states.specs.Steps.{HasNextNumber}
-use Rattle.home_states.specs.Tickets.{CallsAreFew, TicketsAreGiven, TicketsAreLow, WindowTickets, call_told, count_after, numbered, numbered_call, numbered_turn, tickets_in}
+use Rattle.home_states.specs.Tickets.{CallsAreFew, TicketsAreGiven, TicketsAreLow, WindowTickets, call_told, count_after, tickets_in}
 use Rattle.home_states.specs.declared.homes.Phase.TheVariants.{Between, InWindow}
 use Rattle.history_book.specs.Settings.{Setting}
 use Rattle.hub_core.specs.Homes.{HomeState}
@@ -23,18 +20,14 @@ use Rattle.hub_core.specs.HubCalls.{IsProbed, IsTurn, SameWindow}
 use Rattle.hub_core.specs.OpenHubs.{OpenHub, configuration_of}
 use Rattle.hub_core.specs.declared.turns.Turn.TheVariants.{Absent, Go, Moved, Over, Wait}
 use Rattle.hub_core.specs.declared.turns.Turn.{Turn}
-use Rattle.hub_table.specs.Answers.{HasComeBack, refusal, unfit_for}
+use Rattle.hub_table.specs.Answers.{HasComeBack}
 use Rattle.hub_table.specs.Tables.{IsBack, SlipAndTask, lent_by, taken_of}
-use Rattle.hub_table.specs.declared.told.NotTaken.TheVariants.{NotOut}
-use Rattle.hub_table.specs.declared.told.NotTaken.{NotTaken}
-use Rattle.hub_table.specs.declared.told.Taken.TheVariants.{Absent as IsAbsent, Moved as HasMoved, Out as IsOut, Over as IsOver, Waits as IsWaiting}
 use Rattle.hub_table.specs.declared.told.Taken.{Taken}
 use Rattle.lock_leasing.specs.Configurations.{Configuration}
-use Rattle.std.proofs.Common.{ap, arith, inl, inr, refl, rules, subst, sym, ◌∙◌}
-use Rattle.std.proofs.lemmas.Grind.{common_steps}
+use Rattle.std.proofs.Common.{ap, arith, inl, inr, subst, sym, ◌∙◌}
 use Rattle.std.proofs.lemmas.List.{length-set}
 use Rattle.std.proofs.lemmas.Option.{slice_get_within}
-use Rattle.std.specs.Prelude.{Bool, IfSome, List, None, Option, Some, [], false, if◌then◌else◌, length, slice_get, slice_set, suc, true, zero, ℕ, ◌*◌, ◌+◌, ◌-◌, ◌<◌, ◌==◌, ◌^◌, ◌∷◌, ◌≡◌, ◌≢◌, ◌≤◌, ◌⊎◌}
+use Rattle.std.specs.Prelude.{IfSome, List, None, Option, Some, [], false, length, slice_get, slice_set, suc, zero, ℕ, ◌*◌, ◌+◌, ◌<◌, ◌^◌, ◌∷◌, ◌≡◌, ◌≤◌, ◌⊎◌}
 
 -- Tickets of the calls that are out
 
@@ -111,7 +104,7 @@ back_on before hub next done m made was back window =
 -- Live homes
 
 -- what is kept of the window in which a live home is
-pub window_of : (s : LiveState) (k : ℕ) (hub : OpenHub HandedDevice) → IsLive s → s.phase ≡ InWindow k hub → WindowTickets s.tickets_before hub
+window_of : (s : LiveState) (k : ℕ) (hub : OpenHub HandedDevice) → IsLive s → s.phase ≡ InWindow k hub → WindowTickets s.tickets_before hub
 window_of s k hub live is = subst (λ p. TicketsAreLow s.tickets_before p) is live.tickets
 
 live_on : (s : LiveState) (k : ℕ) (hub next : OpenHub HandedDevice) → IsLive s → s.phase ≡ InWindow k hub → SameWindow hub next → WindowTickets s.tickets_before next → IsLive (record s { phase = InWindow k next })
@@ -123,11 +116,11 @@ live_on s k hub next live is window tickets = record {
   tickets = tickets;
 }
 
-pub given_in : (s : LiveState) (k : ℕ) (hub : OpenHub HandedDevice) → s.phase ≡ InWindow k hub → tickets_given s ≡ s.tickets_before + hub.tickets
+given_in : (s : LiveState) (k : ℕ) (hub : OpenHub HandedDevice) → s.phase ≡ InWindow k hub → tickets_given s ≡ s.tickets_before + hub.tickets
 given_in s k hub is = ap (λ p. s.tickets_before + tickets_in p) is
 
 -- a call that goes out, or none: how many were handed out then, and now
-abbrev pub IsNext : ℕ → ℕ → Option SlipAndTask → Type 0
+abbrev IsNext : ℕ → ℕ → Option SlipAndTask → Type 0
 IsNext was now None = now ≡ was
 IsNext was now (Some out) = (out.0.ticket ≡ was + 1) × (now ≡ was + 1)
 
@@ -153,23 +146,6 @@ next_few before was now (Some out) next few low = omega (arith, next.0, next.1, 
 before_low : (before : ℕ) (hub : OpenHub HandedDevice) → WindowTickets before hub → before < 2 ^ 48
 before_low before hub was = omega (arith, was.before_low, was.few_windows)
 
--- the number told is the home's next one
-next_number : (inside s : LiveState) (k : ℕ) (hub next : OpenHub HandedDevice) (call : Option SlipAndTask) → inside ≡ s → inside.phase ≡ InWindow k hub → IsNext hub.tickets next.tickets call
-    → HasNextNumber s (numbered_call inside.tickets_before call) (record inside { phase = InWindow k next })
-next_number inside s k hub next call seen is step =
-    subst (λ (x : LiveState). HasNextNumber x (numbered_call inside.tickets_before call) (record inside { phase = InWindow k next })) seen (by_call call step)
-  where
-    by_call : (call : Option SlipAndTask) → IsNext hub.tickets next.tickets call → HasNextNumber inside (numbered_call inside.tickets_before call) (record inside { phase = InWindow k next })
-    by_call None step = let was = given_in inside k hub is in omega (arith, was, step)
-    by_call (Some out) step = let was = given_in inside k hub is in (omega (arith, was, step.0), omega (arith, was, step.1))
-
-call_of_turn : (before : ℕ) (taken : Taken) → call_told (numbered_turn before taken) ≡ numbered_call before (call_told taken)
-call_of_turn before (IsOut slip task) = refl
-call_of_turn before (HasMoved made) = refl
-call_of_turn before (IsWaiting why) = refl
-call_of_turn before (IsOver end made) = refl
-call_of_turn before IsAbsent = refl
-
 -- A step of a run
 
 pub turn_few : (s : LiveState) (k : ℕ) (hub next : OpenHub HandedDevice) (r m : ℕ) (turn : Turn HandedDevice) (taken : Taken) → IsLive s → s.phase ≡ InWindow k hub → IsTurn hub r m turn next → SameWindow hub next
@@ -186,13 +162,6 @@ turn_counted_on s tickets now k hub next r m turn taken counted is step window t
   count = count ∙ ap (λ (x : Taken). count_after tickets s.tickets_before (call_told x)) told ∙ next_count s.tickets_before tickets hub.tickets next.tickets (call_told (taken_of turn)) (counted.count ∙ given_in s k hub is) (turn_next hub next r m turn step);
 }
 
-pub turn_number : (inside s : LiveState) (k : ℕ) (hub next : OpenHub HandedDevice) (r m : ℕ) (turn : Turn HandedDevice) (taken shown : Taken) → inside ≡ s → inside.phase ≡ InWindow k hub → IsTurn hub r m turn next
-    → taken ≡ taken_of turn → shown ≡ numbered_turn inside.tickets_before taken → HasNextNumber s (call_told shown) (record inside { phase = InWindow k next })
-turn_number inside s k hub next r m turn taken shown seen is step told numbered_so =
-    subst (λ call. HasNextNumber s call (record inside { phase = InWindow k next }))
-    (sym (ap (λ (x : Taken). call_told x) numbered_so ∙ call_of_turn inside.tickets_before taken ∙ ap (λ (x : Taken). numbered_call inside.tickets_before (call_told x)) told))
-    (next_number inside s k hub next (call_told (taken_of turn)) seen is (turn_next hub next r m turn step))
-
 -- A probe
 
 pub probe_few : (s : LiveState) (k : ℕ) (hub next : OpenHub HandedDevice) (d : ℕ) (grip : Option (Gripped HandedDevice Ready)) (call : Option SlipAndTask) → IsLive s → s.phase ≡ InWindow k hub → IsProbed hub d grip next → SameWindow hub next
@@ -208,12 +177,6 @@ probe_counted_on s tickets now k hub next d grip call counted is step window tol
   live = live_on s k hub next counted.live is window (probe_on s.tickets_before hub next d grip (window_of s k hub counted.live is) step window);
   count = count ∙ ap (λ x. count_after tickets s.tickets_before x) told ∙ next_count s.tickets_before tickets hub.tickets next.tickets (lent_by grip) (counted.count ∙ given_in s k hub is) (probe_next hub next d grip step);
 }
-
-pub probe_number : (inside s : LiveState) (k : ℕ) (hub next : OpenHub HandedDevice) (d : ℕ) (grip : Option (Gripped HandedDevice Ready)) (call shown : Option SlipAndTask) → inside ≡ s → inside.phase ≡ InWindow k hub → IsProbed hub d grip next
-    → call ≡ lent_by grip → shown ≡ numbered_call inside.tickets_before call → HasNextNumber s shown (record inside { phase = InWindow k next })
-probe_number inside s k hub next d grip call shown seen is step told numbered_so =
-    subst (λ x. HasNextNumber s x (record inside { phase = InWindow k next })) (sym (numbered_so ∙ ap (λ x. numbered_call inside.tickets_before x) told))
-    (next_number inside s k hub next (lent_by grip) seen is (probe_next hub next d grip step))
 
 -- An answer
 
@@ -241,30 +204,3 @@ opened_counted_on s tickets k home hub counted is on numbers = record {
   };
   count = (let was = counted.count ∙ ap (λ p. s.tickets_before + tickets_in p) is in omega (arith, was, on.opened.tickets));
 }
-
--- the number is of a call of the window, so it is refused as the window refuses it
-same_test : (before n ticket : ℕ) → before ≤ ticket → (before + n == ticket) ≡ (n == ticket - before)
-same_test before n ticket low = grind (arith, common_steps, low)
-
-pub same_refusal : (before ticket : ℕ) (told : Told) (out : Option SlipAndTask) → before ≤ ticket → refusal (numbered_call before out) ticket told ≡ refusal out (ticket - before) told
-same_refusal before ticket told None low = refl
-same_refusal before ticket told (Some out) low =
-    ap (λ b. if b then (if may_tell out.1 out.0.stood told then None else Some (unfit_for out.1 told)) else Some NotOut) (same_test before out.0.ticket ticket low)
-
--- .. and else it is not out
-pub not_given : (before : ℕ) (hub : OpenHub HandedDevice) (d ticket : ℕ) (told : Told) → TicketsAreGiven hub.places hub.tickets → (ticket ≤ before) ⊎ (before + hub.tickets < ticket)
-    → refusal (numbered_call before (kept_of (slice_get hub.places d))) ticket told ≡ Some NotOut
-not_given before hub d ticket told given other = by_place (slice_get hub.places d) refl
-  where
-    by_test : (b : Bool) (rest : Option NotTaken) → b ≡ false → (if b then rest else Some NotOut) ≡ Some NotOut
-    by_test true rest is = absurd (cc)
-    by_test false rest is = refl
-
-    by_place : (p : Option (Place HandedDevice)) → slice_get hub.places d ≡ p → refusal (numbered_call before (kept_of p)) ticket told ≡ Some NotOut
-    by_place None at = refl
-    by_place (Some (Home device)) at = refl
-    by_place (Some (Out slip task)) at =
-        let own = given d slip task at in
-        let apart : before + slip.ticket ≢ ticket = λ same. absurd (elim other [ inl low ↦ omega (arith, own.0, low, same) | inr high ↦ omega (arith, own.1, high, same) ]) in
-        let test : (before + slip.ticket == ticket) ≡ false = grind (arith, common_steps, apart) in
-        by_test (before + slip.ticket == ticket) _ test
