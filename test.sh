@@ -47,6 +47,7 @@ else
     say "jsonschema is not there: the schema of scripts is not tried"
 fi
 tries "an example, by the reference" python3 reference/tables.py examples
+tries "the command lazbendix" sh python/test.sh
 
 say "building the library, the programs and the tests, unproved"
 python3 tools/unproved_build.py "$room" || fail "it was not built"
