@@ -1,10 +1,10 @@
 //! Days that are kept on a disk in memory: a stored one, and one of three windows, each call of
 //! whose disk fails in turn. The outcomes are those of `reference`.
-use crate::runs::{LIGHT, owned};
-use day_clock::{BytesSink, BytesSource};
+use crate::runs::{LIGHT, streams};
+use day_clock::BytesSink;
 use device_states::SimBench;
 use home_journal::MemoryDisk;
-use home_types::{Bytes, List, NoMemory};
+use home_types::{Bytes, NoMemory};
 use hub_commands::{Fault, keep_command};
 use std::alloc::Global;
 use std::test::*;
@@ -81,11 +81,16 @@ fn disk_of(alloc: Global, bytes: &[u8], fails_from: Option<u64>) -> Result<Memor
 
 /// Keeps the day of this script on the disk.
 fn keep(alloc: Global, script: &str, disk: MemoryDisk) -> Result<Kept, NoMemory> {
-    let words = owned(alloc, &["keep"])?;
-    let input = Bytes::of(alloc, script.as_bytes())?;
-    let mut source = BytesSource::new(input, List::new(alloc), 4096);
-    let mut sink = BytesSink::new(alloc, 4096, List::new(alloc), 4096)?;
+    let (words, mut source, mut sink) = match streams(alloc, &["keep"], script, 4096) {
+        Ok(all) => all,
+        Err(fault) => {
+            drop(disk);
+            return Err(fault);
+        }
+    };
     let (finish, disk) = keep_command(alloc, &words, &mut source, &mut sink, &mut SimBench, disk);
+    drop(words);
+    drop(source);
     let status = finish.status;
     let closed = match &finish.day {
         Some(day) => day.windows.len(),
@@ -93,13 +98,20 @@ fn keep(alloc: Global, script: &str, disk: MemoryDisk) -> Result<Kept, NoMemory>
     };
     let fault = text_of(alloc, &finish.fault);
     drop(finish);
-    Ok(Kept {
-        status,
-        closed,
-        fault: fault?,
-        sink,
-        disk,
-    })
+    match fault {
+        Ok(fault) => Ok(Kept {
+            status,
+            closed,
+            fault,
+            sink,
+            disk,
+        }),
+        Err(refused) => {
+            drop(sink);
+            drop(disk);
+            Err(refused)
+        }
+    }
 }
 
 /// The text of the fault, empty where there is none.
@@ -193,6 +205,7 @@ fn a_kept_day_goes_on_behind_its_window(rt: HostRuntime) {
     let again = keep(rt.alloc(), LIGHT, disk).expect(&rt, "memory");
     assert_eq!(rt; (again.status, again.closed), (0, 0));
     assert_eq!(rt; is_light(rt.alloc(), again.sink.held(), 1), Ok(true));
+    drop(again);
 }
 
 #[test]
@@ -202,6 +215,7 @@ fn a_damaged_journal_is_told(rt: HostRuntime) {
     assert_eq!(rt; ended.status, 10);
     assert_eq!(rt; ended.fault.as_str(), "damaged 1");
     assert!(rt; ended.sink.held().is_empty());
+    drop(ended);
 }
 
 /// Each call of the disk fails in turn: the sync, the length, a write and a sync of the opening,

@@ -1,8 +1,8 @@
 //! A day of rooms whose hubs work at once.
-use crate::runs::{FirstCall, PlayingBench, Scene, has_line, owned, run};
-use day_clock::{BytesSink, BytesSource, Clock, StdClock};
+use crate::runs::{FirstCall, PlayingBench, Scene, has_line, run, streams};
+use day_clock::{BytesSink, Clock, StdClock};
 use device_states::Bench;
-use home_types::{Bytes, List, NoMemory};
+use home_types::NoMemory;
 use hub_commands::{RoomFinish, room_command};
 use std::alloc::Global;
 use std::sync::Wait;
@@ -71,10 +71,10 @@ fn run_rooms<R: Threads + Wait + Sync, B: Bench, C: Clock + Sync>(
 where
     B::Dev: Send,
 {
-    let words = owned(alloc, &["rooms", "--model", "gsv"])?;
-    let input = Bytes::of(alloc, ROOMS.as_bytes())?;
-    let mut source = BytesSource::new(input, List::new(alloc), 4096);
-    let mut sink = BytesSink::new(alloc, 4096, List::new(alloc), 4096)?;
+    let words = ["rooms", "--model", "gsv"];
+    let (words, mut source, mut sink) = streams(alloc, &words, ROOMS, 4096)?;
     let finish = room_command(rt, alloc, &words, &mut source, &mut sink, bench, clock);
+    drop(words);
+    drop(source);
     Ok((finish, sink))
 }

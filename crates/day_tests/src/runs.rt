@@ -95,9 +95,10 @@ fn two_meet(rt: HostRuntime) {
         ],
         scene: &scene,
     };
-    let (finish, _) = run(&rt, rt.alloc(), &["run"], MEETING, &mut bench, &scene.clock).expect(
+    let (finish, sink) = run(&rt, rt.alloc(), &["run"], MEETING, &mut bench, &scene.clock).expect(
         &rt, "memory",
     );
+    drop(sink);
     assert_eq!(rt; finish.status, 0);
     assert!(rt; commits(&finish, RunNo(1)));
     assert!(rt; commits(&finish, RunNo(2)));
@@ -118,9 +119,10 @@ fn a_lease_is_revoked_while_nobody_else_steps(rt: HostRuntime) {
             scene: &scene,
         };
         let words = ["run", "--scheduler", "jit"];
-        let (finish, _) = run(&rt, rt.alloc(), &words, LENDING, &mut bench, &scene.clock).expect(
+        let (finish, sink) = run(&rt, rt.alloc(), &words, LENDING, &mut bench, &scene.clock).expect(
             &rt, "memory",
         );
+        drop(sink);
         assert_eq!(rt; finish.status, 0);
         assert!(rt; commits(&finish, RunNo(3)));
         least = least.min(delay(&finish).unwrap_or(u64::MAX));
@@ -164,16 +166,48 @@ pub fn run<R: Threads + Wait + Sync, B: Bench, C: Clock + Sync>(
 where
     B::Dev: Send,
 {
-    let words = owned(alloc, words)?;
-    let input = Bytes::of(alloc, script.as_bytes())?;
-    let mut source = BytesSource::new(input, List::new(alloc), 4096);
-    let mut sink = BytesSink::new(alloc, 4096, List::new(alloc), 4096)?;
+    let (words, mut source, mut sink) = streams(alloc, words, script, 4096)?;
     let finish = run_command(rt, alloc, &words, &mut source, &mut sink, bench, clock);
+    drop(words);
+    drop(source);
     Ok((finish, sink))
 }
 
+/// These words, a source of this script, and a sink with so much room. Neither of the two fails
+/// before its end.
+pub fn streams(
+    alloc: Global,
+    words: &[&str],
+    script: &str,
+    room: u64,
+) -> Result<(Vec<String>, BytesSource, BytesSink), NoMemory> {
+    let words = owned(alloc, words)?;
+    match open_streams(alloc, script, room) {
+        Ok((source, sink)) => Ok((words, source, sink)),
+        Err(fault) => {
+            drop(words);
+            Err(fault)
+        }
+    }
+}
+
+fn open_streams(
+    alloc: Global,
+    script: &str,
+    room: u64,
+) -> Result<(BytesSource, BytesSink), NoMemory> {
+    let input = Bytes::of(alloc, script.as_bytes())?;
+    match BytesSink::new(alloc, room, List::new(alloc), 4096) {
+        Ok(sink) => Ok((BytesSource::new(input, List::new(alloc), 4096), sink)),
+        Err(fault) => {
+            drop(input);
+            Err(fault)
+        }
+    }
+}
+
 /// These words, as the command line has them.
-pub fn owned(alloc: Global, words: &[&str]) -> Result<Vec<String>, NoMemory> {
+fn owned(alloc: Global, words: &[&str]) -> Result<Vec<String>, NoMemory> {
     let mut all = Vec::new(alloc);
     for word in words {
         let word = String::from_str(alloc, word).map_err(|_| NoMemory)?;

@@ -1,9 +1,9 @@
 //! Days that are watched: a stored one, and some that end early, of which the watcher is told all
 //! the same that they are over. That the calls return is what no clause says.
-use crate::runs::{LIGHT, LIGHT_RECORD, owned};
-use day_clock::{BytesSink, BytesSource, SetClock};
+use crate::runs::{LIGHT, LIGHT_RECORD, streams};
+use day_clock::{BytesSink, SetClock};
 use device_states::{Bench, Device, SimBench, SimDevice};
-use home_types::{Bytes, DeviceNo, List, NoMemory, Value};
+use home_types::{DeviceNo, NoMemory, Value};
 use hub_commands::{Finish, watch_command, watch_command_telling};
 use status_board::{Counts, Publisher, Teller};
 use std::alloc::Global;
@@ -82,10 +82,8 @@ fn a_watched_day_has_the_line_of_its_board(rt: HostRuntime) {
 
 #[test]
 fn a_watched_day_tells_nobody(rt: HostRuntime) {
-    let words = owned(rt.alloc(), &["watch", "--model=ev"]).expect(&rt, "memory");
-    let input = Bytes::of(rt.alloc(), LIGHT.as_bytes()).expect(&rt, "memory");
-    let mut source = BytesSource::new(input, List::new(rt.alloc()), 4096);
-    let mut sink = BytesSink::new(rt.alloc(), 4096, List::new(rt.alloc()), 4096).expect(
+    let words = ["watch", "--model=ev"];
+    let (words, mut source, mut sink) = streams(rt.alloc(), &words, LIGHT, 4096).expect(
         &rt, "memory",
     );
     let clock = SetClock::new(7);
@@ -167,10 +165,7 @@ fn watch<R: Threads + Wait + Sync, B: Bench>(
 where
     B::Dev: Send,
 {
-    let words = owned(alloc, words)?;
-    let input = Bytes::of(alloc, LIGHT.as_bytes())?;
-    let mut source = BytesSource::new(input, List::new(alloc), 4096);
-    let mut sink = BytesSink::new(alloc, room, List::new(alloc), 4096)?;
+    let (words, mut source, mut sink) = streams(alloc, words, LIGHT, room)?;
     let clock = SetClock::new(7);
     let mut told = Told {
         windows: 0,
@@ -187,6 +182,8 @@ where
         &clock,
         &mut told,
     );
+    drop(words);
+    drop(source);
     Ok(Watched {
         finish,
         publisher,
