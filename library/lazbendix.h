@@ -6,7 +6,8 @@
  * output, no clock and no thread inside. What a step does is proved; README.md beside this file says what of it.
  *
  * Every call answers a status. Where it is not LAZBENDIX_DONE, the home is as it was, and so is all that the call would
- * have written; the one exception is the fault of a script that is refused.
+ * have written; the one exception is the fault of a script that is refused. LAZBENDIX_NO_MEMORY is told only where no other
+ * status of the call holds, but by lazbendix_open. A call on a closed handle writes nothing, not to the handle either.
  *
  * Numbers: devices, routines, windows, commands and entries count from 0, runs from 1. Moments are ms from the beginning
  * of the window, by the caller's clock; one that is earlier than the last counts as the last.
@@ -180,7 +181,7 @@ typedef struct lazbendix_counts_told { uint64_t devices, routines, windows; } la
 /* Opening and ending. */
 
 /* Reads the script and opens its home on a closed handle: every device up at its start, no window open. Its windows are
-   opened in this mode. OPEN, MODE, REFUSED (the fault tells why), NO_MEMORY. */
+   opened in this mode. OPEN, MODE, REFUSED (the fault tells why), NO_MEMORY (of any script, since reading takes memory). */
 int32_t lazbendix_open(lazbendix_hub *h, const uint8_t *script, size_t len, uint32_t model, uint32_t scheduler,
                        lazbendix_fault *fault);
 /* Closes the handle and frees all behind it, whatever is open or out. CLOSED. */
@@ -192,13 +193,14 @@ int32_t lazbendix_end(lazbendix_hub *h);
 int32_t lazbendix_window(lazbendix_hub *h, uint32_t number);
 /* Makes the step of the run. NO_WINDOW. */
 int32_t lazbendix_take(lazbendix_hub *h, uint32_t run, uint64_t now, lazbendix_turn *turn);
-/* Hands in what the device told to the call with this ticket: a run's, or a probe's. Tickets count from 1 in each window.
-   NO_WINDOW, NOT_OUT, WRONG, DIFFERS: the device stays out. */
+/* Hands in what the device told to the call with this ticket: a run's, or a probe's. NO_WINDOW, NOT_OUT, WRONG, DIFFERS: the
+   device stays out. No two calls of a home have the same ticket, in whatever window, until it is ended: so an answer that
+   comes late is never one to another call. A home that is opened anew gives tickets from 1 again. */
 int32_t lazbendix_give(lazbendix_hub *h, uint32_t device, uint64_t ticket, uint32_t answer, uint32_t value, uint64_t now,
                        lazbendix_made *made);
 /* Sends a probe to the device: the turn is a GO. NO_WINDOW, NO_PROBE. */
 int32_t lazbendix_probe(lazbendix_hub *h, uint32_t device, lazbendix_turn *turn);
-/* Tells 1 where the run need not be taken: it waits, at every moment, until another step. NO_WINDOW. */
+/* Tells 1 where the run need not be taken: it waits, at every moment, until another step; else 0. NO_WINDOW. */
 int32_t lazbendix_blocked(lazbendix_hub *h, uint32_t run, uint32_t *yes);
 /* Tells what is left to do in the window. NO_WINDOW. */
 int32_t lazbendix_quiet(lazbendix_hub *h, lazbendix_left *left);

@@ -2,8 +2,10 @@
 
        ./fuzz [CALLS [SEED [REFUSED]]]
 
-   Each call has to answer one of its own statuses, and where that is not DONE it may not have written anything. Where
-   REFUSED is not 0, one allocation of so many is refused. In the end no block of memory is left. Link it with
+   Each call has to answer one of its own statuses, and where that is not DONE it may not have written anything; on a
+   closed handle it leaves the handle's bytes too. A call of a device has a ticket above that of each call of its home
+   before it, and no answer is taken but one to a call that is out. Where REFUSED is not 0, one allocation of so many is
+   refused. In the end no block of memory is left. Link it with
    -Wl,--wrap=malloc,--wrap=realloc,--wrap=free. */
 #include "../lazbendix.h"
 #include "home.h"
@@ -16,6 +18,7 @@
 #define MOST_SCRIPT 2048
 #define ROOM 64
 #define STATUSES 19
+#define ANSWERED 64
 
 /* Memory, counted and refused. */
 
@@ -69,7 +72,22 @@ static struct {
 } out, untouched;
 
 static lazbendix_hub hubs[HANDLES];
-static lazbendix_turn last[HANDLES];
+
+/* What is known of the home behind a handle: the ticket that was given last, the call with which each device is out, and
+   calls that were answered, of this home and of those before it. */
+static struct {
+    uint64_t ticket;
+    lazbendix_turn out[DEVICES];
+    int is_out[DEVICES];
+    lazbendix_turn answered[ANSWERED];
+    lazbendix_turn last;
+} known[HANDLES];
+
+/* The device and the ticket of the answer that was drawn. */
+static struct {
+    uint32_t device;
+    uint64_t ticket;
+} given;
 
 /* Arguments: mostly small ones, and those at edges. */
 
@@ -118,12 +136,20 @@ static int32_t begin_window(int h) {
     return lazbendix_begin_window(&hubs[h], (uint8_t *)text, (size_t)len, small() % 128, &out.number);
 }
 
+/* An answer: to the call that went out last, to one that was answered before, or any. */
 static int32_t give(int h) {
-    const lazbendix_turn *turn = &last[h];
-    if (drawn() % 4 == 0)
-        return lazbendix_give(&hubs[h], small(), wide(), small(), small(), wide(), &out.made);
+    const lazbendix_turn *turn = drawn() % 4 ? &known[h].last : &known[h].answered[drawn() % ANSWERED];
     uint32_t answer = drawn() % 8 == 0 ? LAZBENDIX_DEAD : turn->task == LAZBENDIX_SENSE ? LAZBENDIX_FOUND_VALUE : LAZBENDIX_WORKED;
-    return lazbendix_give(&hubs[h], turn->device, turn->ticket, answer, turn->stood, wide(), &out.made);
+    uint32_t value = turn->stood;
+    given.device = turn->device;
+    given.ticket = turn->ticket;
+    if (drawn() % 4 == 0) {
+        given.device = small();
+        given.ticket = wide();
+        answer = small();
+        value = small();
+    }
+    return lazbendix_give(&hubs[h], given.device, given.ticket, answer, value, wide(), &out.made);
 }
 
 enum call {
@@ -211,6 +237,43 @@ static void wrong(uint64_t number, enum call call, int32_t status, const char *w
     exit(1);
 }
 
+/* Notes what the call did, and looks whether it may. */
+static const char *note(enum call call, int h, int32_t status) {
+    uint32_t d = given.device;
+    if (status != LAZBENDIX_DONE)
+        return NULL;
+    switch (call) {
+    case OPEN:
+        known[h].ticket = 0;
+        break;
+    case TAKE:
+    case PROBE:
+        if (out.turn.kind != LAZBENDIX_GO)
+            break;
+        d = out.turn.device;
+        if (out.turn.ticket <= known[h].ticket)
+            return "a ticket is given twice";
+        if (d >= DEVICES || known[h].is_out[d])
+            return "a device goes out that is out";
+        known[h].ticket = out.turn.ticket;
+        known[h].last = known[h].out[d] = out.turn;
+        known[h].is_out[d] = 1;
+        break;
+    case GIVE:
+        if (d >= DEVICES || !known[h].is_out[d] || known[h].out[d].ticket != given.ticket)
+            return "an answer is taken that is none to a call that is out";
+        known[h].answered[drawn() % ANSWERED] = known[h].out[d];
+        known[h].is_out[d] = 0;
+        break;
+    case END:
+        memset(known[h].is_out, 0, sizeof known[h].is_out);
+        break;
+    default:
+        break;
+    }
+    return NULL;
+}
+
 int main(int argc, char **argv) {
     static uint64_t counts[CALLS][STATUSES];
     uint64_t many = argc > 1 ? strtoull(argv[1], NULL, 10) : 100000;
@@ -221,13 +284,18 @@ int main(int argc, char **argv) {
         enum call call = drawn_call();
         int h = (int)(drawn() % HANDLES);
         memcpy(&out, &untouched, sizeof out);
+        uint8_t before[sizeof hubs[h]]; /* to compare alone: a handle is not copied */
+        memcpy(before, &hubs[h], sizeof before);
         int32_t status = make(call, h);
         if (status < 0 || status >= STATUSES || !((calls[call].statuses | BIT(DONE) | BIT(CLOSED)) >> status & 1))
             wrong(i, call, status, "it is no status of this call");
         if (status != LAZBENDIX_DONE && status != LAZBENDIX_REFUSED && memcmp(&out, &untouched, sizeof out) != 0)
             wrong(i, call, status, "it has written");
-        if ((call == TAKE || call == PROBE) && status == LAZBENDIX_DONE && out.turn.kind == LAZBENDIX_GO)
-            last[h] = out.turn;
+        if (status == LAZBENDIX_CLOSED && memcmp(before, &hubs[h], sizeof before) != 0)
+            wrong(i, call, status, "it has written to the handle");
+        const char *fault = note(call, h, status);
+        if (fault)
+            wrong(i, call, status, fault);
         counts[call][status]++;
     }
     for (int h = 0; h < HANDLES; h++)

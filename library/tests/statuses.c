@@ -239,6 +239,7 @@ int main(void) {
     closed();
     memset(&hub, 0x5a, sizeof hub);
     closed();
+    WANT(all_are((const uint8_t *)&hub, sizeof hub, 0x5a));
     openings();
     names();
     between();

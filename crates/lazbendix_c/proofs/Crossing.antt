@@ -1,10 +1,10 @@
--- A handle may go to another thread, since its state and its allocator may.
-use Rattle.lazbendix_c.specs.Owned.{handle_owns}
-use Rattle.lazbendix_c.specs.contracts.handles.Handle as handle
+-- A home's block may go to another thread, since its state and its allocator may.
+use Rattle.lazbendix_c.specs.Owned.{block_owns}
+use Rattle.lazbendix_c.specs.contracts.handles.HomeBlock as home_block
 use Rattle.home_states.specs.LiveHomes.{LiveState}
 use Rattle.home_states.specs.contracts.homes.LiveHome.{the_row}
 use Rattle.std.proofs.Crossing.{frees}
-use Rattle.std.specs.Prelude.{None, Option, Some, ℕ}
+use Rattle.std.specs.Prelude.{None, Option, Some}
 use Rattle.std.specs.declared.alloc.Global.{Global}
 use Rattle.std_alloc.proofs.SendSync.{quiet}
 use base.Fraction.{full_share}
@@ -22,11 +22,11 @@ block_keyless : IsSend the_row → (a : Global) (p : Ptr) (x : LiveState) → Ke
 block_keyless s a (block_ptr b o) x = (part_keyless the_row s full_share x b o, frees.frees a (raw (lone the_row.mir)) (block_ptr b o))
 block_keyless s a null_ptr x = (tt, frees.frees a (raw (lone the_row.mir)) null_ptr)
 
-owned_keyless : IsSend the_row → (mark : ℕ) (at : Ptr) (state : Option LiveState) → Keyless (handle_owns mark at state)
-owned_keyless s mark at None = λ _. tt
-owned_keyless s mark at (Some x) = ((λ _. tt), λ a. block_keyless s a at x)
+owned_keyless : IsSend the_row → (at : Ptr) (state : Option LiveState) → Keyless (block_owns at state)
+owned_keyless s at None = tt
+owned_keyless s at (Some x) = λ a. block_keyless s a at x
 
-pub handle_send : IsSend the_row → IsSend handle.the_row
-handle_send s =
-    let O = handle.the_type in let all : AllSend (fields O) = (search sendable, (search sendable, tt)) in
-    owning_send O all (λ d. owned_keyless s d.mark d.at d.state) (λ k. quiet (to O) (exits_of k (fields O)) ((struct_send (shape O) all).leaving k))
+pub block_send : IsSend the_row → IsSend home_block.the_row
+block_send s =
+    let O = home_block.the_type in let all : AllSend (fields O) = (search sendable, tt) in
+    owning_send O all (λ d. owned_keyless s d.at d.state) (λ k. quiet (to O) (exits_of k (fields O)) ((struct_send (shape O) all).leaving k))

@@ -1,5 +1,5 @@
--- The machine values of a `Held`, and of a handle. Assumes `Logic`.
-use Rattle.std.proofs.Common.{◌≡◌, ℕ, ◌^◌, ◌<◌, List, [], ◌∷◌, ◌++◌, ◌∙◌, lit<, refl, subst, w64}
+-- The machine values of a `Held`, and of a home's block. Assumes `Logic`.
+use Rattle.std.proofs.Common.{◌≡◌, ◌≢◌, ℕ, ◌^◌, ◌<◌, List, [], ◌∷◌, ◌++◌, ◌∙◌, lit<, refl, subst, w64}
 use mathlib.Core.Bool.{Bool, true, false, ◌&&◌}
 use lib.Dec.{T}
 use seplogic.Ra.Ura.{Ura}
@@ -27,7 +27,7 @@ use Rattle.core.proofs.alloc.Calls.{Al, handle_tells}
 use Rattle.core.proofs.cell.Inside.{Good}
 use Rattle.std_alloc.specs.Box.Ownership.{box_owns}
 use Rattle.std_alloc.proofs.ResultValues.{and_tt}
-use Rattle.lazbendix_c.specs.Owned.{handle_owns, open_mark}
+use Rattle.lazbendix_c.specs.Owned.{block_owns}
 use Rattle.lazbendix_c.specs.contracts.handles.HeldBox as held_row
 use Rattle.home_states.specs.LiveHomes.{LiveState}
 use Rattle.home_states.specs.contracts.homes.LiveHome.{the_row}
@@ -69,43 +69,37 @@ module _ (R Z : RattleType) (L : Laws Z) (g : Ghosts Z.Denot) where
         nothing t $ move t (2 ∷ 0 ∷ []) $ fjoin t $ feq_i t (List Val) (vptr b o ∷ []) (vptr b o ∷ []) refl $ fjoin t $ feq_i t (List Val) (v ∷ []) (v ∷ []) refl $ fjoin t $
         fpack t (Valss (RawPtr ∷ Z ∷ [])) (within (shape (held_row.the_type R Z g)) (block_ptr b o, (a, tt)) (v ∷ [])) (vptr b o ∷ [], (h ∷ [], tt)) $ fjoin t $ s)
 
--- A handle's two words
+-- The one word of a home's block
 
-abbrev pub Words : RattleType
-Words = Struct (record { name = []; args = []; types = []; fields = u64 ∷ RawPtr ∷ [] })
+abbrev pub Word : RattleType
+Word = Struct (record { name = []; args = []; types = []; fields = RawPtr ∷ [] })
 
 pub ptr_typed : (p : Ptr) → Good ty_ptr (ptr_val p)
 ptr_typed (block_ptr b o) = (tt, tt)
 ptr_typed null_ptr = (tt, record { fits = lit< tt })
 
-abbrev pub words_val : ℕ → Ptr → Val
-words_val mark at = both (vint w64 mark) (ptr_val at)
+abbrev pub word_val : Ptr → Val
+word_val at = vstruct (vcons (ptr_val at) vnil)
 
-abbrev pub words_own : ℕ → Ptr → List Val → Fml
-words_own mark at = Words.own_val (mark, (at, tt))
+abbrev pub word_own : Ptr → List Val → Fml
+word_own at = Word.own_val (at, tt)
 
-pub words_told : (mark : ℕ) (at : Ptr) (vs : List Val) → shadow (words_own mark at vs) → (vs ≡ words_val mark at ∷ []) × (mark < 2 ^ 64)
-words_told mark at vs s = (s.1.0 ∙ (λ i. vstruct (of_list (s.1.1.0.0 i ++ (s.1.1.1.0 i ++ []))) ∷ []), s.1.1.0.1)
+pub word_told : (at : Ptr) (vs : List Val) → shadow (word_own at vs) → vs ≡ word_val at ∷ []
+word_told at vs s = s.1.0 ∙ (λ i. vstruct (of_list (s.1.1.0 i ++ [])) ∷ [])
 
-pub words_made : {M : Type 1} {𝓤 : Ura M} (𝓛 : Logic 𝓤) (mark : ℕ) (at : Ptr) → mark < 2 ^ 64 → ent 𝓤 (emp 𝓤) (sem 𝓛 (words_own mark at (words_val mark at ∷ [])))
-words_made 𝓛 mark at fits = makes_shadow 𝓛 (words_own mark at (words_val mark at ∷ [])) (λ _. (tt, ((tt, tt), (tt, tt)))) ((vint w64 mark ∷ [], (ptr_val at ∷ [], tt)), (refl, ((refl, fits), (refl, tt))))
+pub word_made : {M : Type 1} {𝓤 : Ura M} (𝓛 : Logic 𝓤) (at : Ptr) → ent 𝓤 (emp 𝓤) (sem 𝓛 (word_own at (word_val at ∷ [])))
+word_made 𝓛 at = makes_shadow 𝓛 (word_own at (word_val at ∷ [])) (λ _. (tt, (tt, tt))) ((ptr_val at ∷ [], tt), (refl, (refl, tt)))
 
-pub words_typed : (mark : ℕ) (at : Ptr) → mark < 2 ^ 64 → Good (ty_struct [] (tcons (ty_int w64) (tcons ty_ptr tnil))) (words_val mark at)
-words_typed mark (block_ptr b o) fits = (tt, (record { fits = fits }, (tt, tt)))
-words_typed mark null_ptr fits = (tt, (record { fits = fits }, (record { fits = lit< tt }, tt)))
+pub word_typed : (at : Ptr) → Good (ty_struct [] (tcons ty_ptr tnil)) (word_val at)
+word_typed (block_ptr b o) = (tt, (tt, tt))
+word_typed null_ptr = (tt, (record { fits = lit< tt }, tt))
 
--- a constant that has no step of its own
-module _ {M : Type 1} {𝓤 : Ura M} {𝓛 : Logic 𝓤} where
-  pub big : {K : Type 0} {Γ : List (Item 𝓤)} {E : Env 𝓤 𝓛.H} → K → (n : ℕ) → n < 2 ^ 64 → Opd K 𝓛 Γ E (int_big w64 n) (vint w64 n)
-  big t n fits = record { go = λ Kt h. via 𝓤 (Kt (vint w64 n)) h (guard_i 𝓤 (Fits w64 n) (Kt (vint w64 n)) (record { fits = fits })) }
-
--- What a handle owns beside its words: nothing where it is closed, and where it is open the block of its state, under the one mark
+-- What a home's block owns beside its word: where there is a state, the block of it
 
 module _ {M : Type 1} {𝓤 : Ura M} {𝓛 : Logic 𝓤} {K : Type 0} {Γ : List (Item 𝓤)} {G : Goal 𝓤 𝓛.H} where
-  pub handle_parts : K → (mark : ℕ) (at : Ptr) (s : Option LiveState)
-      → (s ≡ None → ¬ (mark ≡ open_mark) → Seq K 𝓛 Γ G)
-      → ((b o : ℕ) (x : LiveState) → s ≡ Some x → mark ≡ open_mark → at ≡ block_ptr b o → (a : Global) → Seq K 𝓛 (‵ (box_owns (ghosts.dealloc_token a) the_row (block_ptr b o) x) ∷ Γ) G)
-      → Seq K 𝓛 (‵ (handle_owns mark at s) ∷ Γ) G
-  handle_parts t mark at None shut opened = fpick t (λ is. drop t $ shut refl is)
-  handle_parts t mark at (Some x) shut opened = fsplit t $ fpick t (λ is. drop t $ fpick t (λ a.
-      in_a_block t at (λ p. box_owns (ghosts.dealloc_token a) the_row p x) (fst∗ 𝓤 (never 𝓤) (sem 𝓛 (ghosts.dealloc_token a (bare (lone the_row.mir)) null_ptr))) (λ b o e. opened b o x refl is e a)))
+  pub block_parts : K → (at : Ptr) (s : Option LiveState) → s ≢ None
+      → ((b o : ℕ) (x : LiveState) → s ≡ Some x → at ≡ block_ptr b o → (a : Global) → Seq K 𝓛 (‵ (box_owns (ghosts.dealloc_token a) the_row (block_ptr b o) x) ∷ Γ) G)
+      → Seq K 𝓛 (‵ (block_owns at s) ∷ Γ) G
+  block_parts t at None is opened = absurd (is refl)
+  block_parts t at (Some x) is opened = fpick t (λ a.
+      in_a_block t at (λ p. box_owns (ghosts.dealloc_token a) the_row p x) (fst∗ 𝓤 (never 𝓤) (sem 𝓛 (ghosts.dealloc_token a (bare (lone the_row.mir)) null_ptr))) (λ b o e. opened b o x refl e a))

@@ -3,35 +3,48 @@ use Rattle.home_states.specs.LiveHomes.{BeginsAs, LiveState}
 use Rattle.home_types.specs.declared.modes.Mode.{Mode}
 use Rattle.lazbendix_c.specs.Faults.{fault_of}
 use Rattle.lazbendix_c.specs.Numbers.{mode_of}
+use Rattle.lazbendix_c.specs.declared.handles.Handle.{Handle}
 use Rattle.lazbendix_c.specs.declared.told_faults.ToldFault.{ToldFault}
 use Rattle.routine_reader.specs.Readings.{script_reading}
 use Rattle.routine_reader.specs.declared.faults.ReadFault.{ReadFault}
-use Rattle.std.specs.Prelude.{Err, List, None, Option, Some, ℕ, ◌≡◌}
+use Rattle.std.specs.Prelude.{Err, List, None, Some, pos, ℕ, ℤ, ◌≡◌, ◌≢◌, ◌⊎◌}
+
+-- the handle is closed
+abbrev pub IsClosed : Handle → Type 0
+IsClosed handle = handle.home.state ≡ None
+
+-- a home is behind the handle
+abbrev pub IsOpen : Handle → Type 0
+IsOpen handle = handle.home.state ≢ None
+
+-- the home behind the handle is as it was, or there is none, as there was none
+abbrev pub SameHome : Handle → Handle → Type 0
+SameHome before after = after.home.state ≡ before.home.state
 
 -- the handle was open, and stays open with its home changed so
 pub record Changes (change : LiveState → LiveState → Type 0)
-    (before after : Option LiveState) : Type 0 where
+    (before after : Handle) : Type 0 where
   pub was : LiveState
   pub is : LiveState
-  pub open_before : before ≡ Some was
-  pub open_after : after ≡ Some is
+  pub open_before : before.home.state ≡ Some was
+  pub open_after : after.home.state ≡ Some is
   pub changed : change was is
 
 -- the handle is open on a home of which this is so
-pub record Shows (so : LiveState → Type 0) (handle : Option LiveState) : Type 0 where
+pub record Shows (so : LiveState → Type 0) (handle : Handle) : Type 0 where
   pub home : LiveState
-  pub is_open : handle ≡ Some home
+  pub is_open : handle.home.state ≡ Some home
   pub is_so : so home
 
 -- the handle was closed, and is open on the home of the script in the mode of this model and this
 -- scheduler
 pub record HasOpenedHome (bytes : List ℕ) (model scheduler : ℕ)
-    (before after : Option LiveState) : Type 0 where
+    (before after : Handle) : Type 0 where
   pub mode : Mode
   pub home : LiveState
-  pub was : before ≡ None
+  pub was : IsClosed before
   pub chosen : mode_of model scheduler ≡ Some mode
-  pub is : after ≡ Some home
+  pub is : after.home.state ≡ Some home
   pub begins : BeginsAs bytes mode home
 
 -- the fault tells why the script is refused
@@ -39,3 +52,13 @@ pub record IsRefusal (bytes : List ℕ) (told : ToldFault) : Type 0 where
   pub fault : ReadFault
   pub reading : script_reading bytes ≡ Err fault
   pub told_is : told ≡ fault_of fault
+
+-- why no home is opened: the handle is open, there is no such mode, the script is refused and the
+-- fault tells why, or there is no memory
+abbrev pub IsNoOpening : List ℕ → ℕ → ℕ → Handle → ToldFault → ℤ → Type 0
+IsNoOpening bytes model scheduler handle told status =
+    ((status ≡ pos 2) × (handle.home.state ≢ None))
+    ⊎ ((status ≡ pos 4) × IsClosed handle × (mode_of model scheduler ≡ None))
+    ⊎ ((status ≡ pos 3) × IsClosed handle × (mode_of model scheduler ≢ None)
+    × IsRefusal bytes told)
+    ⊎ ((status ≡ pos 5) × IsClosed handle × (mode_of model scheduler ≢ None))

@@ -1,7 +1,6 @@
--- What a handle owns beside its own bytes: the block of its state where its mark says so, and
--- nothing for any other mark.
-use Rattle.std.specs.Prelude.{◌≡◌, ℕ, Option, None, Some}
-use base.Fml.{Fml, fsep, fex, ftrue}
+-- What a handle owns beside its own bytes: the block of its state where there is one.
+use Rattle.std.specs.Prelude.{ℕ, Option, None, Some}
+use base.Fml.{Fml, fex, ftrue}
 use denote.RawPtr.{Ptr}
 use Rattle.std.specs.Box.Ownership.{box_owns}
 use Rattle.std.specs.declared.alloc.Global.{Global}
@@ -12,10 +11,6 @@ use Rattle.home_states.specs.LiveHomes.{LiveState}
 abbrev pub open_mark : ℕ
 open_mark = 0x6c61_7a62_656e_6469
 
-abbrev pub is : Type 0 → Fml
-is P = fex P (λ _. ftrue)
-
-abbrev pub handle_owns : ℕ → Ptr → Option LiveState → Fml
-handle_owns mark p None = is (¬ (mark ≡ open_mark))
-handle_owns mark p (Some s) =
-    fsep (is (mark ≡ open_mark)) (fex Global (λ a. box_owns (ghosts.dealloc_token a) the_row p s))
+abbrev pub block_owns : Ptr → Option LiveState → Fml
+block_owns p None = ftrue
+block_owns p (Some s) = fex Global (λ a. box_owns (ghosts.dealloc_token a) the_row p s)

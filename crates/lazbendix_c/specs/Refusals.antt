@@ -17,11 +17,15 @@ use Rattle.home_states.specs.declared.refusals.NotRestood.TheVariants.{Absent as
 use Rattle.home_states.specs.declared.refusals.NotRestood.{NotRestood}
 use Rattle.home_states.specs.declared.refusals.NotStanding.TheVariants.{Absent as NoStand, InWindow as StandsInWindow}
 use Rattle.home_states.specs.declared.refusals.NotStanding.{NotStanding}
+use Rattle.home_states.specs.declared.refusals.NotTold.TheVariants.{Absent as NoSubject, NoMemory as NoSpace}
+use Rattle.home_states.specs.declared.refusals.NotTold.{NotTold}
 use Rattle.home_types.specs.declared.numbers.RunNo.{RunNo}
 use Rattle.device_gate.specs.declared.slips.Told.{Told}
 use Rattle.hub_table.specs.declared.told.NotTaken.TheVariants.{Differs, NotOut, OtherKind}
 use Rattle.hub_table.specs.declared.told.NotTaken.{NotTaken}
-use Rattle.std.specs.Prelude.{List, None, Option, pos, ℕ, ℤ, ◌≡◌, ◌⊎◌}
+use Rattle.routine_reader.specs.Spots.{is_memory}
+use Rattle.routine_reader.specs.declared.faults.ReadFault.{ReadFault}
+use Rattle.std.specs.Prelude.{Err, List, None, Ok, Option, Result, Some, if◌then◌else◌, pos, ℕ, ℤ, ◌≡◌, ◌⊎◌}
 
 -- for this reason, which the status tells
 pub record TellsReason {W : Type 0} (status_of : W → ℤ) (is_so : W → Type 0)
@@ -29,6 +33,11 @@ pub record TellsReason {W : Type 0} (status_of : W → ℤ) (is_so : W → Type 
   pub why : W
   pub so : is_so why
   pub told : status ≡ status_of why
+
+-- of a home whose script was read so: done, no memory, or refused
+abbrev pub status_of_opening : Result LiveState ReadFault → ℤ
+status_of_opening (Ok home) = pos 0
+status_of_opening (Err why) = (if is_memory why then pos 5 else pos 3)
 
 abbrev pub opening_status : NotOpened → ℤ
 opening_status InWindow = pos 6
@@ -102,6 +111,18 @@ IsNotAdded s routine follows status =
 abbrev pub IsNotRestood : LiveState → ℕ → ℕ → ℤ → Type 0
 IsNotRestood s d value status =
     TellsReason restanding_status (λ why. MayNotRestand s d value why) status
+
+-- of a text that was asked for, with the status of one that there is not
+abbrev pub telling_status : {A : Type 0} → Result A NotTold → ℤ → ℤ
+telling_status (Ok made) absent = pos 0
+telling_status (Err NoSubject) absent = absent
+telling_status (Err NoSpace) absent = pos 5
+
+-- no text is made: this status where there is nothing of which it would tell, and else there is no
+-- memory
+abbrev pub IsNoText : {A : Type 0} → Option A → ℤ → ℤ → Type 0
+IsNoText None absent status = status ≡ absent
+IsNoText (Some of) absent status = status ≡ pos 5
 
 -- it is not told how the device stands
 abbrev pub IsNotStanding : LiveState → ℕ → ℤ → Type 0

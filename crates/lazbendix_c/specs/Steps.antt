@@ -11,7 +11,10 @@ use Rattle.lazbendix_c.specs.Told.{left_of, made_of, out_turn, turn_of}
 use Rattle.lazbendix_c.specs.declared.told_entries.ToldMade.{ToldMade}
 use Rattle.lazbendix_c.specs.declared.told_turns.ToldLeft.{ToldLeft}
 use Rattle.lazbendix_c.specs.declared.told_turns.ToldTurn.{ToldTurn}
-use Rattle.std.specs.Prelude.{List, Option, Some, ℕ, ◌≡◌, ◌≤◌}
+use Rattle.std.specs.Prelude.{Bool, IsTrue, List, Option, Some, if◌then◌else◌, ℕ, ◌≡◌, ◌≤◌}
+
+abbrev pub one_where : Bool → ℕ
+one_where so = (if so then 1 else 0)
 
 -- the step of the run was made, and this is told of it, with its entries, three at most
 pub record HasStepped (s : LiveState) (run now : ℕ) (told : ToldTurn) (t : LiveState) : Type 0 where
@@ -36,9 +39,12 @@ pub record HasSent (s : LiveState) (device : ℕ) (told : ToldTurn) (t : LiveSta
   pub probed : HasProbed s (device_number device) (Some out) t
   pub told_is : told ≡ out_turn out.0 out.1
 
--- where 1 is told, a window is open and the run waits in it at every moment, until another step
-abbrev pub IsKnownBlocked : LiveState → ℕ → ℕ → Type 0
-IsKnownBlocked s run told = told ≡ 1 → IsBlockedRun s run
+-- 1 is told of a run that is known to be blocked: a window is open, and it waits in it at every
+-- moment, until another step; and 0 of another one
+pub record IsKnownBlocked (s : LiveState) (run told : ℕ) : Type 0 where
+  pub known : Bool
+  pub told_is : told ≡ one_where known
+  pub waits : IsTrue known → IsBlockedRun s run
 
 -- this is told of what is left to do in the window that is open
 pub record HasLeft (s : LiveState) (told : ToldLeft) : Type 0 where

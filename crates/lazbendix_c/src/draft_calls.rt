@@ -1,7 +1,7 @@
 //! Windows of the moment, and devices that others turned.
 ghost use Rattle.std.specs.Prelude.{◌≡◌, ◌≢◌, ◌↔◌, None, pos};
 ghost use Rattle.home_states.specs.Drafts.{HasAddedRun, HasBegunWindow, HasRestood};
-ghost use Rattle.lazbendix_c.specs.Calls.{Changes, Shows};
+ghost use Rattle.lazbendix_c.specs.Calls.{Changes, IsClosed, SameHome, Shows};
 ghost use Rattle.lazbendix_c.specs.Numbers.{device_number, followed};
 ghost use Rattle.lazbendix_c.specs.Refusals.{IsNotAdded, IsNotBegun, IsNotRestood};
 
@@ -23,12 +23,13 @@ pub extern "C" fn lazbendix_begin_window(
     number: &mut u32,
 ) -> i32
     ensures done { result ≡ pos 0
-        → Changes (λ s t. HasBegunWindow s at.now probes number.new t) h.old.state h.new.state }
+        → Changes (λ s t. HasBegunWindow s at.now probes number.new t) h.old h.new }
     ensures refused { result ≢ pos 0 → result ≢ pos 1
-        → Shows (λ s. IsNotBegun s at.now probes result) h.old.state }
-    ensures same { result ≢ pos 0 → h.new.state ≡ h.old.state }
+        → Shows (λ s. IsNotBegun s at.now probes result) h.old }
+    ensures same { result ≢ pos 0 → SameHome h.old h.new }
     ensures untold { result ≢ pos 0 → number.new ≡ number.old }
-    ensures closed { h.old.state ≡ None ↔ result ≡ pos 1 }
+    ensures closed { IsClosed h.old ↔ result ≡ pos 1 }
+    ensures untouched { result ≡ pos 1 → h.new ≡ h.old }
 {
     match h.take(alloc) {
         Some(mut state) => {
@@ -39,7 +40,7 @@ pub extern "C" fn lazbendix_begin_window(
                 }
                 Err(why) => draft_status(why),
             };
-            h.put(alloc, state);
+            h.put(state);
             status
         }
         None => CLOSED,
@@ -59,12 +60,13 @@ pub extern "C" fn lazbendix_add_run(
     run: &mut u32,
 ) -> i32
     ensures done { result ≡ pos 0 → Changes
-        (λ s t. HasAddedRun s routine (followed follows) run.new t) h.old.state h.new.state }
+        (λ s t. HasAddedRun s routine (followed follows) run.new t) h.old h.new }
     ensures refused { result ≢ pos 0 → result ≢ pos 1
-        → Shows (λ s. IsNotAdded s routine (followed follows) result) h.old.state }
-    ensures same { result ≢ pos 0 → h.new.state ≡ h.old.state }
+        → Shows (λ s. IsNotAdded s routine (followed follows) result) h.old }
+    ensures same { result ≢ pos 0 → SameHome h.old h.new }
     ensures untold { result ≢ pos 0 → run.new ≡ run.old }
-    ensures closed { h.old.state ≡ None ↔ result ≡ pos 1 }
+    ensures closed { IsClosed h.old ↔ result ≡ pos 1 }
+    ensures untouched { result ≡ pos 1 → h.new ≡ h.old }
 {
     match h.take(alloc) {
         Some(mut state) => {
@@ -75,7 +77,7 @@ pub extern "C" fn lazbendix_add_run(
                 }
                 Err(why) => draft_status(why),
             };
-            h.put(alloc, state);
+            h.put(state);
             status
         }
         None => CLOSED,
@@ -88,11 +90,12 @@ pub extern "C" fn lazbendix_add_run(
 #[unsafe(no_mangle)]
 pub extern "C" fn lazbendix_restand(alloc: Global, h: &mut Handle, device: u32, value: u32) -> i32
     ensures done { result ≡ pos 0
-        → Changes (λ s t. HasRestood s (device_number device) value t) h.old.state h.new.state }
+        → Changes (λ s t. HasRestood s (device_number device) value t) h.old h.new }
     ensures refused { result ≢ pos 0 → result ≢ pos 1
-        → Shows (λ s. IsNotRestood s (device_number device) value result) h.old.state }
-    ensures same { result ≢ pos 0 → h.new.state ≡ h.old.state }
-    ensures closed { h.old.state ≡ None ↔ result ≡ pos 1 }
+        → Shows (λ s. IsNotRestood s (device_number device) value result) h.old }
+    ensures same { result ≢ pos 0 → SameHome h.old h.new }
+    ensures closed { IsClosed h.old ↔ result ≡ pos 1 }
+    ensures untouched { result ≡ pos 1 → h.new ≡ h.old }
 {
     match h.take(alloc) {
         Some(mut state) => {
@@ -100,7 +103,7 @@ pub extern "C" fn lazbendix_restand(alloc: Global, h: &mut Handle, device: u32, 
                 Ok(()) => DONE,
                 Err(why) => restanding_status(why),
             };
-            h.put(alloc, state);
+            h.put(state);
             status
         }
         None => CLOSED,

@@ -1,9 +1,9 @@
 //! The handle that a C program holds, and the heap block behind it.
-ghost use Rattle.std.specs.Prelude.{◌≡◌, None, Some, IfSome, IfNone};
+ghost use Rattle.std.specs.Prelude.{◌≡◌, ◌≢◌, ◌==◌, None, Some, IfSome, IfNone, IsSome, is_some};
 ghost use Rattle.std.specs.declared.option.Option.{Option};
 ghost use Rattle.std.specs.Coded.{coded_option};
 ghost use Rattle.std.specs.Box.Ownership.{box_owns};
-ghost use Rattle.lazbendix_c.specs.Owned.{handle_owns};
+ghost use Rattle.lazbendix_c.specs.Owned.{block_owns, open_mark};
 ghost use Rattle.home_states.specs.LiveHomes.{LiveState};
 ghost use Rattle.home_states.specs.contracts.homes.LiveHome.{the_row};
 
@@ -42,79 +42,110 @@ impl<T: Drop, A: Allocator> HeldBox<T, A> {
     }
 }
 
-/// What a C program holds of an open state.
+/// The block of a home, or none.
 #[repr(C)]
-pub struct Handle {
-    mark: u64,
+pub struct HomeBlock {
     at: *mut (),
     ghost state: { Option LiveState } by { coded_option (the_row).coded },
 }
 
-impl Model for Handle {
-    ghost also_owns = { λ h. handle_owns h.mark h.at h.state };
+impl Model for HomeBlock {
+    ghost also_owns = { λ b. block_owns b.at b.state };
 }
 
 // It may go to another thread, since its state and its allocator may.
-unsafe impl Send for Handle {}
+unsafe impl Send for HomeBlock {}
 
-impl Handle {
-    /// A handle that is closed.
-    pub(crate) fn closed() -> Handle
+impl HomeBlock {
+    /// No block.
+    fn none() -> HomeBlock
         ensures { result.state ≡ None }
     {
-        Handle {
-            mark: 0,
+        HomeBlock {
             at: ptr::null_mut(),
         }
     }
 
-    /// The handle of this state.
-    pub(crate) fn of(held: HeldBox<LiveHome, Global>) -> Handle
+    /// The block of this state.
+    fn of(held: HeldBox<LiveHome, Global>) -> HomeBlock
         ensures { result.state ≡ Some held.value }
     {
         let HeldBox { at, alloc: _ } = held;
-        Handle {
-            mark: OPEN,
+        HomeBlock {
             at: at as *mut (),
         }
     }
 
-    /// The state of an open handle, `None` of a closed one.
-    pub(crate) fn into_held(self, alloc: Global) -> Option<HeldBox<LiveHome, Global>>
-        ensures open { IfSome result (λ held. self.state ≡ Some held.value) }
-        ensures closed { IfNone result (self.state ≡ None) }
+    /// Lets go of it where there is none.
+    fn leave(self)
+        requires { self.state ≡ None }
     {
-        let Handle { mark, at } = self;
-        if mark == OPEN {
-            Some(HeldBox {
-                at: at as *mut LiveHome,
-                alloc,
-            })
-        } else {
-            None
+        let HomeBlock { at: _ } = self;
+    }
+
+    /// The state in the block.
+    fn into_held(self, alloc: Global) -> HeldBox<LiveHome, Global>
+        requires { self.state ≢ None }
+        ensures { self.state ≡ Some result.value }
+    {
+        let HomeBlock { at } = self;
+        HeldBox {
+            at: at as *mut LiveHome,
+            alloc,
+        }
+    }
+}
+
+/// What a C program holds of an open state.
+#[repr(C)]
+pub struct Handle {
+    mark: u64,
+    home: HomeBlock,
+    ghost agree: { is_some home.state ≡ (mark == open_mark) },
+}
+
+impl Handle {
+    /// A handle that is closed.
+    fn closed() -> Handle
+        ensures { result.home.state ≡ None }
+    {
+        Handle {
+            mark: 0,
+            home: HomeBlock::none(),
         }
     }
 
-    /// Takes the state out of an open handle, and leaves the handle closed.
-    pub(crate) fn take(&mut self, alloc: Global) -> Option<Box<LiveHome>>
-        ensures open { IfSome result (λ taken. self.old.state ≡ Some taken.value) }
-        ensures closed { IfNone result (self.old.state ≡ None) }
-        ensures left { self.new.state ≡ None }
+    /// The handle of this state.
+    fn of(state: Box<LiveHome>) -> Handle
+        ensures { result.home.state ≡ Some state.value }
     {
-        match mem::replace(self, Handle::closed()).into_held(alloc) {
-            Some(held) => Some(held.into_box()),
-            None => None,
+        Handle {
+            mark: OPEN,
+            home: HomeBlock::of(HeldBox::of(state)),
         }
+    }
+
+    /// Takes the state out of an open handle, and leaves the handle closed. A closed one stays as
+    /// it is.
+    pub(crate) fn take(&mut self, alloc: Global) -> Option<Box<LiveHome>>
+        ensures open { IfSome result (λ taken. self.old.home.state ≡ Some taken.value) }
+        ensures left { IfSome result (λ _. self.new.home.state ≡ None) }
+        ensures closed { IfNone result (self.old.home.state ≡ None) }
+        ensures same { IfNone result (self.new ≡ self.old) }
+    {
+        if self.mark != OPEN {
+            return None;
+        }
+        let Handle { mark: _, home } = mem::replace(self, Handle::closed());
+        Some(home.into_held(alloc).into_box())
     }
 
     /// Puts a state into a closed handle.
-    pub(crate) fn put(&mut self, alloc: Global, state: Box<LiveHome>)
-        requires { self.old.state ≡ None }
-        ensures { self.new.state ≡ Some state.value }
+    pub(crate) fn put(&mut self, state: Box<LiveHome>)
+        requires { self.old.home.state ≡ None }
+        ensures { self.new.home.state ≡ Some state.value }
     {
-        match mem::replace(self, Handle::of(HeldBox::of(state))).into_held(alloc) {
-            None => {}
-            Some(_held) => unreachable!(),
-        }
+        let Handle { mark: _, home } = mem::replace(self, Handle::of(state));
+        home.leave();
     }
 }

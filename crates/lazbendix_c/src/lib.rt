@@ -16,7 +16,7 @@ mod told_turns;
 mod window_calls;
 
 pub use draft_calls::{lazbendix_add_run, lazbendix_begin_window, lazbendix_restand};
-pub use handles::Handle;
+pub use handles::{Handle, HomeBlock};
 pub use open_calls::{lazbendix_end, lazbendix_open};
 pub use read_calls::{
     lazbendix_counts, lazbendix_device_name, lazbendix_routine_name, lazbendix_run_count,

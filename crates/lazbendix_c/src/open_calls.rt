@@ -1,16 +1,16 @@
 //! A home is opened behind a handle, and ended.
-ghost use Rattle.std.specs.Prelude.{◌≡◌, ◌≢◌, ◌↔◌, IsTrue, None, Some, pos};
-ghost use Rattle.hub_core.specs.Openings.{is_mode};
-ghost use Rattle.home_states.specs.LiveHomes.{BeginsAs, LiveState};
-ghost use Rattle.lazbendix_c.specs.Calls.{HasOpenedHome, IsRefusal};
+ghost use Rattle.std.specs.Prelude.{◌≡◌, ◌≢◌, ◌↔◌, ◌⊎◌, IfErr, IsOk, None, Ok, Some, pos};
+ghost use Rattle.home_states.specs.LiveHomes.{LiveState};
+ghost use Rattle.lazbendix_c.specs.Calls.{HasOpenedHome, IsClosed, IsNoOpening, IsOpen, SameHome};
+ghost use Rattle.lazbendix_c.specs.Faults.{fault_of};
 ghost use Rattle.lazbendix_c.specs.Numbers.{mode_of};
+ghost use Rattle.lazbendix_c.specs.Refusals.{status_of_opening};
 
 use crate::handles::Handle;
 use crate::numbers::mode_of;
 use crate::statuses::{CLOSED, DONE, MODE, NO_MEMORY, OPEN, REFUSED};
 use crate::told_faults::{ToldFault, fault_of};
 use home_states::LiveHome;
-use home_types::Mode;
 use routine_reader::ReadFault;
 use std::alloc::Global;
 
@@ -18,7 +18,8 @@ use std::alloc::Global;
 /// window open. Its windows are opened in the mode of this model and this scheduler.
 ///
 /// Where the answer is not `DONE` the handle is as it was; where it is `REFUSED` the fault tells
-/// why, and else the fault is as it was.
+/// why, and else the fault is as it was. The script is read in memory, so that `NO_MEMORY` may come
+/// of any script.
 #[unsafe(no_mangle)]
 pub extern "C" fn lazbendix_open(
     alloc: Global,
@@ -28,41 +29,47 @@ pub extern "C" fn lazbendix_open(
     scheduler: u32,
     fault: &mut ToldFault,
 ) -> i32
-    ensures done { result ≡ pos 0
-        → HasOpenedHome script.now model scheduler h.old.state h.new.state }
-    ensures refused { result ≡ pos 3 → IsRefusal script.now fault.new }
-    ensures mode { result ≡ pos 4 → mode_of model scheduler ≡ None }
-    ensures open { h.old.state ≢ None ↔ result ≡ pos 2 }
-    ensures same { result ≢ pos 0 → h.new.state ≡ h.old.state }
+    ensures done { result ≡ pos 0 → HasOpenedHome script.now model scheduler h.old h.new }
+    ensures refused { result ≢ pos 0
+        → IsNoOpening script.now model scheduler h.old fault.new result }
+    ensures mode { IsClosed h.old → mode_of model scheduler ≡ None → result ≡ pos 4 }
+    ensures open { IsOpen h.old ↔ result ≡ pos 2 }
+    ensures same { result ≢ pos 0 → SameHome h.old h.new }
     ensures untold { result ≢ pos 3 → fault.new ≡ fault.old }
 {
     match h.take(alloc) {
         Some(state) => {
-            h.put(alloc, state);
+            h.put(state);
             OPEN
         }
         None => match mode_of(model, scheduler) {
-            Some(mode) => open_in(alloc, h, script, mode, fault),
+            Some(mode) => {
+                let opened = LiveHome::open(alloc, script, mode);
+                open_as(alloc, h, opened, fault)
+            }
             None => MODE,
         },
     }
 }
 
-/// Opens the home of the script in this mode on a closed handle.
-fn open_in(alloc: Global, h: &mut Handle, script: &[u8], mode: Mode, fault: &mut ToldFault) -> i32
-    requires closed { h.old.state ≡ None }
-    requires goes { IsTrue (is_mode mode) }
-    ensures done { result ≡ pos 0
-        → (s : LiveState) × (h.new.state ≡ Some s) × BeginsAs script.now mode s }
-    ensures refused { result ≡ pos 3 → IsRefusal script.now fault.new }
-    ensures same { result ≢ pos 0 → h.new.state ≡ None }
+/// Puts the home that was opened behind a closed handle, or tells why there is none.
+fn open_as(
+    alloc: Global,
+    h: &mut Handle,
+    opened: Result<LiveHome, ReadFault>,
+    fault: &mut ToldFault,
+) -> i32
+    requires closed { IsClosed h.old }
+    ensures done { result ≡ pos 0 → (s : LiveState) × (opened ≡ Ok s) × (h.new.home.state ≡ Some s) }
+    ensures status { result ≡ status_of_opening opened ⊎ (IsOk opened × (result ≡ pos 5)) }
+    ensures refused { IfErr opened (λ why. result ≡ pos 3 → fault.new ≡ fault_of why) }
+    ensures same { result ≢ pos 0 → IsClosed h.new }
     ensures untold { result ≢ pos 3 → fault.new ≡ fault.old }
-    ensures not_open { (result ≢ pos 2) × (result ≢ pos 4) }
 {
-    match LiveHome::open(alloc, script, mode) {
+    match opened {
         Ok(state) => match Box::new(alloc, state) {
             Ok(state) => {
-                h.put(alloc, state);
+                h.put(state);
                 DONE
             }
             Err(_) => NO_MEMORY,
@@ -79,9 +86,10 @@ fn open_in(alloc: Global, h: &mut Handle, script: &[u8], mode: Mode, fault: &mut
 /// closed.
 #[unsafe(no_mangle)]
 pub extern "C" fn lazbendix_end(alloc: Global, h: &mut Handle) -> i32
-    ensures ended { h.new.state ≡ None }
-    ensures done { h.old.state ≢ None → result ≡ pos 0 }
-    ensures closed { h.old.state ≡ None → result ≡ pos 1 }
+    ensures ended { IsClosed h.new }
+    ensures done { IsOpen h.old → result ≡ pos 0 }
+    ensures closed { IsClosed h.old ↔ result ≡ pos 1 }
+    ensures untouched { result ≡ pos 1 → h.new ≡ h.old }
 {
     match h.take(alloc) {
         Some(state) => {

@@ -1,7 +1,7 @@
 //! How a home stands between its windows, and the names and numbers of its script.
 ghost use Rattle.std.specs.Prelude.{◌≡◌, ◌≢◌, ◌↔◌, None, pos};
 ghost use Rattle.home_states.specs.Readings.{run_count, script_device_name, script_routine_name, value_name};
-ghost use Rattle.lazbendix_c.specs.Calls.{Shows};
+ghost use Rattle.lazbendix_c.specs.Calls.{IsClosed, IsOpen, SameHome, Shows};
 ghost use Rattle.lazbendix_c.specs.Numbers.{device_number};
 ghost use Rattle.lazbendix_c.specs.Readings.{AreScriptCounts, HasNamed, IsToldStand};
 ghost use Rattle.lazbendix_c.specs.Refusals.{IsNotStanding};
@@ -20,12 +20,13 @@ pub extern "C" fn lazbendix_stand(
     device: u32,
     stand: &mut ToldStand,
 ) -> i32
-    ensures done { result ≡ pos 0 → Shows (λ s. IsToldStand s device stand.new) h.old.state }
+    ensures done { result ≡ pos 0 → Shows (λ s. IsToldStand s device stand.new) h.old }
     ensures refused { result ≢ pos 0 → result ≢ pos 1
-        → Shows (λ s. IsNotStanding s (device_number device) result) h.old.state }
-    ensures same { h.new.state ≡ h.old.state }
+        → Shows (λ s. IsNotStanding s (device_number device) result) h.old }
+    ensures same { SameHome h.old h.new }
     ensures untold { result ≢ pos 0 → stand.new ≡ stand.old }
-    ensures closed { h.old.state ≡ None ↔ result ≡ pos 1 }
+    ensures closed { IsClosed h.old ↔ result ≡ pos 1 }
+    ensures untouched { result ≡ pos 1 → h.new ≡ h.old }
 {
     match h.take(alloc) {
         Some(state) => {
@@ -36,7 +37,7 @@ pub extern "C" fn lazbendix_stand(
                 }
                 Err(why) => standing_status(why),
             };
-            h.put(alloc, state);
+            h.put(state);
             status
         }
         None => CLOSED,
@@ -46,9 +47,12 @@ pub extern "C" fn lazbendix_stand(
 /// Tells how many devices, routines and windows the script has, with the windows that were begun.
 #[unsafe(no_mangle)]
 pub extern "C" fn lazbendix_counts(alloc: Global, h: &mut Handle, counts: &mut ToldCounts) -> i32
-    ensures done { result ≡ pos 0 → Shows (λ s. AreScriptCounts s counts.new) h.old.state }
-    ensures same { h.new.state ≡ h.old.state }
-    ensures closed { h.old.state ≡ None → (result ≡ pos 1) × (counts.new ≡ counts.old) }
+    ensures done { result ≡ pos 0 → Shows (λ s. AreScriptCounts s counts.new) h.old }
+    ensures same { SameHome h.old h.new }
+    ensures open { IsOpen h.old → result ≡ pos 0 }
+    ensures untold { result ≢ pos 0 → counts.new ≡ counts.old }
+    ensures closed { IsClosed h.old ↔ result ≡ pos 1 }
+    ensures untouched { result ≡ pos 1 → h.new ≡ h.old }
 {
     match h.take(alloc) {
         Some(state) => {
@@ -57,7 +61,7 @@ pub extern "C" fn lazbendix_counts(alloc: Global, h: &mut Handle, counts: &mut T
                 routines: state.routine_count(),
                 windows: state.window_count(),
             };
-            h.put(alloc, state);
+            h.put(state);
             DONE
         }
         None => CLOSED,
@@ -73,14 +77,17 @@ pub extern "C" fn lazbendix_run_count(
     window: u32,
     count: &mut u64,
 ) -> i32
-    ensures done { result ≡ pos 0 → Shows (λ s. count.new ≡ run_count s window) h.old.state }
-    ensures same { h.new.state ≡ h.old.state }
-    ensures closed { h.old.state ≡ None → (result ≡ pos 1) × (count.new ≡ count.old) }
+    ensures done { result ≡ pos 0 → Shows (λ s. count.new ≡ run_count s window) h.old }
+    ensures same { SameHome h.old h.new }
+    ensures open { IsOpen h.old → result ≡ pos 0 }
+    ensures untold { result ≢ pos 0 → count.new ≡ count.old }
+    ensures closed { IsClosed h.old ↔ result ≡ pos 1 }
+    ensures untouched { result ≡ pos 1 → h.new ≡ h.old }
 {
     match h.take(alloc) {
         Some(state) => {
             *count = state.run_count(window);
-            h.put(alloc, state);
+            h.put(state);
             DONE
         }
         None => CLOSED,
@@ -98,16 +105,17 @@ pub extern "C" fn lazbendix_device_name(
     len: &mut usize,
 ) -> i32
     ensures done { result ≡ pos 0 → Shows
-        (λ s. HasNamed (script_device_name s.script device) room.old room.new len.new) h.old.state }
-    ensures same { h.new.state ≡ h.old.state }
-    ensures open { h.old.state ≢ None → result ≡ pos 0 }
-    ensures closed { h.old.state ≡ None
-        → (result ≡ pos 1) × (room.new ≡ room.old) × (len.new ≡ len.old) }
+        (λ s. HasNamed (script_device_name s.script device) room.old room.new len.new) h.old }
+    ensures same { SameHome h.old h.new }
+    ensures open { IsOpen h.old → result ≡ pos 0 }
+    ensures untold { result ≢ pos 0 → (room.new ≡ room.old) × (len.new ≡ len.old) }
+    ensures closed { IsClosed h.old ↔ result ≡ pos 1 }
+    ensures untouched { result ≡ pos 1 → h.new ≡ h.old }
 {
     match h.take(alloc) {
         Some(state) => {
             *len = name_into(state.device_name(device), room);
-            h.put(alloc, state);
+            h.put(state);
             DONE
         }
         None => CLOSED,
@@ -126,16 +134,17 @@ pub extern "C" fn lazbendix_routine_name(
 ) -> i32
     ensures done { result ≡ pos 0
         → Shows (λ s. HasNamed (script_routine_name s.script routine) room.old room.new len.new)
-        h.old.state }
-    ensures same { h.new.state ≡ h.old.state }
-    ensures open { h.old.state ≢ None → result ≡ pos 0 }
-    ensures closed { h.old.state ≡ None
-        → (result ≡ pos 1) × (room.new ≡ room.old) × (len.new ≡ len.old) }
+        h.old }
+    ensures same { SameHome h.old h.new }
+    ensures open { IsOpen h.old → result ≡ pos 0 }
+    ensures untold { result ≢ pos 0 → (room.new ≡ room.old) × (len.new ≡ len.old) }
+    ensures closed { IsClosed h.old ↔ result ≡ pos 1 }
+    ensures untouched { result ≡ pos 1 → h.new ≡ h.old }
 {
     match h.take(alloc) {
         Some(state) => {
             *len = name_into(state.routine_name(routine), room);
-            h.put(alloc, state);
+            h.put(state);
             DONE
         }
         None => CLOSED,
@@ -154,16 +163,17 @@ pub extern "C" fn lazbendix_value_name(
     len: &mut usize,
 ) -> i32
     ensures done { result ≡ pos 0 → Shows
-        (λ s. HasNamed (value_name s.script device value) room.old room.new len.new) h.old.state }
-    ensures same { h.new.state ≡ h.old.state }
-    ensures open { h.old.state ≢ None → result ≡ pos 0 }
-    ensures closed { h.old.state ≡ None
-        → (result ≡ pos 1) × (room.new ≡ room.old) × (len.new ≡ len.old) }
+        (λ s. HasNamed (value_name s.script device value) room.old room.new len.new) h.old }
+    ensures same { SameHome h.old h.new }
+    ensures open { IsOpen h.old → result ≡ pos 0 }
+    ensures untold { result ≢ pos 0 → (room.new ≡ room.old) × (len.new ≡ len.old) }
+    ensures closed { IsClosed h.old ↔ result ≡ pos 1 }
+    ensures untouched { result ≡ pos 1 → h.new ≡ h.old }
 {
     match h.take(alloc) {
         Some(state) => {
             *len = name_into(state.value_name(device, value), room);
-            h.put(alloc, state);
+            h.put(state);
             DONE
         }
         None => CLOSED,

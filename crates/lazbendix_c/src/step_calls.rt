@@ -3,10 +3,10 @@ ghost use Rattle.std.specs.Prelude.{◌≡◌, ◌≢◌, ◌↔◌, IfSome, Non
 ghost use Rattle.home_states.specs.LiveHomes.{hub_in};
 ghost use Rattle.home_states.specs.Steps.{HasProbed};
 ghost use Rattle.hub_table.specs.Tables.{SlipAndTask};
-ghost use Rattle.lazbendix_c.specs.Calls.{Changes, Shows};
+ghost use Rattle.lazbendix_c.specs.Calls.{Changes, IsClosed, IsOpen, SameHome, Shows};
 ghost use Rattle.lazbendix_c.specs.Numbers.{device_number, told_as};
 ghost use Rattle.lazbendix_c.specs.Refusals.{IsNotAnswered, IsNotInWindow, IsNotSent};
-ghost use Rattle.lazbendix_c.specs.Steps.{HasGiven, HasLeft, HasSent, HasStepped, IsKnownBlocked};
+ghost use Rattle.lazbendix_c.specs.Steps.{HasGiven, HasLeft, HasSent, HasStepped, IsKnownBlocked, one_where};
 ghost use Rattle.lazbendix_c.specs.Told.{out_turn};
 
 use crate::handles::Handle;
@@ -31,17 +31,18 @@ pub extern "C" fn lazbendix_take(
     turn: &mut ToldTurn,
 ) -> i32
     ensures done { result ≡ pos 0
-        → Changes (λ s t. HasStepped s run now turn.new t) h.old.state h.new.state }
+        → Changes (λ s t. HasStepped s run now turn.new t) h.old h.new }
     ensures refused { result ≢ pos 0 → result ≢ pos 1
-        → Shows (λ s. IsNotInWindow s result) h.old.state }
-    ensures same { result ≢ pos 0 → h.new.state ≡ h.old.state }
+        → Shows (λ s. IsNotInWindow s result) h.old }
+    ensures same { result ≢ pos 0 → SameHome h.old h.new }
     ensures untold { result ≢ pos 0 → turn.new ≡ turn.old }
-    ensures closed { h.old.state ≡ None ↔ result ≡ pos 1 }
+    ensures closed { IsClosed h.old ↔ result ≡ pos 1 }
+    ensures untouched { result ≡ pos 1 → h.new ≡ h.old }
 {
     match h.take(alloc) {
         Some(mut state) => {
             let status = take(&mut state, run, now, turn);
-            h.put(alloc, state);
+            h.put(state);
             status
         }
         None => CLOSED,
@@ -79,18 +80,19 @@ pub extern "C" fn lazbendix_give(
     made: &mut ToldMade,
 ) -> i32
     ensures done { result ≡ pos 0 → Changes
-        (λ s t. HasGiven s device ticket answer value now made.new t) h.old.state h.new.state }
+        (λ s t. HasGiven s device ticket answer value now made.new t) h.old h.new }
     ensures refused { result ≢ pos 0 → result ≢ pos 1 → IfSome (told_as answer value) (λ told.
-        Shows (λ s. IsNotAnswered s (device_number device) ticket told result) h.old.state) }
-    ensures wrong { told_as answer value ≡ None → h.old.state ≢ None → result ≡ pos 11 }
-    ensures same { result ≢ pos 0 → h.new.state ≡ h.old.state }
+        Shows (λ s. IsNotAnswered s (device_number device) ticket told result) h.old) }
+    ensures wrong { told_as answer value ≡ None → IsOpen h.old → result ≡ pos 11 }
+    ensures same { result ≢ pos 0 → SameHome h.old h.new }
     ensures untold { result ≢ pos 0 → made.new ≡ made.old }
-    ensures closed { h.old.state ≡ None ↔ result ≡ pos 1 }
+    ensures closed { IsClosed h.old ↔ result ≡ pos 1 }
+    ensures untouched { result ≡ pos 1 → h.new ≡ h.old }
 {
     match h.take(alloc) {
         Some(mut state) => {
             let status = give(&mut state, device, ticket, answer, value, now, made);
-            h.put(alloc, state);
+            h.put(state);
             status
         }
         None => CLOSED,
@@ -138,17 +140,18 @@ pub extern "C" fn lazbendix_probe(
     turn: &mut ToldTurn,
 ) -> i32
     ensures done { result ≡ pos 0
-        → Changes (λ s t. HasSent s device turn.new t) h.old.state h.new.state }
+        → Changes (λ s t. HasSent s device turn.new t) h.old h.new }
     ensures refused { result ≢ pos 0 → result ≢ pos 1
-        → Shows (λ s. IsNotSent s (device_number device) result) h.old.state }
-    ensures same { result ≢ pos 0 → h.new.state ≡ h.old.state }
+        → Shows (λ s. IsNotSent s (device_number device) result) h.old }
+    ensures same { result ≢ pos 0 → SameHome h.old h.new }
     ensures untold { result ≢ pos 0 → turn.new ≡ turn.old }
-    ensures closed { h.old.state ≡ None ↔ result ≡ pos 1 }
+    ensures closed { IsClosed h.old ↔ result ≡ pos 1 }
+    ensures untouched { result ≡ pos 1 → h.new ≡ h.old }
 {
     match h.take(alloc) {
         Some(mut state) => {
             let status = probe(&mut state, device_number(device), turn);
-            h.put(alloc, state);
+            h.put(state);
             status
         }
         None => CLOSED,
@@ -177,38 +180,47 @@ fn probe(state: &mut LiveHome, device: DeviceNo, turn: &mut ToldTurn) -> i32
 /// another step.
 #[unsafe(no_mangle)]
 pub extern "C" fn lazbendix_blocked(alloc: Global, h: &mut Handle, run: u32, yes: &mut u32) -> i32
-    ensures done { result ≡ pos 0 → Shows (λ s. IsKnownBlocked s run yes.new) h.old.state }
+    ensures done { result ≡ pos 0 → Shows (λ s. IsKnownBlocked s run yes.new) h.old }
     ensures refused { result ≢ pos 0 → result ≢ pos 1
-        → Shows (λ s. IsNotInWindow s result) h.old.state }
-    ensures same { h.new.state ≡ h.old.state }
+        → Shows (λ s. IsNotInWindow s result) h.old }
+    ensures same { SameHome h.old h.new }
     ensures untold { result ≢ pos 0 → yes.new ≡ yes.old }
-    ensures closed { h.old.state ≡ None ↔ result ≡ pos 1 }
+    ensures closed { IsClosed h.old ↔ result ≡ pos 1 }
+    ensures untouched { result ≡ pos 1 → h.new ≡ h.old }
 {
     match h.take(alloc) {
         Some(state) => {
             let status = match state.is_blocked(RunNo(run)) {
                 Some(is_blocked) => {
-                    *yes = if is_blocked { 1 } else { 0 };
+                    *yes = one_where(is_blocked);
                     DONE
                 }
                 None => NO_WINDOW,
             };
-            h.put(alloc, state);
+            h.put(state);
             status
         }
         None => CLOSED,
     }
 }
 
+/// 1 where it is so, else 0.
+fn one_where(so: bool) -> u32
+    ensures { result ≡ one_where so }
+{
+    if so { 1 } else { 0 }
+}
+
 /// Tells what is left to do in the window before it can be closed.
 #[unsafe(no_mangle)]
 pub extern "C" fn lazbendix_quiet(alloc: Global, h: &mut Handle, left: &mut ToldLeft) -> i32
-    ensures done { result ≡ pos 0 → Shows (λ s. HasLeft s left.new) h.old.state }
+    ensures done { result ≡ pos 0 → Shows (λ s. HasLeft s left.new) h.old }
     ensures refused { result ≢ pos 0 → result ≢ pos 1
-        → Shows (λ s. (result ≡ pos 7) × (hub_in s ≡ None)) h.old.state }
-    ensures same { h.new.state ≡ h.old.state }
+        → Shows (λ s. (result ≡ pos 7) × (hub_in s ≡ None)) h.old }
+    ensures same { SameHome h.old h.new }
     ensures untold { result ≢ pos 0 → left.new ≡ left.old }
-    ensures closed { h.old.state ≡ None ↔ result ≡ pos 1 }
+    ensures closed { IsClosed h.old ↔ result ≡ pos 1 }
+    ensures untouched { result ≡ pos 1 → h.new ≡ h.old }
 {
     match h.take(alloc) {
         Some(state) => {
@@ -219,7 +231,7 @@ pub extern "C" fn lazbendix_quiet(alloc: Global, h: &mut Handle, left: &mut Told
                 }
                 None => NO_WINDOW,
             };
-            h.put(alloc, state);
+            h.put(state);
             status
         }
         None => CLOSED,

@@ -1,7 +1,7 @@
 //! The texts of a home, and the entries of its window.
 ghost use Rattle.std.specs.Prelude.{◌≡◌, ◌≢◌, ◌↔◌, Err, IsErr, None, Ok, length, pos, slice_get};
 ghost use Rattle.home_states.specs.Texts.{HasToldEntry, window_entries_told};
-ghost use Rattle.lazbendix_c.specs.Calls.{Changes, Shows};
+ghost use Rattle.lazbendix_c.specs.Calls.{Changes, IsClosed, IsOpen, SameHome, Shows};
 ghost use Rattle.lazbendix_c.specs.Texts.{HasRead, HasToldHead, HasToldRecord, IsEntryAt};
 
 use crate::handles::Handle;
@@ -23,17 +23,19 @@ pub extern "C" fn lazbendix_record(
     len: &mut usize,
 ) -> i32
     ensures done { result ≡ pos 0
-        → Changes (λ s t. HasToldRecord s trace len.new t) h.old.state h.new.state }
-    ensures absent { result ≡ pos 15 → Shows (λ s. s.closed ≡ None) h.old.state }
-    ensures same { result ≢ pos 0 → h.new.state ≡ h.old.state }
+        → Changes (λ s t. HasToldRecord s trace len.new t) h.old h.new }
+    ensures refused { result ≢ pos 0 → result ≢ pos 1
+        → Shows (λ s. IsNoText s.closed (pos 15) result) h.old }
+    ensures same { result ≢ pos 0 → SameHome h.old h.new }
     ensures untold { result ≢ pos 0 → len.new ≡ len.old }
-    ensures closed { h.old.state ≡ None ↔ result ≡ pos 1 }
+    ensures closed { IsClosed h.old ↔ result ≡ pos 1 }
+    ensures untouched { result ≡ pos 1 → h.new ≡ h.old }
 {
     match h.take(alloc) {
         Some(mut state) => {
             let told = state.tell_window(alloc, trace != 0);
             let status = status_of(&state, told, NO_RECORD, len);
-            h.put(alloc, state);
+            h.put(state);
             status
         }
         None => CLOSED,
@@ -46,16 +48,18 @@ pub extern "C" fn lazbendix_record(
 #[unsafe(no_mangle)]
 pub extern "C" fn lazbendix_head(alloc: Global, h: &mut Handle, len: &mut usize) -> i32
     ensures done { result ≡ pos 0
-        → Changes (λ s t. HasToldHead s len.new t) h.old.state h.new.state }
-    ensures same { result ≢ pos 0 → h.new.state ≡ h.old.state }
+        → Changes (λ s t. HasToldHead s len.new t) h.old h.new }
+    ensures refused { result ≢ pos 0 → result ≢ pos 1 → result ≡ pos 5 }
+    ensures same { result ≢ pos 0 → SameHome h.old h.new }
     ensures untold { result ≢ pos 0 → len.new ≡ len.old }
-    ensures closed { h.old.state ≡ None ↔ result ≡ pos 1 }
+    ensures closed { IsClosed h.old ↔ result ≡ pos 1 }
+    ensures untouched { result ≡ pos 1 → h.new ≡ h.old }
 {
     match h.take(alloc) {
         Some(mut state) => {
             let told = state.tell_head(alloc);
             let status = status_of(&state, told, NO_RECORD, len);
-            h.put(alloc, state);
+            h.put(state);
             status
         }
         None => CLOSED,
@@ -74,16 +78,19 @@ pub extern "C" fn lazbendix_entry_text(
     len: &mut usize,
 ) -> i32
     ensures done { result ≡ pos 0
-        → Changes (λ s t. HasToldEntry s at t × (len.new ≡ length t.text)) h.old.state h.new.state }
-    ensures same { result ≢ pos 0 → h.new.state ≡ h.old.state }
+        → Changes (λ s t. HasToldEntry s at t × (len.new ≡ length t.text)) h.old h.new }
+    ensures refused { result ≢ pos 0 → result ≢ pos 1
+        → Shows (λ s. IsNoText (slice_get (window_entries_told s) at) (pos 8) result) h.old }
+    ensures same { result ≢ pos 0 → SameHome h.old h.new }
     ensures untold { result ≢ pos 0 → len.new ≡ len.old }
-    ensures closed { h.old.state ≡ None ↔ result ≡ pos 1 }
+    ensures closed { IsClosed h.old ↔ result ≡ pos 1 }
+    ensures untouched { result ≡ pos 1 → h.new ≡ h.old }
 {
     match h.take(alloc) {
         Some(mut state) => {
             let told = state.tell_entry(alloc, at);
             let status = status_of(&state, told, ABSENT, len);
-            h.put(alloc, state);
+            h.put(state);
             status
         }
         None => CLOSED,
@@ -93,10 +100,10 @@ pub extern "C" fn lazbendix_entry_text(
 /// The status of a text that was asked for, and its length where it was made.
 fn status_of(state: &LiveHome, told: Result<(), NotTold>, absent: i32, len: &mut usize) -> i32
     requires absent { (absent ≢ pos 0) × (absent ≢ pos 1) × (absent ≢ pos 5) }
-    ensures done { result ≡ pos 0 → (told ≡ Ok tt) × (len.new ≡ length state.now.text) }
-    ensures absent { result ≢ pos 0 → result ≢ pos 5 → told ≡ Err NotTold.Absent }
+    ensures status { result ≡ telling_status told absent }
+    ensures len { result ≡ pos 0 → len.new ≡ length state.now.text }
     ensures open { result ≢ pos 1 }
-    ensures untold { result ≢ pos 0 → (IsErr told) × (len.new ≡ len.old) }
+    ensures untold { result ≢ pos 0 → len.new ≡ len.old }
 {
     match told {
         Ok(()) => {
@@ -119,16 +126,17 @@ pub extern "C" fn lazbendix_read(
     got: &mut usize,
 ) -> i32
     ensures done { result ≡ pos 0
-        → Shows (λ s. HasRead s.text from room.old room.new got.new) h.old.state }
-    ensures same { h.new.state ≡ h.old.state }
-    ensures open { h.old.state ≢ None → result ≡ pos 0 }
-    ensures closed { h.old.state ≡ None
-        → (result ≡ pos 1) × (room.new ≡ room.old) × (got.new ≡ got.old) }
+        → Shows (λ s. HasRead s.text from room.old room.new got.new) h.old }
+    ensures same { SameHome h.old h.new }
+    ensures open { IsOpen h.old → result ≡ pos 0 }
+    ensures untold { result ≢ pos 0 → (room.new ≡ room.old) × (got.new ≡ got.old) }
+    ensures closed { IsClosed h.old ↔ result ≡ pos 1 }
+    ensures untouched { result ≡ pos 1 → h.new ≡ h.old }
 {
     match h.take(alloc) {
         Some(state) => {
             *got = copy_from(state.text(), from, room);
-            h.put(alloc, state);
+            h.put(state);
             DONE
         }
         None => CLOSED,
@@ -140,14 +148,17 @@ pub extern "C" fn lazbendix_read(
 #[unsafe(no_mangle)]
 pub extern "C" fn lazbendix_entry_count(alloc: Global, h: &mut Handle, count: &mut u64) -> i32
     ensures done { result ≡ pos 0
-        → Shows (λ s. count.new ≡ length (window_entries_told s)) h.old.state }
-    ensures same { h.new.state ≡ h.old.state }
-    ensures closed { h.old.state ≡ None → (result ≡ pos 1) × (count.new ≡ count.old) }
+        → Shows (λ s. count.new ≡ length (window_entries_told s)) h.old }
+    ensures same { SameHome h.old h.new }
+    ensures open { IsOpen h.old → result ≡ pos 0 }
+    ensures untold { result ≢ pos 0 → count.new ≡ count.old }
+    ensures closed { IsClosed h.old ↔ result ≡ pos 1 }
+    ensures untouched { result ≡ pos 1 → h.new ≡ h.old }
 {
     match h.take(alloc) {
         Some(state) => {
             *count = state.entry_count();
-            h.put(alloc, state);
+            h.put(state);
             DONE
         }
         None => CLOSED,
@@ -164,12 +175,13 @@ pub extern "C" fn lazbendix_entry_at(
     entry: &mut ToldEntry,
     maker: &mut u32,
 ) -> i32
-    ensures done { result ≡ pos 0 → Shows (λ s. IsEntryAt s at entry.new maker.new) h.old.state }
+    ensures done { result ≡ pos 0 → Shows (λ s. IsEntryAt s at entry.new maker.new) h.old }
     ensures absent { result ≢ pos 0 → result ≢ pos 1 → Shows
-        (λ s. (result ≡ pos 8) × (slice_get (window_entries_told s) at ≡ None)) h.old.state }
-    ensures same { h.new.state ≡ h.old.state }
+        (λ s. (result ≡ pos 8) × (slice_get (window_entries_told s) at ≡ None)) h.old }
+    ensures same { SameHome h.old h.new }
     ensures untold { result ≢ pos 0 → (entry.new ≡ entry.old) × (maker.new ≡ maker.old) }
-    ensures closed { h.old.state ≡ None ↔ result ≡ pos 1 }
+    ensures closed { IsClosed h.old ↔ result ≡ pos 1 }
+    ensures untouched { result ≡ pos 1 → h.new ≡ h.old }
 {
     match h.take(alloc) {
         Some(state) => {
@@ -181,7 +193,7 @@ pub extern "C" fn lazbendix_entry_at(
                 }
                 None => ABSENT,
             };
-            h.put(alloc, state);
+            h.put(state);
             status
         }
         None => CLOSED,

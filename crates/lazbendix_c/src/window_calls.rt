@@ -1,7 +1,7 @@
 //! A window is opened on the home, and closed.
 ghost use Rattle.std.specs.Prelude.{◌≡◌, ◌≢◌, ◌↔◌, None, pos};
 ghost use Rattle.home_states.specs.Openings.{HasClosed, HasOpened};
-ghost use Rattle.lazbendix_c.specs.Calls.{Changes, Shows};
+ghost use Rattle.lazbendix_c.specs.Calls.{Changes, IsClosed, SameHome, Shows};
 ghost use Rattle.lazbendix_c.specs.Refusals.{IsNotClosed, IsNotOpened};
 
 use crate::handles::Handle;
@@ -14,16 +14,17 @@ use std::alloc::Global;
 /// Where the answer is not `DONE` nothing has changed.
 #[unsafe(no_mangle)]
 pub extern "C" fn lazbendix_window(alloc: Global, h: &mut Handle, number: u32) -> i32
-    ensures done { result ≡ pos 0 → Changes (λ s t. HasOpened s number t) h.old.state h.new.state }
+    ensures done { result ≡ pos 0 → Changes (λ s t. HasOpened s number t) h.old h.new }
     ensures refused { result ≢ pos 0 → result ≢ pos 1
-        → Shows (λ s. IsNotOpened s number result) h.old.state }
-    ensures same { result ≢ pos 0 → h.new.state ≡ h.old.state }
-    ensures closed { h.old.state ≡ None ↔ result ≡ pos 1 }
+        → Shows (λ s. IsNotOpened s number result) h.old }
+    ensures same { result ≢ pos 0 → SameHome h.old h.new }
+    ensures closed { IsClosed h.old ↔ result ≡ pos 1 }
+    ensures untouched { result ≡ pos 1 → h.new ≡ h.old }
 {
     match h.take(alloc) {
         Some(mut state) => {
             let status = window(alloc, &mut state, number);
-            h.put(alloc, state);
+            h.put(state);
             status
         }
         None => CLOSED,
@@ -47,16 +48,17 @@ fn window(alloc: Global, state: &mut LiveHome, number: u32) -> i32
 /// Where the answer is not `DONE` nothing has changed.
 #[unsafe(no_mangle)]
 pub extern "C" fn lazbendix_close_window(alloc: Global, h: &mut Handle) -> i32
-    ensures done { result ≡ pos 0 → Changes (λ s t. HasClosed s t) h.old.state h.new.state }
+    ensures done { result ≡ pos 0 → Changes (λ s t. HasClosed s t) h.old h.new }
     ensures refused { result ≢ pos 0 → result ≢ pos 1
-        → Shows (λ s. IsNotClosed s result) h.old.state }
-    ensures same { result ≢ pos 0 → h.new.state ≡ h.old.state }
-    ensures closed { h.old.state ≡ None ↔ result ≡ pos 1 }
+        → Shows (λ s. IsNotClosed s result) h.old }
+    ensures same { result ≢ pos 0 → SameHome h.old h.new }
+    ensures closed { IsClosed h.old ↔ result ≡ pos 1 }
+    ensures untouched { result ≡ pos 1 → h.new ≡ h.old }
 {
     match h.take(alloc) {
         Some(mut state) => {
             let status = close_window(&mut state);
-            h.put(alloc, state);
+            h.put(state);
             status
         }
         None => CLOSED,

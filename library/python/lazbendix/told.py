@@ -191,8 +191,8 @@ class Waits:
 
 @dataclass(frozen=True)
 class Go:
-    """A device is out: make its call, and give the answer with the ticket. `run` is 0 for a probe; `stood` is the value at
-    which the device stands for the hub."""
+    """A device is out: make its call, and give the answer with the ticket, which no other call of the hub has, in whatever
+    window. `run` is 0 for a probe; `stood` is the value at which the device stands for the hub."""
 
     device: int
     ticket: int

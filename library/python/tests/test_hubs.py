@@ -36,6 +36,10 @@ class Hubs(unittest.TestCase):
     def play(self, window: int, answers: dict[int, int]) -> None:
         """Every device works; a sense finds what is said of its device."""
         self.hub.window(window)
+        self.play_on(window, answers)
+
+    def play_on(self, window: int, answers: dict[int, int]) -> None:
+        """The same, in the window that is open."""
         while self.hub.left() is not None:
             for run in range(1, self.hub.run_count(window) + 1):
                 turn = self.hub.take(run, 0)
@@ -108,6 +112,19 @@ class Hubs(unittest.TestCase):
         self.refuses(Status.BAD_TIME, "begin_window", "2021-04-27T08:10:00")
         self.refuses(Status.NO_WINDOW, "add_run", LEAVE)
         self.refuses(Status.NO_VALUE, "restand", HEAT, 31)
+
+    def test_an_answer_of_an_earlier_window_is_late(self) -> None:
+        self.hub.window(0)
+        while not isinstance(early := self.hub.take(1, 0), Go):
+            pass
+        self.hub.give(early.device, early.ticket, Dead(), 0)
+        self.play_on(0, {WINDOW: SHUT})
+        self.hub.window(self.hub.begin_window("2021-04-27T08:10:00", probes=1))
+        go = self.hub.probe(early.device)
+        self.assertGreater(go.ticket, early.ticket)
+        self.refuses(Status.NOT_OUT, "give", early.device, early.ticket, Worked(), 0)
+        made = self.hub.give(go.device, go.ticket, Worked(), 0)
+        self.assertEqual([entry.kind for entry in made], [EntryKind.ROSE])
 
     def test_numbers_that_do_not_fit(self) -> None:
         for words in [(-1, 0), (2**32, 0), (1, -1), (1, 2**64)]:

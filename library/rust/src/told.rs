@@ -393,7 +393,7 @@ pub enum Why {
 pub struct Go {
     /// From 0.
     pub device: u32,
-    /// With which the answer has to come.
+    /// With which the answer has to come: no other call of the hub has it, in whatever window.
     pub ticket: u64,
     /// The run for which it is out, 0 for a probe.
     pub run: u32,

@@ -27,6 +27,11 @@ fn refused<T>(status: Status) -> Result<T, Refused> {
 /// Every device works; a sense of the window finds this value.
 fn play(hub: &mut Hub, number: u32, window: u32) {
     hub.window(number).unwrap();
+    play_on(hub, number, window);
+}
+
+/// The same, in the window that is open.
+fn play_on(hub: &mut Hub, number: u32, window: u32) {
     while hub.left().unwrap().is_some() {
         for run in 1..=hub.run_count(number).unwrap() as u32 {
             if let Turn::Go(go) = hub.take(run, 0).unwrap() {
@@ -113,6 +118,26 @@ fn a_window_of_the_moment() {
     assert_eq!(hub.begin_window("2021-04-27T08:10:00", 0), refused(Status::BadTime));
     assert_eq!(hub.add_run(LEAVE, None), refused(Status::NoWindow));
     assert_eq!(hub.restand(HEAT, 31), refused(Status::NoValue));
+}
+
+#[test]
+fn an_answer_of_an_earlier_window_is_late() {
+    let mut hub = open();
+    hub.window(0).unwrap();
+    let early = loop {
+        if let Turn::Go(go) = hub.take(1, 0).unwrap() {
+            break go;
+        }
+    };
+    hub.give(early.device, early.ticket, Answer::Dead, 0).unwrap();
+    play_on(&mut hub, 0, SHUT);
+    let number = hub.begin_window("2021-04-27T08:10:00", 1).unwrap();
+    hub.window(number).unwrap();
+    let go = hub.probe(early.device).unwrap();
+    assert!(go.ticket > early.ticket);
+    assert_eq!(hub.give(early.device, early.ticket, Answer::Worked, 0), refused(Status::NotOut));
+    let made = hub.give(go.device, go.ticket, Answer::Worked, 0).unwrap();
+    assert_eq!(made.entries(), [Entry::Rose { device: early.device }]);
 }
 
 #[test]

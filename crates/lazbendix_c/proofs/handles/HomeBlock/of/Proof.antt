@@ -1,13 +1,12 @@
--- `of` keeps the block of its box, under the mark of an open handle.
-use Rattle.lazbendix_c.proofs.Grasps.{Held, big, both, held_good, held_out, words_made, words_own, words_typed, words_val}
-use Rattle.lazbendix_c.proofs.handles.Handle.of.Code as code
-use Rattle.lazbendix_c.proofs.handles.Handle.of.Statement.{statement}
-use Rattle.lazbendix_c.specs.Owned.{open_mark}
-use Rattle.lazbendix_c.specs.contracts.handles.Handle as handle
-use Rattle.lazbendix_c.specs.contracts.handles.Handle.of.Key.{name as #self}
-use Rattle.lazbendix_c.specs.contracts.handles.Handle.of.{clauses, ended}
+-- `of` keeps the block of its box.
+use Rattle.lazbendix_c.proofs.Grasps.{Held, both, held_good, held_out, word_made, word_own, word_typed, word_val}
+use Rattle.lazbendix_c.proofs.handles.HomeBlock.of.Code as code
+use Rattle.lazbendix_c.proofs.handles.HomeBlock.of.Statement.{statement}
+use Rattle.lazbendix_c.specs.contracts.handles.HomeBlock as home_block
+use Rattle.lazbendix_c.specs.contracts.handles.HomeBlock.of.Key.{name as #self}
+use Rattle.lazbendix_c.specs.contracts.handles.HomeBlock.of.{clauses, ended}
 use Rattle.home_states.specs.contracts.homes.LiveHome as state
-use Rattle.std.proofs.Common.{List, Some, [], lit<, refl, sym, ◌++◌, ◌∷◌, ◌≡◌}
+use Rattle.std.proofs.Common.{List, Some, [], refl, subst, sym, ◌++◌, ◌∷◌, ◌≡◌}
 use Rattle.std.proofs.alloc.Global.TheLaws as heap_laws
 use Rattle.std.proofs.raw_atomic.Walks.{leaves, proved_at}
 use Rattle.std.specs.contracts.alloc.Global as heap
@@ -15,7 +14,6 @@ use Rattle.std.specs.contracts.impls.GlobalAllocator.TheImpl.{ghosts}
 use Rattle.std.specs.declared.alloc.Global.{Global}
 use Rattle.std_alloc.specs.Box.Ownership.{box_owns}
 use Rattle.core.proofs.alloc.Calls.{Goes-blank}
-use base.Fml.{ftrue}
 use base.Logic.{SProp, emp, ent, id⊢}
 use contract.Monad.{fact, fact_i}
 use contract.Running.{tables}
@@ -31,7 +29,6 @@ use types.ByLocal.{alloc_all, env, free_all, get, get_in, look_at, pass_all, set
 use types.Kit.{ !, by, fjoin, fpack, fsplit, keep, move, qed, raw, split, suffices, use0, ‵, ◌$◌, ◌∵◌, ◌⊛◌}
 use types.Part.{agg, sub, whole}
 use types.Run.{and_then, enter, fld, no_more, of_opd, returns, stop}
-use Rattle.std.proofs.Common.{subst}
 
 pub of_spec : {M : Type 1} → statement M
 of_spec 𝓤 𝓛 𝓜 𝓡 wired =
@@ -41,11 +38,11 @@ of_spec 𝓤 𝓛 𝓜 𝓡 wired =
     let Post : Val → SProp 𝓤 = (walk_of 𝓛 En hs c).post z in let Run : List Val → SProp 𝓤 = λ ws. WpFn 𝓤 H 𝓣.C 𝓣.Λ fn ws Post in let v = z.0.3.0 in
     qed 𝓛 ((raw (alive 𝓛 En.signature z.0.0 z.0.1) ⊛ ‵ (owns (types_at En.signature.params z.0.0) z.0.3 z.0.4)) ∷ raw ((c z.0.0 z.0.3).requires z.1) ∷ []) ∵ split ! $ move ! (1 ∷ []) $ fsplit ! $ held_out R Z LZ ghosts ! v z.0.4.0 (λ b o h e ws fits.
     let w : Val = both (vptr b o) h in let typed = held_good R Z LZ ghosts b o h fits in
-    let r : handle.the_row.Denot = record { mark = open_mark; at = block_ptr b o; state = Some v.value } in let Told : Type 0 = r.state ≡ Some v.value in let Same : Type 0 = open_mark ≡ open_mark in
+    let r : home_block.the_row.Denot = record { at = block_ptr b o; state = Some v.value } in let Told : Type 0 = r.state ≡ Some v.value in
     suffices ! (Run (w ∷ [])) (subst (λ (us : List Val). ent 𝓤 (Run (w ∷ [])) (Run us)) (sym (λ i. ws i ++ [])) (id⊢ 𝓤 (Run (w ∷ [])))) $
     enter ! 𝓣.C 𝓣.Λ fn (w ∷ []) Post $ alloc_all ! (λ l. pass_all ! refl (typed, tt) $ let Ev = env fn.locals l in
-    sets ! (of_opd ! (get_in ! (fld ! refl (stop !)) (sub ! 0 refl (whole !)))) refl (tt, tt) $ sets ! (of_opd ! (get ! refl)) refl (tt, tt) $ sets ! (agg ! (and_then ! (big ! open_mark (lit< tt)) (and_then ! (get ! refl) (no_more !)))) refl (words_typed open_mark (block_ptr b o) (lit< tt)) $
+    sets ! (of_opd ! (get_in ! (fld ! refl (stop !)) (sub ! 0 refl (whole !)))) refl (tt, tt) $ sets ! (of_opd ! (get ! refl)) refl (tt, tt) $ sets ! (agg ! (and_then ! (get ! refl) (no_more !))) refl (word_typed (block_ptr b o)) $
     returns ! (look_at ! 0 refl) $ free_all ! refl $
-    fpack ! Global (λ a. box_owns (ghosts.dealloc_token a) R (block_ptr b o) v.value) v.alloc $ nothing ! $ fpack ! Same (λ _. ftrue) refl $ fjoin ! $
-    use0 𝓛 (‵ (words_own open_mark (block_ptr b o) (words_val open_mark (block_ptr b o) ∷ []))) (words_made 𝓛 open_mark (block_ptr b o) (lit< tt)) $ fjoin ! $
-    use0 𝓛 (raw (fact 𝓤 Told)) (fact_i 𝓤 Told (emp 𝓤) refl) $ nothing ! $ nothing ! $ fjoin ! $ keep ! (5 ∷ 0 ∷ 2 ∷ 1 ∷ []) $ by ! (leaves 𝓛 En hs c z (words_val open_mark (block_ptr b o)) r (tt, tt) (tt, tt)))))
+    fpack ! Global (λ a. box_owns (ghosts.dealloc_token a) R (block_ptr b o) v.value) v.alloc $
+    use0 𝓛 (‵ (word_own (block_ptr b o) (word_val (block_ptr b o) ∷ []))) (word_made 𝓛 (block_ptr b o)) $ fjoin ! $
+    use0 𝓛 (raw (fact 𝓤 Told)) (fact_i 𝓤 Told (emp 𝓤) refl) $ nothing ! $ nothing ! $ fjoin ! $ keep ! (5 ∷ 0 ∷ 2 ∷ 1 ∷ []) $ by ! (leaves 𝓛 En hs c z (word_val (block_ptr b o)) r (tt, tt) (tt, tt)))))

@@ -1,7 +1,0 @@
-use Rattle.lazbendix_c.proofs.Crossing.{handle_send}
-use Rattle.lazbendix_c.specs.contracts.handles.Handle.{the_row}
-use Rattle.home_states.proofs.homes.LiveHome.TheSendSync.{the_send as home}
-use denote.Param.Send.{IsSend}
-
-pub send : IsSend the_row
-send = handle_send home
