@@ -7,7 +7,7 @@ use Rattle.lazbendix_c.specs.declared.handles.Handle.{Handle}
 use Rattle.lazbendix_c.specs.declared.told_faults.ToldFault.{ToldFault}
 use Rattle.routine_reader.specs.Readings.{script_reading}
 use Rattle.routine_reader.specs.declared.faults.ReadFault.{ReadFault}
-use Rattle.std.specs.Prelude.{Err, List, None, Some, pos, ℕ, ℤ, ◌≡◌, ◌≢◌, ◌⊎◌}
+use Rattle.std.specs.Prelude.{Err, List, None, Some, pos, ℕ, ℤ, ◌≡◌, ◌≢◌}
 
 -- the handle is closed
 abbrev pub IsClosed : Handle → Type 0
@@ -53,12 +53,15 @@ pub record IsRefusal (bytes : List ℕ) (told : ToldFault) : Type 0 where
   pub reading : script_reading bytes ≡ Err fault
   pub told_is : told ≡ fault_of fault
 
--- why no home is opened: the handle is open, there is no such mode, the script is refused and the
--- fault tells why, or there is no memory
-abbrev pub IsNoOpening : List ℕ → ℕ → ℕ → Handle → ToldFault → ℤ → Type 0
-IsNoOpening bytes model scheduler handle told status =
-    ((status ≡ pos 2) × (handle.home.state ≢ None))
-    ⊎ ((status ≡ pos 4) × IsClosed handle × (mode_of model scheduler ≡ None))
-    ⊎ ((status ≡ pos 3) × IsClosed handle × (mode_of model scheduler ≢ None)
-    × IsRefusal bytes told)
-    ⊎ ((status ≡ pos 5) × IsClosed handle × (mode_of model scheduler ≢ None))
+-- why no home is opened, as the status tells, and the fault of a script that is refused
+pub data IsNoOpening (bytes : List ℕ) (model scheduler : ℕ) (handle : Handle) (told : ToldFault)
+    (status : ℤ) : Type 0 where
+  WasOpen : (was : IsOpen handle) (is : status ≡ pos 2)
+      → IsNoOpening bytes model scheduler handle told status
+  NoMode : (closed : IsClosed handle) (none : mode_of model scheduler ≡ None) (is : status ≡ pos 4)
+      → IsNoOpening bytes model scheduler handle told status
+  IsRefused : (closed : IsClosed handle) (goes : mode_of model scheduler ≢ None)
+      (why : IsRefusal bytes told) (is : status ≡ pos 3)
+      → IsNoOpening bytes model scheduler handle told status
+  NoMemory : (closed : IsClosed handle) (goes : mode_of model scheduler ≢ None)
+      (is : status ≡ pos 5) → IsNoOpening bytes model scheduler handle told status

@@ -19,13 +19,14 @@ use Rattle.home_states.specs.declared.refusals.NotStanding.TheVariants.{Absent a
 use Rattle.home_states.specs.declared.refusals.NotStanding.{NotStanding}
 use Rattle.home_states.specs.declared.refusals.NotTold.TheVariants.{Absent as NoSubject, NoMemory as NoSpace}
 use Rattle.home_states.specs.declared.refusals.NotTold.{NotTold}
+use Rattle.home_states.specs.Texts.{MayNotTellEntry, MayNotTellWindow}
 use Rattle.home_types.specs.declared.numbers.RunNo.{RunNo}
 use Rattle.device_gate.specs.declared.slips.Told.{Told}
 use Rattle.hub_table.specs.declared.told.NotTaken.TheVariants.{Differs, NotOut, OtherKind}
 use Rattle.hub_table.specs.declared.told.NotTaken.{NotTaken}
 use Rattle.routine_reader.specs.Spots.{is_memory}
 use Rattle.routine_reader.specs.declared.faults.ReadFault.{ReadFault}
-use Rattle.std.specs.Prelude.{Err, List, None, Ok, Option, Result, Some, if◌then◌else◌, pos, ℕ, ℤ, ◌≡◌, ◌⊎◌}
+use Rattle.std.specs.Prelude.{List, None, Option, if◌then◌else◌, pos, ℕ, ℤ, ◌≡◌, ◌⊎◌}
 
 -- for this reason, which the status tells
 pub record TellsReason {W : Type 0} (status_of : W → ℤ) (is_so : W → Type 0)
@@ -34,10 +35,9 @@ pub record TellsReason {W : Type 0} (status_of : W → ℤ) (is_so : W → Type 
   pub so : is_so why
   pub told : status ≡ status_of why
 
--- of a home whose script was read so: done, no memory, or refused
-abbrev pub status_of_opening : Result LiveState ReadFault → ℤ
-status_of_opening (Ok home) = pos 0
-status_of_opening (Err why) = (if is_memory why then pos 5 else pos 3)
+-- of a script that is not read: there is no memory, or it is refused
+abbrev pub refusal_status : ReadFault → ℤ
+refusal_status why = (if is_memory why then pos 5 else pos 3)
 
 abbrev pub opening_status : NotOpened → ℤ
 opening_status InWindow = pos 6
@@ -76,6 +76,11 @@ abbrev pub standing_status : NotStanding → ℤ
 standing_status StandsInWindow = pos 6
 standing_status NoStand = pos 8
 
+-- of a text, where this status tells that there is nothing of which it would tell
+abbrev pub telling_status : ℤ → NotTold → ℤ
+telling_status absent NoSubject = absent
+telling_status absent NoSpace = pos 5
+
 -- the window of this number is not opened
 abbrev pub IsNotOpened : LiveState → ℕ → ℤ → Type 0
 IsNotOpened s k status = TellsReason opening_status (λ why. MayNotOpen s k why) status
@@ -112,17 +117,15 @@ abbrev pub IsNotRestood : LiveState → ℕ → ℕ → ℤ → Type 0
 IsNotRestood s d value status =
     TellsReason restanding_status (λ why. MayNotRestand s d value why) status
 
--- of a text that was asked for, with the status of one that there is not
-abbrev pub telling_status : {A : Type 0} → Result A NotTold → ℤ → ℤ
-telling_status (Ok made) absent = pos 0
-telling_status (Err NoSubject) absent = absent
-telling_status (Err NoSpace) absent = pos 5
+-- the text of the window closed last is not made
+abbrev pub IsNoRecord : LiveState → ℤ → Type 0
+IsNoRecord s status =
+    TellsReason (telling_status (pos 15)) (λ why. MayNotTellWindow s why) status
 
--- no text is made: this status where there is nothing of which it would tell, and else there is no
--- memory
-abbrev pub IsNoText : {A : Type 0} → Option A → ℤ → ℤ → Type 0
-IsNoText None absent status = status ≡ absent
-IsNoText (Some of) absent status = status ≡ pos 5
+-- the text of the entry at this place is not made
+abbrev pub IsNoEntryText : LiveState → ℕ → ℤ → Type 0
+IsNoEntryText s at status =
+    TellsReason (telling_status (pos 8)) (λ why. MayNotTellEntry s at why) status
 
 -- it is not told how the device stands
 abbrev pub IsNotStanding : LiveState → ℕ → ℤ → Type 0

@@ -1,6 +1,7 @@
 //! Windows of the moment, and devices that others turned.
 ghost use Rattle.std.specs.Prelude.{◌≡◌, ◌≢◌, ◌↔◌, None, pos};
-ghost use Rattle.home_states.specs.Drafts.{HasAddedRun, HasBegunWindow, HasRestood};
+ghost use Rattle.home_states.specs.DraftRefusals.{first_against_adding, first_against_beginning};
+ghost use Rattle.home_states.specs.Drafts.{HasAddedRun, HasBegunWindow, HasRestood, first_against_restanding};
 ghost use Rattle.lazbendix_c.specs.Calls.{Changes, IsClosed, SameHome, Shows};
 ghost use Rattle.lazbendix_c.specs.Numbers.{device_number, followed};
 ghost use Rattle.lazbendix_c.specs.Refusals.{IsNotAdded, IsNotBegun, IsNotRestood};
@@ -24,6 +25,8 @@ pub extern "C" fn lazbendix_begin_window(
 ) -> i32
     ensures done { result ≡ pos 0
         → Changes (λ s t. HasBegunWindow s at.now probes number.new t) h.old h.new }
+    ensures free { result ≡ pos 0
+        → Shows (λ s. first_against_beginning s at.now probes ≡ None) h.old }
     ensures refused { result ≢ pos 0 → result ≢ pos 1
         → Shows (λ s. IsNotBegun s at.now probes result) h.old }
     ensures same { result ≢ pos 0 → SameHome h.old h.new }
@@ -61,6 +64,8 @@ pub extern "C" fn lazbendix_add_run(
 ) -> i32
     ensures done { result ≡ pos 0 → Changes
         (λ s t. HasAddedRun s routine (followed follows) run.new t) h.old h.new }
+    ensures free { result ≡ pos 0
+        → Shows (λ s. first_against_adding s routine (followed follows) ≡ None) h.old }
     ensures refused { result ≢ pos 0 → result ≢ pos 1
         → Shows (λ s. IsNotAdded s routine (followed follows) result) h.old }
     ensures same { result ≢ pos 0 → SameHome h.old h.new }
@@ -91,6 +96,8 @@ pub extern "C" fn lazbendix_add_run(
 pub extern "C" fn lazbendix_restand(alloc: Global, h: &mut Handle, device: u32, value: u32) -> i32
     ensures done { result ≡ pos 0
         → Changes (λ s t. HasRestood s (device_number device) value t) h.old h.new }
+    ensures free { result ≡ pos 0
+        → Shows (λ s. first_against_restanding s (device_number device) value ≡ None) h.old }
     ensures refused { result ≢ pos 0 → result ≢ pos 1
         → Shows (λ s. IsNotRestood s (device_number device) value result) h.old }
     ensures same { result ≢ pos 0 → SameHome h.old h.new }

@@ -1,10 +1,10 @@
 //! A home is opened behind a handle, and ended.
-ghost use Rattle.std.specs.Prelude.{◌≡◌, ◌≢◌, ◌↔◌, ◌⊎◌, IfErr, IsOk, None, Ok, Some, pos};
+ghost use Rattle.std.specs.Prelude.{◌≡◌, ◌≢◌, ◌↔◌, IfErr, IsOk, None, Ok, Some, pos};
 ghost use Rattle.home_states.specs.LiveHomes.{LiveState};
 ghost use Rattle.lazbendix_c.specs.Calls.{HasOpenedHome, IsClosed, IsNoOpening, IsOpen, SameHome};
 ghost use Rattle.lazbendix_c.specs.Faults.{fault_of};
 ghost use Rattle.lazbendix_c.specs.Numbers.{mode_of};
-ghost use Rattle.lazbendix_c.specs.Refusals.{status_of_opening};
+ghost use Rattle.lazbendix_c.specs.Refusals.{refusal_status};
 
 use crate::handles::Handle;
 use crate::numbers::mode_of;
@@ -61,8 +61,9 @@ fn open_as(
 ) -> i32
     requires closed { IsClosed h.old }
     ensures done { result ≡ pos 0 → (s : LiveState) × (opened ≡ Ok s) × (h.new.home.state ≡ Some s) }
-    ensures status { result ≡ status_of_opening opened ⊎ (IsOk opened × (result ≡ pos 5)) }
-    ensures refused { IfErr opened (λ why. result ≡ pos 3 → fault.new ≡ fault_of why) }
+    ensures refused { IfErr opened (λ why. result ≡ refusal_status why) }
+    ensures told { IfErr opened (λ why. result ≡ pos 3 → fault.new ≡ fault_of why) }
+    ensures room { IsOk opened → result ≢ pos 0 → result ≡ pos 5 }
     ensures same { result ≢ pos 0 → IsClosed h.new }
     ensures untold { result ≢ pos 3 → fault.new ≡ fault.old }
 {

@@ -1,7 +1,8 @@
 //! The texts of a home, and the entries of its window.
-ghost use Rattle.std.specs.Prelude.{◌≡◌, ◌≢◌, ◌↔◌, Err, IsErr, None, Ok, length, pos, slice_get};
+ghost use Rattle.std.specs.Prelude.{◌≡◌, ◌≢◌, ◌↔◌, IfErr, None, Ok, length, pos, slice_get};
 ghost use Rattle.home_states.specs.Texts.{HasToldEntry, window_entries_told};
 ghost use Rattle.lazbendix_c.specs.Calls.{Changes, IsClosed, IsOpen, SameHome, Shows};
+ghost use Rattle.lazbendix_c.specs.Refusals.{IsNoEntryText, IsNoRecord, telling_status};
 ghost use Rattle.lazbendix_c.specs.Texts.{HasRead, HasToldHead, HasToldRecord, IsEntryAt};
 
 use crate::handles::Handle;
@@ -25,7 +26,7 @@ pub extern "C" fn lazbendix_record(
     ensures done { result ≡ pos 0
         → Changes (λ s t. HasToldRecord s trace len.new t) h.old h.new }
     ensures refused { result ≢ pos 0 → result ≢ pos 1
-        → Shows (λ s. IsNoText s.closed (pos 15) result) h.old }
+        → Shows (λ s. IsNoRecord s result) h.old }
     ensures same { result ≢ pos 0 → SameHome h.old h.new }
     ensures untold { result ≢ pos 0 → len.new ≡ len.old }
     ensures closed { IsClosed h.old ↔ result ≡ pos 1 }
@@ -44,7 +45,7 @@ pub extern "C" fn lazbendix_record(
 
 /// Makes the head of a record of this home's windows, and tells how long it is.
 ///
-/// Where the answer is not `DONE` nothing has changed.
+/// Where the answer is not `DONE` there was no memory, and nothing has changed.
 #[unsafe(no_mangle)]
 pub extern "C" fn lazbendix_head(alloc: Global, h: &mut Handle, len: &mut usize) -> i32
     ensures done { result ≡ pos 0
@@ -57,8 +58,13 @@ pub extern "C" fn lazbendix_head(alloc: Global, h: &mut Handle, len: &mut usize)
 {
     match h.take(alloc) {
         Some(mut state) => {
-            let told = state.tell_head(alloc);
-            let status = status_of(&state, told, NO_RECORD, len);
+            let status = match state.tell_head(alloc) {
+                Ok(()) => {
+                    *len = state.text().len();
+                    DONE
+                }
+                Err(_) => NO_MEMORY,
+            };
             h.put(state);
             status
         }
@@ -80,7 +86,7 @@ pub extern "C" fn lazbendix_entry_text(
     ensures done { result ≡ pos 0
         → Changes (λ s t. HasToldEntry s at t × (len.new ≡ length t.text)) h.old h.new }
     ensures refused { result ≢ pos 0 → result ≢ pos 1
-        → Shows (λ s. IsNoText (slice_get (window_entries_told s) at) (pos 8) result) h.old }
+        → Shows (λ s. IsNoEntryText s at result) h.old }
     ensures same { result ≢ pos 0 → SameHome h.old h.new }
     ensures untold { result ≢ pos 0 → len.new ≡ len.old }
     ensures closed { IsClosed h.old ↔ result ≡ pos 1 }
@@ -100,8 +106,8 @@ pub extern "C" fn lazbendix_entry_text(
 /// The status of a text that was asked for, and its length where it was made.
 fn status_of(state: &LiveHome, told: Result<(), NotTold>, absent: i32, len: &mut usize) -> i32
     requires absent { (absent ≢ pos 0) × (absent ≢ pos 1) × (absent ≢ pos 5) }
-    ensures status { result ≡ telling_status told absent }
-    ensures len { result ≡ pos 0 → len.new ≡ length state.now.text }
+    ensures done { result ≡ pos 0 → (told ≡ Ok tt) × (len.new ≡ length state.now.text) }
+    ensures refused { IfErr told (λ why. result ≡ telling_status absent why) }
     ensures open { result ≢ pos 1 }
     ensures untold { result ≢ pos 0 → len.new ≡ len.old }
 {

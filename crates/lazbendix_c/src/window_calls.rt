@@ -1,6 +1,6 @@
 //! A window is opened on the home, and closed.
 ghost use Rattle.std.specs.Prelude.{◌≡◌, ◌≢◌, ◌↔◌, None, pos};
-ghost use Rattle.home_states.specs.Openings.{HasClosed, HasOpened};
+ghost use Rattle.home_states.specs.Openings.{HasClosed, HasOpened, first_against_opening};
 ghost use Rattle.lazbendix_c.specs.Calls.{Changes, IsClosed, SameHome, Shows};
 ghost use Rattle.lazbendix_c.specs.Refusals.{IsNotClosed, IsNotOpened};
 
@@ -15,6 +15,7 @@ use std::alloc::Global;
 #[unsafe(no_mangle)]
 pub extern "C" fn lazbendix_window(alloc: Global, h: &mut Handle, number: u32) -> i32
     ensures done { result ≡ pos 0 → Changes (λ s t. HasOpened s number t) h.old h.new }
+    ensures free { result ≡ pos 0 → Shows (λ s. first_against_opening s number ≡ None) h.old }
     ensures refused { result ≢ pos 0 → result ≢ pos 1
         → Shows (λ s. IsNotOpened s number result) h.old }
     ensures same { result ≢ pos 0 → SameHome h.old h.new }
@@ -33,6 +34,7 @@ pub extern "C" fn lazbendix_window(alloc: Global, h: &mut Handle, number: u32) -
 
 fn window(alloc: Global, state: &mut LiveHome, number: u32) -> i32
     ensures done { result ≡ pos 0 → HasOpened state.old number state.new }
+    ensures free { result ≡ pos 0 → first_against_opening state.old number ≡ None }
     ensures refused { result ≢ pos 0 → IsNotOpened state.old number result }
     ensures open { result ≢ pos 1 }
     ensures same { result ≢ pos 0 → state.new ≡ state.old }
