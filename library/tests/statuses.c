@@ -233,6 +233,26 @@ static void in_a_window(void) {
     IS(CLOSED, lazbendix_end(&hub));
 }
 
+/* A probe that may not go out leaves what is known of the runs. */
+static void a_probe_of_a_device_that_is_out(void) {
+    lazbendix_turn turn;
+    uint32_t blocked;
+    IS(DONE, lazbendix_window(&hub, 0));
+    do
+        IS(DONE, lazbendix_take(&hub, 1, 0, &turn));
+    while (turn.kind != LAZBENDIX_GO);
+    IS(DONE, lazbendix_blocked(&hub, 1, &blocked));
+    WANT(blocked == 0);
+    do
+        IS(DONE, lazbendix_take(&hub, 2, 0, &turn));
+    while (turn.kind != LAZBENDIX_WAITS);
+    WANT(turn.device == 0);
+    IS(NO_PROBE, lazbendix_probe(&hub, 0, &turn));
+    IS(DONE, lazbendix_blocked(&hub, 2, &blocked));
+    WANT(blocked == 1);
+    IS(DONE, lazbendix_end(&hub));
+}
+
 int main(void) {
     size_t len;
     lazbendix_fault fault;
@@ -254,6 +274,8 @@ int main(void) {
     closed();
     IS(DONE, lazbendix_open(&hub, SCRIPT, LAZBENDIX_PARTITIONED, LAZBENDIX_FCFS, &fault));
     in_a_window();
+    IS(DONE, lazbendix_open(&hub, SCRIPT, LAZBENDIX_EVENTUAL, LAZBENDIX_FCFS, &fault));
+    a_probe_of_a_device_that_is_out();
     puts("each export answers each of its statuses");
     return 0;
 }
