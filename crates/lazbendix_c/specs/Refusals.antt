@@ -76,10 +76,13 @@ abbrev pub standing_status : NotStanding → ℤ
 standing_status StandsInWindow = pos 6
 standing_status NoStand = pos 8
 
--- of a text, where this status tells that there is nothing of which it would tell
-abbrev pub telling_status : ℤ → NotTold → ℤ
-telling_status absent NoSubject = absent
-telling_status absent NoSpace = pos 5
+abbrev pub record_status : NotTold → ℤ
+record_status NoSubject = pos 15
+record_status NoSpace = pos 5
+
+abbrev pub entry_status : NotTold → ℤ
+entry_status NoSubject = pos 8
+entry_status NoSpace = pos 5
 
 -- the window of this number is not opened
 abbrev pub IsNotOpened : LiveState → ℕ → ℤ → Type 0
@@ -119,13 +122,12 @@ IsNotRestood s d value status =
 
 -- the text of the window closed last is not made
 abbrev pub IsNoRecord : LiveState → ℤ → Type 0
-IsNoRecord s status =
-    TellsReason (telling_status (pos 15)) (λ why. MayNotTellWindow s why) status
+IsNoRecord s status = TellsReason record_status (λ why. MayNotTellWindow s why) status
 
 -- the text of the entry at this place is not made
 abbrev pub IsNoEntryText : LiveState → ℕ → ℤ → Type 0
 IsNoEntryText s at status =
-    TellsReason (telling_status (pos 8)) (λ why. MayNotTellEntry s at why) status
+    TellsReason entry_status (λ why. MayNotTellEntry s at why) status
 
 -- it is not told how the device stands
 abbrev pub IsNotStanding : LiveState → ℕ → ℤ → Type 0

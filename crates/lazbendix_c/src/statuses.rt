@@ -1,8 +1,10 @@
 //! What a call answers.
 ghost use Rattle.std.specs.Prelude.{◌≡◌, ◌≢◌, pos};
-ghost use Rattle.lazbendix_c.specs.Refusals.{answer_status, closing_status, draft_status, opening_status, restanding_status, standing_status};
+ghost use Rattle.lazbendix_c.specs.Refusals.{answer_status, closing_status, draft_status, entry_status, opening_status, record_status, restanding_status, standing_status};
 
-use home_states::{NotAnswered, NotBegun, NotClosed, NotOpened, NotRestood, NotStanding};
+use home_states::{
+    NotAnswered, NotBegun, NotClosed, NotOpened, NotRestood, NotStanding, NotTold,
+};
 use hub_table::NotTaken;
 
 /// The call did what it says.
@@ -106,6 +108,28 @@ pub(crate) fn restanding_status(why: NotRestood) -> i32
         NotRestood::InWindow => IN_WINDOW,
         NotRestood::Absent => ABSENT,
         NotRestood::NoValue => NO_VALUE,
+    }
+}
+
+/// Why no text of a window is made.
+pub(crate) fn record_status(why: NotTold) -> i32
+    ensures status { result ≡ record_status why }
+    ensures refused { (result ≢ pos 0) × (result ≢ pos 1) }
+{
+    match why {
+        NotTold::Absent => NO_RECORD,
+        NotTold::NoMemory => NO_MEMORY,
+    }
+}
+
+/// Why no text of an entry is made.
+pub(crate) fn entry_status(why: NotTold) -> i32
+    ensures status { result ≡ entry_status why }
+    ensures refused { (result ≢ pos 0) × (result ≢ pos 1) }
+{
+    match why {
+        NotTold::Absent => ABSENT,
+        NotTold::NoMemory => NO_MEMORY,
     }
 }
 

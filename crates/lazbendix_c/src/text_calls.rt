@@ -1,15 +1,15 @@
 //! The texts of a home, and the entries of its window.
-ghost use Rattle.std.specs.Prelude.{◌≡◌, ◌≢◌, ◌↔◌, IfErr, None, Ok, length, pos, slice_get};
+ghost use Rattle.std.specs.Prelude.{◌≡◌, ◌≢◌, ◌↔◌, None, length, pos, slice_get};
 ghost use Rattle.home_states.specs.Texts.{HasToldEntry, window_entries_told};
 ghost use Rattle.lazbendix_c.specs.Calls.{Changes, IsClosed, IsOpen, SameHome, Shows};
-ghost use Rattle.lazbendix_c.specs.Refusals.{IsNoEntryText, IsNoRecord, telling_status};
+ghost use Rattle.lazbendix_c.specs.Refusals.{IsNoEntryText, IsNoRecord};
 ghost use Rattle.lazbendix_c.specs.Texts.{HasRead, HasToldHead, HasToldRecord, IsEntryAt};
 
 use crate::handles::Handle;
 use crate::numbers::copy_from;
-use crate::statuses::{ABSENT, CLOSED, DONE, NO_MEMORY, NO_RECORD};
+use crate::statuses::{ABSENT, CLOSED, DONE, NO_MEMORY, entry_status, record_status};
 use crate::told_entries::{ToldEntry, tell_entry};
-use home_states::{LiveHome, NotTold};
+use home_states::LiveHome;
 use std::alloc::Global;
 
 /// Makes the text of the window that was closed last, with its trace where `trace` is not 0, and
@@ -34,12 +34,27 @@ pub extern "C" fn lazbendix_record(
 {
     match h.take(alloc) {
         Some(mut state) => {
-            let told = state.tell_window(alloc, trace != 0);
-            let status = status_of(&state, told, NO_RECORD, len);
+            let status = record(alloc, &mut state, trace, len);
             h.put(state);
             status
         }
         None => CLOSED,
+    }
+}
+
+fn record(alloc: Global, state: &mut LiveHome, trace: u32, len: &mut usize) -> i32
+    ensures done { result ≡ pos 0 → HasToldRecord state.old trace len.new state.new }
+    ensures refused { result ≢ pos 0 → IsNoRecord state.old result }
+    ensures open { result ≢ pos 1 }
+    ensures same { result ≢ pos 0 → state.new ≡ state.old }
+    ensures untold { result ≢ pos 0 → len.new ≡ len.old }
+{
+    match state.tell_window(alloc, trace != 0) {
+        Ok(()) => {
+            *len = state.text().len();
+            DONE
+        }
+        Err(why) => record_status(why),
     }
 }
 
@@ -94,8 +109,7 @@ pub extern "C" fn lazbendix_entry_text(
 {
     match h.take(alloc) {
         Some(mut state) => {
-            let told = state.tell_entry(alloc, at);
-            let status = status_of(&state, told, ABSENT, len);
+            let status = entry_text(alloc, &mut state, at, len);
             h.put(state);
             status
         }
@@ -103,21 +117,20 @@ pub extern "C" fn lazbendix_entry_text(
     }
 }
 
-/// The status of a text that was asked for, and its length where it was made.
-fn status_of(state: &LiveHome, told: Result<(), NotTold>, absent: i32, len: &mut usize) -> i32
-    requires absent { (absent ≢ pos 0) × (absent ≢ pos 1) × (absent ≢ pos 5) }
-    ensures done { result ≡ pos 0 → (told ≡ Ok tt) × (len.new ≡ length state.now.text) }
-    ensures refused { IfErr told (λ why. result ≡ telling_status absent why) }
+fn entry_text(alloc: Global, state: &mut LiveHome, at: u64, len: &mut usize) -> i32
+    ensures done { result ≡ pos 0
+        → HasToldEntry state.old at state.new × (len.new ≡ length state.new.text) }
+    ensures refused { result ≢ pos 0 → IsNoEntryText state.old at result }
     ensures open { result ≢ pos 1 }
+    ensures same { result ≢ pos 0 → state.new ≡ state.old }
     ensures untold { result ≢ pos 0 → len.new ≡ len.old }
 {
-    match told {
+    match state.tell_entry(alloc, at) {
         Ok(()) => {
             *len = state.text().len();
             DONE
         }
-        Err(NotTold::Absent) => absent,
-        Err(NotTold::NoMemory) => NO_MEMORY,
+        Err(why) => entry_status(why),
     }
 }
 
