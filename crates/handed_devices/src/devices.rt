@@ -1,4 +1,7 @@
 //! What is known of a device whose calls are made elsewhere, and the bench of such devices.
+ghost use Rattle.std.specs.Prelude.{◌≡◌, ◌+◌, IsErr};
+ghost use Rattle.device_states.specs.Devices.{HasRoom};
+
 use device_states::{Bench, Dead, Device};
 use home_types::{DeviceNo, NoMemory, Value};
 use std::alloc::Global;
@@ -32,17 +35,34 @@ impl Device for HandedDevice {
       faults = s.faults;
     } };
 
-    fn drive(&mut self, _v: Value) -> Result<(), Dead> {
+    fn drive(&mut self, _v: Value) -> Result<(), Dead>
+        requires room { HasRoom self.old.turns self.old.probes self.old.faults }
+        ensures never { IsErr result }
+        ensures fault { self.new ≡ record self.old { faults = self.old.faults + 1 } }
+    {
+        // There is nothing to drive.
         self.faults += 1;
         Err(Dead)
     }
 
-    fn sense(&mut self) -> Result<Value, Dead> {
+    fn sense(&mut self) -> Result<Value, Dead>
+        requires room { HasRoom self.old.turns self.old.probes self.old.faults }
+        ensures never { IsErr result }
+        ensures fault { self.new ≡ record self.old { faults = self.old.faults + 1 } }
+    {
+        // There is nothing to sense.
         self.faults += 1;
         Err(Dead)
     }
 
-    fn probe(&mut self) -> Result<(), Dead> {
+    fn probe(&mut self) -> Result<(), Dead>
+        requires room { HasRoom self.old.turns self.old.probes self.old.faults }
+        ensures never { IsErr result }
+        ensures fault { self.new ≡ record self.old {
+          probes = self.old.probes + 1;
+          faults = self.old.faults + 1;
+        } }
+    {
         self.probes += 1;
         self.faults += 1;
         Err(Dead)

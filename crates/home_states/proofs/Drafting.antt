@@ -1,8 +1,7 @@
 -- A window is begun, and a run is added to it, over the home as it is inside.
-use Rattle.day_clock.specs.Times.{time_of}
 use Rattle.day_clock.specs.declared.times.When.{When}
 use Rattle.handed_devices.specs.declared.devices.HandedDevice.{HandedDevice}
-use Rattle.home_states.specs.Drafts.{HasAddedRun, HasBegunWindow}
+use Rattle.home_states.specs.Drafts.{HasAddedRun, HasBegunWindow, time_told}
 use Rattle.home_states.specs.LiveHomes.{IsBetweenIn, LiveState}
 use Rattle.home_states.specs.declared.homes.ClosedWindow.{ClosedWindow}
 use Rattle.home_states.specs.declared.homes.Phase.TheVariants.{Between}
@@ -15,14 +14,14 @@ use Rattle.std.proofs.Common.{ap, refl, subst, sym}
 use Rattle.std.specs.Prelude.{Err, IfOk, List, None, Ok, Option, Result, Some, true, ℕ, ◌≡◌}
 
 pub has_begun : (inside s : LiveState) (home : HomeState HandedDevice) (text : List ℕ) (at : When) (probes k : ℕ) (script : Script) (closed : Option ClosedWindow) → inside ≡ s → inside.phase ≡ Between home
-    → time_of text ≡ Some at → HasBegun inside.script at probes k script → closed ≡ None → HasBegunWindow s text probes k (record inside { script = script; is_draft = true; closed = closed })
+    → Some at ≡ time_told text → HasBegun inside.script at probes k script → closed ≡ None → HasBegunWindow s text probes k (record inside { script = script; is_draft = true; closed = closed })
 has_begun inside s home text at probes k script closed seen between time begun none =
     subst (λ (x : LiveState). HasBegunWindow x text probes k (record inside { script = script; is_draft = true; closed = closed })) seen
     (record {
       at = at;
       script = script;
       between = subst IsBetweenIn (sym between) tt;
-      time = time;
+      time = sym time;
       begun = begun;
       is = ap (λ (c : Option ClosedWindow). record inside { script = script; is_draft = true; closed = c }) none;
     })

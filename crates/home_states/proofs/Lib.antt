@@ -1,4 +1,5 @@
 mod Answered
 mod Drafting
 mod Living
+mod Refusing
 mod Windows

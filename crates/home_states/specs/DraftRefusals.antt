@@ -1,53 +1,20 @@
 -- Why no window is begun, and no run is added to it.
-use Rattle.day_clock.specs.Times.{time_of}
 use Rattle.day_clock.specs.declared.times.When.{When}
+use Rattle.home_states.specs.Drafts.{time_told}
 use Rattle.home_states.specs.LiveHomes.{LiveState}
 use Rattle.home_states.specs.declared.homes.Phase.TheVariants.{Between, InWindow, Moving}
 use Rattle.home_states.specs.declared.homes.Phase.{Phase}
 use Rattle.home_states.specs.declared.refusals.NotBegun.TheVariants.{Absent, BadFollow, BadTime, InWindow as IsInWindow, NoDraft, NoMemory, TooMany}
 use Rattle.home_states.specs.declared.refusals.NotBegun.{NotBegun}
-use Rattle.home_types.specs.Limits.{most_probes}
 use Rattle.home_types.specs.declared.numbers.RunNo.{RunNo}
-use Rattle.live_scripts.specs.Growth.{LastCannot, is_later_than_last}
+use Rattle.live_scripts.specs.Growth.{first_against_run, first_against_window}
+use Rattle.live_scripts.specs.Reasons.{IsRefusedFor}
 use Rattle.live_scripts.specs.declared.refusals.NotAdded.TheVariants.{NoMemory as NoRoom, NoRoutine, NoWindow, NotBefore, TooManyRuns}
 use Rattle.live_scripts.specs.declared.refusals.NotAdded.{NotAdded}
 use Rattle.live_scripts.specs.declared.refusals.NotBegun.TheVariants.{NoMemory as NoSpace, NotLater, TooManyProbes}
 use Rattle.live_scripts.specs.declared.refusals.NotBegun.{NotBegun as NotAppended}
 use Rattle.routine_reader.specs.declared.scripts.Script.{Script}
-use Rattle.std.specs.Prelude.{IsUtf8, List, Option, Some, [], false, length, ℕ, ⊤, ◌<◌, ◌≡◌, ◌≤◌, ◌⊎◌}
-
--- the text tells no time at which the next window may be
-abbrev pub TellsNoTime : Script → List ℕ → Type 0
-TellsNoTime script text =
-    IsUtf8 text → (at : When) → time_of text ≡ Some at → is_later_than_last script at ≡ false
-
-abbrev pub CannotBeginIn : Script → List ℕ → ℕ → NotBegun → Type 0
-CannotBeginIn script text probes IsInWindow = ⊥
-CannotBeginIn script text probes NoDraft = ⊥
-CannotBeginIn script text probes BadTime = TellsNoTime script text
-CannotBeginIn script text probes Absent = ⊥
-CannotBeginIn script text probes BadFollow = ⊥
-CannotBeginIn script text probes TooMany = most_probes < probes
-CannotBeginIn script text probes NoMemory = ⊤
-
-abbrev pub MayNotBeginIn : Script → Phase → List ℕ → ℕ → NotBegun → Type 0
-MayNotBeginIn script (Between home) text probes why = CannotBeginIn script text probes why
-MayNotBeginIn script (InWindow k hub) text probes why = why ≡ IsInWindow
-MayNotBeginIn script Moving text probes why = ⊥
-
--- why no window is begun
-abbrev pub MayNotBegin : LiveState → List ℕ → ℕ → NotBegun → Type 0
-MayNotBegin s text probes why = MayNotBeginIn s.script s.phase text probes why
-
--- why no run is added to the window that was begun
-abbrev pub MayNotAdd : LiveState → ℕ → Option RunNo → NotBegun → Type 0
-MayNotAdd s routine follows IsInWindow = ⊥
-MayNotAdd s routine follows NoDraft = (s.is_draft ≡ false) ⊎ (s.script.windows.items ≡ [])
-MayNotAdd s routine follows BadTime = ⊥
-MayNotAdd s routine follows Absent = length s.script.routines.items ≤ routine
-MayNotAdd s routine follows BadFollow = LastCannot s.script follows NotBefore
-MayNotAdd s routine follows TooMany = LastCannot s.script follows TooManyRuns
-MayNotAdd s routine follows NoMemory = ⊤
+use Rattle.std.specs.Prelude.{List, None, Option, Some, if◌then◌else◌, option_map, ℕ}
 
 -- what is told of why the script takes no window, or no run
 abbrev pub begun_why : NotAppended → NotBegun
@@ -61,3 +28,34 @@ added_why NoRoutine = Absent
 added_why NotBefore = BadFollow
 added_why TooManyRuns = TooMany
 added_why NoRoom = NoMemory
+
+-- the first reason against a window at this time, where there is one, with so many rounds of probes
+abbrev pub first_against_time : Script → Option When → ℕ → Option NotBegun
+first_against_time script None probes = Some BadTime
+first_against_time script (Some at) probes =
+    option_map begun_why (first_against_window script at probes)
+
+-- .. at the time that the text tells
+abbrev pub first_against_beginning : LiveState → List ℕ → ℕ → Option NotBegun
+first_against_beginning s text probes = by_phase s.phase
+  where
+    by_phase : Phase → Option NotBegun
+    by_phase (Between home) = first_against_time s.script (time_told text) probes
+    by_phase (InWindow k hub) = Some IsInWindow
+    by_phase Moving = Some IsInWindow
+
+-- why no window is begun
+abbrev pub MayNotBegin : LiveState → List ℕ → ℕ → NotBegun → Type 0
+MayNotBegin s text probes why =
+    IsRefusedFor NoMemory (first_against_beginning s text probes) why
+
+-- the first reason against a run of the window that was begun
+abbrev pub first_against_adding : LiveState → ℕ → Option RunNo → Option NotBegun
+first_against_adding s routine follows =
+    if s.is_draft then option_map added_why (first_against_run s.script routine follows)
+    else Some NoDraft
+
+-- why no run is added to it
+abbrev pub MayNotAdd : LiveState → ℕ → Option RunNo → NotBegun → Type 0
+MayNotAdd s routine follows why =
+    IsRefusedFor NoMemory (first_against_adding s routine follows) why

@@ -13,7 +13,12 @@ use Rattle.hub_core.specs.Homes.{HomeState}
 use Rattle.hub_core.specs.Restandings.{restood}
 use Rattle.live_scripts.specs.Growth.{HasBegun, HasRun}
 use Rattle.routine_reader.specs.declared.scripts.Script.{Script}
-use Rattle.std.specs.Prelude.{List, None, Option, Some, false, length, slice_get, true, ℕ, ◌≡◌, ◌≤◌}
+use Rattle.std.specs.Prelude.{List, None, Option, Some, if◌then◌else◌, length, nat_le, slice_get, true, ℕ, ◌≡◌}
+use Rattle.std.specs.Str.{is_utf8}
+
+-- the time that these bytes tell, where they are a text and it is one
+abbrev pub time_told : List ℕ → Option When
+time_told bytes = if is_utf8 bytes then time_of bytes else None
 
 -- a window without runs stands last in the script, at the time that the text tells
 pub record HasBegunWindow (s : LiveState) (text : List ℕ) (probes k : ℕ)
@@ -21,7 +26,7 @@ pub record HasBegunWindow (s : LiveState) (text : List ℕ) (probes k : ℕ)
   pub at : When
   pub script : Script
   pub between : IsBetweenWindows s
-  pub time : time_of text ≡ Some at
+  pub time : time_told text ≡ Some at
   pub begun : HasBegun s.script at probes k script
   pub is : t ≡ record s { script = script; is_draft = true; closed = None }
 
@@ -48,16 +53,20 @@ pub record HasRestood (s : LiveState) (d value : ℕ) (t : LiveState) : Type 0 w
   pub restood_so : WasRestood home d value after
   pub is : t ≡ record s { phase = Between after }
 
--- why it is not told so
-abbrev pub CannotRestand : HomeState HandedDevice → ℕ → ℕ → NotRestood → Type 0
-CannotRestand home d value IsInWindow = ⊥
-CannotRestand home d value Absent = length home.world ≤ d
-CannotRestand home d value NoValue = has_value (kind_at home.kinds d) value ≡ false
+-- the first reason against the device being found at the value
+abbrev pub first_against_finding : HomeState HandedDevice → ℕ → ℕ → Option NotRestood
+first_against_finding home d value =
+    if nat_le (length home.world) d then Some Absent
+    else (if has_value (kind_at home.kinds d) value then None else Some NoValue)
 
-abbrev pub MayNotRestandIn : Phase → ℕ → ℕ → NotRestood → Type 0
-MayNotRestandIn (Between home) d value why = CannotRestand home d value why
-MayNotRestandIn (InWindow k hub) d value why = why ≡ IsInWindow
-MayNotRestandIn Moving d value why = ⊥
+abbrev pub first_against_restanding : LiveState → ℕ → ℕ → Option NotRestood
+first_against_restanding s d value = by_phase s.phase
+  where
+    by_phase : Phase → Option NotRestood
+    by_phase (Between home) = first_against_finding home d value
+    by_phase (InWindow k hub) = Some IsInWindow
+    by_phase Moving = Some IsInWindow
 
+-- why the home is not told so
 abbrev pub MayNotRestand : LiveState → ℕ → ℕ → NotRestood → Type 0
-MayNotRestand s d value why = MayNotRestandIn s.phase d value why
+MayNotRestand s d value why = first_against_restanding s d value ≡ Some why

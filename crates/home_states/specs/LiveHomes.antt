@@ -12,7 +12,7 @@ use Rattle.routine_reader.specs.Rosters.{kinds_of, start_home}
 use Rattle.routine_reader.specs.Scripts.{plain_script}
 use Rattle.routine_reader.specs.Sound.{IsSound}
 use Rattle.routine_reader.specs.declared.scripts.Script.{Script}
-use Rattle.std.specs.Prelude.{Bool, IsTrue, List, None, Ok, Option, Some, [], false, ℕ, ⊤, ◌≡◌}
+use Rattle.std.specs.Prelude.{Bool, IfSome, IsTrue, List, None, Ok, Option, Some, [], false, length, ℕ, ⊤, ◌<◌, ◌≡◌}
 
 -- what a live home shows: its script, the mode of its windows, what it is in, whether the last
 -- window was begun and none opened since, the window closed last, and the text made last
@@ -30,11 +30,26 @@ FitsScript script (Between home) = home.kinds ≡ kinds_of script
 FitsScript script (InWindow k hub) = hub.setting.kinds ≡ kinds_of script
 FitsScript script Moving = ⊥
 
+-- the number of the window that is open, or else of the one closed last
+abbrev pub closed_number : Option ClosedWindow → Option ℕ
+closed_number None = None
+closed_number (Some closed) = Some closed.number
+
+abbrev pub number_in : Phase → Option ClosedWindow → Option ℕ
+number_in (Between home) closed = closed_number closed
+number_in (InWindow k hub) closed = Some k
+number_in Moving closed = None
+
+abbrev pub number_told : LiveState → Option ℕ
+number_told s = number_in s.phase s.closed
+
 -- what the type of a live home keeps
 pub record IsLive (s : LiveState) : Type 0 where
   pub sound : IsSound (plain_script s.script)
   pub goes : IsTrue (is_mode s.mode)
   pub fits : FitsScript s.script s.phase
+  -- the window that can be told of is one of the script
+  pub told : IfSome (number_told s) (λ k. k < length s.script.windows.items)
 
 -- the home is between two windows
 abbrev pub IsBetweenIn : Phase → Type 0

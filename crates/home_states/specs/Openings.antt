@@ -14,13 +14,14 @@ use Rattle.home_states.specs.declared.refusals.NotOpened.{NotOpened}
 use Rattle.home_types.specs.declared.modes.Mode.{Mode}
 use Rattle.hub_core.specs.HubCalls.{IsOpened, WindowIsClosed}
 use Rattle.hub_core.specs.Homes.{HomeState}
-use Rattle.legal_days.specs.LegalWindows.{history_of}
 use Rattle.hub_core.specs.OpenHubs.{OpenHub, configuration_of}
 use Rattle.hub_core.specs.Steps.{not_quiet}
+use Rattle.legal_days.specs.LegalWindows.{history_of}
+use Rattle.live_scripts.specs.Reasons.{IsRefusedFor}
 use Rattle.routine_reader.specs.Rosters.{script_runs}
 use Rattle.routine_reader.specs.declared.scripts.Script.{Script}
 use Rattle.routine_reader.specs.declared.scripts.WindowText.{WindowText}
-use Rattle.std.specs.Prelude.{None, Some, false, length, slice_get, ℕ, ⊤, ◌^◌, ◌≡◌, ◌≤◌}
+use Rattle.std.specs.Prelude.{None, Option, Some, false, if◌then◌else◌, length, nat_le, slice_get, ℕ, ◌^◌, ◌≡◌}
 
 -- what a device shows whose calls are made elsewhere
 abbrev pub handed_shows : HandedDevice → Shown
@@ -45,12 +46,15 @@ pub record IsOpenedOn (script : Script) (mode : Mode) (k : ℕ) (home : HomeStat
   pub at : slice_get script.windows.items k ≡ Some window
   pub opened : IsOpened handed_shows (live_setting_on script mode k home) window.probes home hub
 
+-- the first reason against the window of this number, on the home as it is
+abbrev pub first_against_home : Script → ℕ → HomeState HandedDevice → Option NotOpened
+first_against_home script k home =
+    if nat_le (length script.windows.items) k then Some Absent
+    else (if nat_le (2 ^ 31) home.opened then Some TooMany else None)
+
 -- why it cannot be
 abbrev pub CannotOpen : Script → ℕ → HomeState HandedDevice → NotOpened → Type 0
-CannotOpen script k home IsInWindow = ⊥
-CannotOpen script k home Absent = length script.windows.items ≤ k
-CannotOpen script k home TooMany = 2 ^ 31 ≤ home.opened
-CannotOpen script k home NoMemory = ⊤
+CannotOpen script k home why = IsRefusedFor NoMemory (first_against_home script k home) why
 
 -- the live home is in the window of this number, which was opened on the home that it was
 pub record HasOpened (s : LiveState) (k : ℕ) (t : LiveState) : Type 0 where
@@ -60,13 +64,18 @@ pub record HasOpened (s : LiveState) (k : ℕ) (t : LiveState) : Type 0 where
   pub opened : IsOpenedOn s.script s.mode k home hub
   pub is : t ≡ record s { phase = InWindow k hub; is_draft = false; closed = None }
 
-abbrev pub MayNotOpenIn : Script → ℕ → Phase → NotOpened → Type 0
-MayNotOpenIn script k (Between home) why = CannotOpen script k home why
-MayNotOpenIn script k (InWindow n hub) why = why ≡ IsInWindow
-MayNotOpenIn script k Moving why = ⊥
+-- the first reason against opening the window of this number
+abbrev pub first_against_opening : LiveState → ℕ → Option NotOpened
+first_against_opening s k = by_phase s.phase
+  where
+    by_phase : Phase → Option NotOpened
+    by_phase (Between home) = first_against_home s.script k home
+    by_phase (InWindow n hub) = Some IsInWindow
+    by_phase Moving = Some IsInWindow
 
+-- why it is not opened
 abbrev pub MayNotOpen : LiveState → ℕ → NotOpened → Type 0
-MayNotOpen s k why = MayNotOpenIn s.script k s.phase why
+MayNotOpen s k why = IsRefusedFor NoMemory (first_against_opening s k) why
 
 -- the live home is between two windows again, and has the record of the one that was open
 pub record HasClosed (s t : LiveState) : Type 0 where

@@ -2,12 +2,15 @@
 use Rattle.day_report.specs.Days.{window_text}
 use Rattle.day_report.specs.Lines.{trace_line}
 use Rattle.history_book.specs.declared.entries.Kept.{Kept}
-use Rattle.home_states.specs.LiveHomes.{LiveState}
+use Rattle.home_states.specs.LiveHomes.{LiveState, number_told}
 use Rattle.home_states.specs.declared.homes.ClosedWindow.{ClosedWindow}
 use Rattle.home_states.specs.declared.homes.Phase.TheVariants.{Between, InWindow, Moving}
 use Rattle.home_states.specs.declared.homes.Phase.{Phase}
+use Rattle.home_states.specs.declared.refusals.NotTold.TheVariants.{Absent, NoMemory}
+use Rattle.home_states.specs.declared.refusals.NotTold.{NotTold}
+use Rattle.live_scripts.specs.Reasons.{IsRefusedFor}
 use Rattle.routine_reader.specs.declared.scripts.WindowText.{WindowText}
-use Rattle.std.specs.Prelude.{Bool, List, None, Option, Some, [], slice_get, ℕ, ◌≡◌}
+use Rattle.std.specs.Prelude.{Bool, List, None, Option, Some, [], option_and_then, slice_get, ℕ, ◌≡◌}
 
 -- the text is that of the window closed last
 pub record HasToldWindow (s : LiveState) (trace : Bool) (t : LiveState) : Type 0 where
@@ -28,22 +31,14 @@ entries_in Moving closed = []
 abbrev pub window_entries_told : LiveState → List Kept
 window_entries_told s = entries_in s.phase s.closed
 
--- the number of that window
-abbrev pub closed_number : Option ClosedWindow → Option ℕ
-closed_number None = None
-closed_number (Some closed) = Some closed.number
-
-abbrev pub number_in : Phase → Option ClosedWindow → Option ℕ
-number_in (Between home) closed = closed_number closed
-number_in (InWindow k hub) closed = Some k
-number_in Moving closed = None
+-- the window of the script of which these entries tell
+abbrev pub window_told : LiveState → Option WindowText
+window_told s = option_and_then (λ k. slice_get s.script.windows.items k) (number_told s)
 
 -- the text is the line of this entry in the trace of its window
 pub record IsEntryText (s : LiveState) (kept : Kept) (text : List ℕ) : Type 0 where
-  pub number : ℕ
   pub window : WindowText
-  pub of : number_in s.phase s.closed ≡ Some number
-  pub its : slice_get s.script.windows.items number ≡ Some window
+  pub of : window_told s ≡ Some window
   pub line : text ≡ trace_line s.script window kept
 
 -- the text is that of the entry at this place
@@ -53,3 +48,17 @@ pub record HasToldEntry (s : LiveState) (at : ℕ) (t : LiveState) : Type 0 wher
   pub entry : slice_get (window_entries_told s) at ≡ Some kept
   pub its : IsEntryText s kept text
   pub is : t ≡ record s { text = text }
+
+-- the first reason against a text of this, where it is there
+abbrev pub first_against_text : {A : Type 0} → Option A → Option NotTold
+first_against_text None = Some Absent
+first_against_text (Some x) = None
+
+-- why the text of the window closed last is not made
+abbrev pub MayNotTellWindow : LiveState → NotTold → Type 0
+MayNotTellWindow s why = IsRefusedFor NoMemory (first_against_text s.closed) why
+
+-- why the text of the entry at this place is not made
+abbrev pub MayNotTellEntry : LiveState → ℕ → NotTold → Type 0
+MayNotTellEntry s at why =
+    IsRefusedFor NoMemory (first_against_text (slice_get (window_entries_told s) at)) why

@@ -1,8 +1,8 @@
 //! Windows of the moment: a window is begun, and runs are added to it, before it is opened.
-ghost use Rattle.std.specs.Prelude.{◌≡◌, IfErr, IfNone, IfOk, IfSome, IsUtf8, None, Some};
-ghost use Rattle.day_clock.specs.Times.{IsCivilTime, time_of};
-ghost use Rattle.home_states.specs.DraftRefusals.{MayNotAdd, MayNotBegin, added_why, begun_why};
-ghost use Rattle.home_states.specs.Drafts.{CannotRestand, HasAddedRun, HasBegunWindow, HasRestood, MayNotRestand, WasRestood};
+ghost use Rattle.std.specs.Prelude.{◌≡◌, IfErr, IfOk, IfSome, None, Some};
+ghost use Rattle.day_clock.specs.Times.{IsCivilTime};
+ghost use Rattle.home_states.specs.DraftRefusals.{MayNotAdd, MayNotBegin, added_why, begun_why, first_against_adding, first_against_beginning};
+ghost use Rattle.home_states.specs.Drafts.{HasAddedRun, HasBegunWindow, HasRestood, MayNotRestand, WasRestood, first_against_finding, first_against_restanding, time_told};
 
 use crate::homes::{LiveHome, Phase, remember};
 use crate::refusals::{NotBegun, NotRestood};
@@ -25,6 +25,7 @@ impl LiveHome {
     /// the next.
     pub fn begin_window(&mut self, alloc: Global, at: &[u8], probes: u32) -> Result<u32, NotBegun>
         ensures begun { IfOk result (λ k. HasBegunWindow self.old at.now probes k self.new) }
+        ensures free { IfOk result (λ _. first_against_beginning self.old at.now probes ≡ None) }
         ensures refused { IfErr result (λ why. MayNotBegin self.old at.now probes why) }
         ensures same { IfErr result (λ _. self.new ≡ self.old) }
     {
@@ -56,6 +57,7 @@ impl LiveHome {
     /// may.
     pub fn add_run(&mut self, routine: u32, follows: Option<RunNo>) -> Result<RunNo, NotBegun>
         ensures added { IfOk result (λ r. HasAddedRun self.old routine follows r.0 self.new) }
+        ensures free { IfOk result (λ _. first_against_adding self.old routine follows ≡ None) }
         ensures refused { IfErr result (λ why. MayNotAdd self.old routine follows why) }
         ensures same { IfErr result (λ _. self.new ≡ self.old) }
     {
@@ -79,6 +81,7 @@ impl LiveHome {
     /// value.
     pub fn restand(&mut self, d: DeviceNo, value: Value) -> Result<(), NotRestood>
         ensures restood { IfOk result (λ _. HasRestood self.old d.0 value self.new) }
+        ensures free { IfOk result (λ _. first_against_restanding self.old d.0 value ≡ None) }
         ensures refused { IfErr result (λ why. MayNotRestand self.old d.0 value why) }
         ensures same { IfErr result (λ _. self.new ≡ self.old) }
     {
@@ -92,9 +95,8 @@ impl LiveHome {
 
 /// The time that these bytes tell, `None` where they are none.
 fn time_in(bytes: &[u8]) -> Option<When>
-    ensures time { IfSome result (λ at. time_of bytes.now ≡ Some at) }
+    ensures time { result ≡ time_told bytes.now }
     ensures civil { IfSome result IsCivilTime }
-    ensures none { IfNone result (IsUtf8 bytes.now → time_of bytes.now ≡ None) }
 {
     match str::from_utf8(bytes) {
         Ok(text) => match read_time(text) {
@@ -130,7 +132,8 @@ fn not_added(why: NotAdded) -> NotBegun
 /// Tells the home that the device was found at this value.
 fn restand_in(home: &mut Home<HandedDevice>, d: DeviceNo, value: Value) -> Result<(), NotRestood>
     ensures restood { IfOk result (λ _. WasRestood home.old d.0 value home.new) }
-    ensures refused { IfErr result (λ why. CannotRestand home.old d.0 value why) }
+    ensures free { IfOk result (λ _. first_against_finding home.old d.0 value ≡ None) }
+    ensures refused { IfErr result (λ why. first_against_finding home.old d.0 value ≡ Some why) }
     ensures same { IfErr result (λ _. home.new ≡ home.old) }
 {
     home.kept();

@@ -1,6 +1,6 @@
 //! A window of the script is opened on the home, and closed.
-ghost use Rattle.std.specs.Prelude.{◌≡◌, IfErr, IfOk, IsTrue};
-ghost use Rattle.home_states.specs.Openings.{CannotOpen, HasClosed, HasOpened, IsOpenedOn, MayNotClose, MayNotOpen};
+ghost use Rattle.std.specs.Prelude.{◌≡◌, IfErr, IfOk, IsTrue, None};
+ghost use Rattle.home_states.specs.Openings.{CannotOpen, HasClosed, HasOpened, IsOpenedOn, MayNotClose, MayNotOpen, first_against_home, first_against_opening};
 ghost use Rattle.routine_reader.specs.Rosters.{kinds_of};
 ghost use Rattle.hub_core.specs.Openings.{is_mode};
 
@@ -25,6 +25,7 @@ impl LiveHome {
     /// as it may, and where there is no memory: then nothing has changed.
     pub fn window(&mut self, alloc: Global, number: u32) -> Result<(), NotOpened>
         ensures opened { IfOk result (λ _. HasOpened self.old number self.new) }
+        ensures free { IfOk result (λ _. first_against_opening self.old number ≡ None) }
         ensures refused { IfErr result (λ why. MayNotOpen self.old number why) }
         ensures same { IfErr result (λ _. self.new ≡ self.old) }
     {
@@ -96,6 +97,7 @@ fn open_on(
     requires goes { IsTrue (is_mode mode) }
     requires fits { home.kinds ≡ kinds_of script.now }
     ensures opened { IfOk result (λ table. IsOpenedOn script.now mode number home table) }
+    ensures free { IfOk result (λ _. first_against_home script.now number home ≡ None) }
     ensures refused { IfErr result (λ refused. CannotOpen script.now number home refused.1) }
     ensures same { IfErr result (λ refused. refused.0 ≡ home) }
 {

@@ -1,14 +1,16 @@
 //! The texts that a live home makes: of the window closed last, of an entry, of the head of its
 //! record.
-ghost use Rattle.std.specs.Prelude.{◌≡◌, Err, IfErr, IfOk, None, length, slice_get};
+ghost use Rattle.std.specs.Prelude.{◌≡◌, ◌≢◌, IfErr, IfOk, None, length, slice_get};
 ghost use Rattle.day_report.specs.Days as said;
-ghost use Rattle.home_states.specs.Texts.{HasToldEntry, HasToldWindow, IsEntryText, window_entries_told};
+ghost use Rattle.home_states.specs.Texts.{HasToldEntry, HasToldWindow, IsEntryText, MayNotTellEntry, MayNotTellWindow, first_against_text, window_entries_told, window_told};
+ghost use Rattle.std.specs.Option.{option_copied};
 
 use crate::homes::{LiveHome, Phase};
 use crate::refusals::NotTold;
 use day_report::{entry_text, head_text, window_text};
 use history_book::Kept;
 use home_types::{Bytes, NoMemory};
+use routine_reader::WindowText;
 use std::alloc::Global;
 
 impl LiveHome {
@@ -26,7 +28,8 @@ impl LiveHome {
     /// memory; it may be asked again.
     pub fn tell_window(&mut self, alloc: Global, trace: bool) -> Result<(), NotTold>
         ensures told { IfOk result (λ _. HasToldWindow self.old trace self.new) }
-        ensures absent { result ≡ Err NotTold.Absent → self.old.closed ≡ None }
+        ensures free { IfOk result (λ _. first_against_text self.old.closed ≡ None) }
+        ensures refused { IfErr result (λ why. MayNotTellWindow self.old why) }
         ensures same { IfErr result (λ _. self.new ≡ self.old) }
     {
         let Some(closed) = &self.closed else {
@@ -50,9 +53,12 @@ impl LiveHome {
     }
 
     /// Makes the head of a record of this home's windows: its two lines.
+    ///
+    /// Refused where there is no memory; it may be asked again.
     pub fn tell_head(&mut self, alloc: Global) -> Result<(), NotTold>
         ensures told { IfOk result
             (λ _. self.new ≡ record self.old { text = said.head_text self.old.mode }) }
+        ensures refused { IfErr result (λ why. why ≡ NotTold.NoMemory) }
         ensures same { IfErr result (λ _. self.new ≡ self.old) }
     {
         match head_text(alloc, self.mode) {
@@ -94,9 +100,16 @@ impl LiveHome {
         }
     }
 
-    /// Makes the line of the entry at this place, as a trace has it.
+    /// Makes the line of the entry at this place, counted from 0, as a trace has it: of the window
+    /// that is open, or of the one closed last where none is. Any entry that `entry` answers has a
+    /// line.
+    ///
+    /// Refused where there is no such entry, or no memory; it may be asked again.
     pub fn tell_entry(&mut self, alloc: Global, at: u64) -> Result<(), NotTold>
         ensures told { IfOk result (λ _. HasToldEntry self.old at self.new) }
+        ensures free { IfOk result
+            (λ _. first_against_text (slice_get (window_entries_told self.old) at) ≡ None) }
+        ensures refused { IfErr result (λ why. MayNotTellEntry self.old at why) }
         ensures same { IfErr result (λ _. self.new ≡ self.old) }
     {
         let Some(kept) = self.entry(at) else {
@@ -107,29 +120,34 @@ impl LiveHome {
                 self.text = text;
                 Ok(())
             }
-            Err(why) => Err(why),
+            Err(NoMemory) => Err(NotTold::NoMemory),
         }
     }
 
     /// The line of an entry of the window that is open, or of the one closed last.
-    fn text_of(&self, alloc: Global, kept: Kept) -> Result<Bytes, NotTold>
+    fn text_of(&self, alloc: Global, kept: Kept) -> Result<Bytes, NoMemory>
+        requires some { window_told self.now ≢ None }
         ensures { IfOk result (λ text. IsEntryText self.now kept text) }
+    {
+        match self.window_told() {
+            Some(window) => entry_text(alloc, self.script.script(), window, kept),
+            None => unreachable!(),
+        }
+    }
+
+    /// The window of the script of which entries are told: the one that is open, or the one closed
+    /// last where none is. `None` where there is neither.
+    fn window_told(&self) -> Option<&WindowText>
+        ensures { option_copied result ≡ window_told self.now }
     {
         let number = match &self.phase {
             Phase::InWindow(number, _) => *number,
             Phase::Between(_) => match &self.closed {
                 Some(closed) => closed.number,
-                None => return Err(NotTold::Absent),
+                None => return None,
             },
             Phase::Moving => unreachable!(),
         };
-        let script = self.script.script();
-        let Some(window) = script.windows.get(number as u64) else {
-            return Err(NotTold::Absent);
-        };
-        match entry_text(alloc, script, window, kept) {
-            Ok(text) => Ok(text),
-            Err(NoMemory) => Err(NotTold::NoMemory),
-        }
+        self.script.script().windows.get(number as u64)
     }
 }

@@ -1,1 +1,2 @@
 mod GrowthSound
+mod Refusing

@@ -3,13 +3,14 @@ use Rattle.day_clock.specs.Times.{is_before}
 use Rattle.day_clock.specs.declared.times.When.{When}
 use Rattle.home_types.specs.Limits.{most_probes, most_runs, most_windows}
 use Rattle.home_types.specs.declared.numbers.RunNo.{RunNo}
+use Rattle.live_scripts.specs.Reasons.{IsRefusedFor}
 use Rattle.live_scripts.specs.declared.refusals.NotAdded.TheVariants.{NoMemory as NoRoom, NoRoutine, NoWindow, NotBefore, TooManyRuns}
 use Rattle.live_scripts.specs.declared.refusals.NotAdded.{NotAdded}
 use Rattle.live_scripts.specs.declared.refusals.NotBegun.TheVariants.{NoMemory, NotLater, TooManyProbes}
 use Rattle.live_scripts.specs.declared.refusals.NotBegun.{NotBegun}
 use Rattle.routine_reader.specs.declared.scripts.Script.{Script}
 use Rattle.routine_reader.specs.declared.scripts.WindowText.{WindowText}
-use Rattle.std.specs.Prelude.{Bool, List, None, Option, Some, [], false, if◌then◌else◌, length, nat_le, nat_lt, slice_get, true, ℕ, ⊤, ◌&&◌, ◌++◌, ◌+◌, ◌-◌, ◌<◌, ◌∷◌, ◌≡◌, ◌≤◌}
+use Rattle.std.specs.Prelude.{Bool, List, None, Option, Some, [], if◌then◌else◌, length, nat_le, nat_lt, slice_get, true, ℕ, ◌&&◌, ◌++◌, ◌+◌, ◌-◌, ◌∷◌, ◌≡◌}
 
 -- what a script has of a window that is begun: its time, its rounds of probes, and neither turns
 -- nor runs
@@ -44,11 +45,17 @@ pub record HasBegun (before : Script) (at : When) (probes k : ℕ) (after : Scri
   pub devices : after.devices ≡ before.devices
   pub routines : after.routines ≡ before.routines
 
+-- the first reason against a window at this time with so many rounds of probes
+abbrev pub first_against_window : Script → When → ℕ → Option NotBegun
+first_against_window script at probes =
+    if is_later_than_last script at
+    then (if nat_lt most_probes probes then Some TooManyProbes else None)
+    else Some NotLater
+
 -- why no window is begun
 abbrev pub CannotBegin : Script → When → ℕ → NotBegun → Type 0
-CannotBegin script at probes NotLater = is_later_than_last script at ≡ false
-CannotBegin script at probes TooManyProbes = most_probes < probes
-CannotBegin script at probes NoMemory = ⊤
+CannotBegin script at probes why =
+    IsRefusedFor NoMemory (first_against_window script at probes) why
 
 -- whether a run behind so many others may follow this one
 abbrev pub is_earlier : Option RunNo → ℕ → Bool
@@ -69,25 +76,27 @@ pub record HasRun (before : Script) (routine : ℕ) (follows : Option RunNo) (r 
   pub devices : after.devices ≡ before.devices
   pub routines : after.routines ≡ before.routines
 
+-- the first reason against a run of this window that follows the other
+abbrev pub first_in_window : WindowText → Option RunNo → Option NotAdded
+first_in_window window follows =
+    if nat_le most_runs (length window.runs.items) then Some TooManyRuns
+    else (if is_earlier follows (length window.runs.items) then None else Some NotBefore)
+
+abbrev pub first_in_last : Option WindowText → Option RunNo → Option NotAdded
+first_in_last None follows = Some NoWindow
+first_in_last (Some window) follows = first_in_window window follows
+
+-- .. of the script
+abbrev pub first_against_run : Script → ℕ → Option RunNo → Option NotAdded
+first_against_run script routine follows =
+    if nat_le (length script.routines.items) routine then Some NoRoutine
+    else first_in_last (slice_get script.windows.items (length script.windows.items - 1)) follows
+
 -- why no run is added to this window
 abbrev pub CannotAppend : WindowText → Option RunNo → NotAdded → Type 0
-CannotAppend window follows NoWindow = ⊥
-CannotAppend window follows NoRoutine = ⊥
-CannotAppend window follows NotBefore = is_earlier follows (length window.runs.items) ≡ false
-CannotAppend window follows TooManyRuns = most_runs ≤ length window.runs.items
-CannotAppend window follows NoRoom = ⊤
-
--- .. as it is the last one of the script
-pub record LastCannot (script : Script) (follows : Option RunNo) (why : NotAdded) : Type 0 where
-  pub earlier : List WindowText
-  pub window : WindowText
-  pub last : script.windows.items ≡ earlier ++ window ∷ []
-  pub refuses : CannotAppend window follows why
+CannotAppend window follows why = IsRefusedFor NoRoom (first_in_window window follows) why
 
 -- why no run is added to the script
 abbrev pub CannotAdd : Script → ℕ → Option RunNo → NotAdded → Type 0
-CannotAdd script routine follows NoWindow = script.windows.items ≡ []
-CannotAdd script routine follows NoRoutine = length script.routines.items ≤ routine
-CannotAdd script routine follows NotBefore = LastCannot script follows NotBefore
-CannotAdd script routine follows TooManyRuns = LastCannot script follows TooManyRuns
-CannotAdd script routine follows NoRoom = ⊤
+CannotAdd script routine follows why =
+    IsRefusedFor NoRoom (first_against_run script routine follows) why

@@ -1,8 +1,8 @@
 //! A sound script that grows.
-ghost use Rattle.std.specs.Prelude.{◌≡◌, ◌++◌, ◌+◌, ◌<◌, ◌∷◌, [], IfErr, IfOk, length, true};
+ghost use Rattle.std.specs.Prelude.{◌≡◌, ◌++◌, ◌+◌, ◌<◌, ◌∷◌, [], IfErr, IfOk, None, length, true};
 ghost use Rattle.command_rules.specs.Rosters.{runs_of};
 ghost use Rattle.day_clock.specs.Times.{IsCivilTime};
-ghost use Rattle.live_scripts.specs.Growth.{CannotAdd, CannotAppend, CannotBegin, HasBegun, HasRun, is_earlier, is_later_than_last};
+ghost use Rattle.live_scripts.specs.Growth.{CannotAdd, CannotAppend, CannotBegin, HasBegun, HasRun, first_against_run, first_against_window, first_in_window, is_earlier, is_later_than_last};
 ghost use Rattle.routine_reader.specs.Rosters.{script_runs};
 ghost use Rattle.routine_reader.specs.Scripts.{plain_script};
 ghost use Rattle.routine_reader.specs.Sound.{IsSound};
@@ -72,6 +72,7 @@ impl LiveScript {
     pub fn begin(&mut self, alloc: Global, at: When, probes: u32) -> Result<u32, NotBegun>
         requires time { IsCivilTime at }
         ensures begun { IfOk result (λ k. HasBegun self.old at probes k self.new) }
+        ensures free { IfOk result (λ _. first_against_window self.old at probes ≡ None) }
         ensures refused { IfErr result (λ why. CannotBegin self.old at probes why) }
         ensures same { IfErr result (λ _. self.new ≡ self.old) }
     {
@@ -119,6 +120,7 @@ impl LiveScript {
     /// there, from 1. It waits for the end of the run that it follows.
     pub fn add_run(&mut self, routine: u32, follows: Option<RunNo>) -> Result<RunNo, NotAdded>
         ensures added { IfOk result (λ r. HasRun self.old routine follows r.0 self.new) }
+        ensures free { IfOk result (λ _. first_against_run self.old routine follows ≡ None) }
         ensures refused { IfErr result (λ why. CannotAdd self.old routine follows why) }
         ensures same { IfErr result (λ _. self.new ≡ self.old) }
     {
@@ -167,6 +169,7 @@ fn append_run(
     ensures few { IfOk result (λ _. length window.old.runs.items < 64) }
     ensures follows { IfOk result (λ _. is_earlier follows (length window.old.runs.items) ≡ true) }
     ensures rest { IfOk result (λ _. window.new ≡ record window.old { runs = window.new.runs }) }
+    ensures free { IfOk result (λ _. first_in_window window.old follows ≡ None) }
     ensures refused { IfErr result (λ why. CannotAppend window.old follows why) }
     ensures same { IfErr result (λ _. window.new ≡ window.old) }
 {

@@ -1,8 +1,9 @@
 use Rattle.command_rules.specs.Rosters.{runs_of}
+use Rattle.home_states.proofs.Refusing.{free_opened}
 use Rattle.home_states.proofs.Windows.{may_open_ever}
 use Rattle.home_states.proofs.openings.open_on.Goals as goal
 use Rattle.routine_reader.specs.Rosters.{script_runs}
-use Rattle.std.proofs.Common.{rules, ◌≡◌}
+use Rattle.std.proofs.Common.{inr, refl, rules, ◌≡◌}
 use Rattle.std.specs.Prelude.{Some, slice_get, ◌<◌, ◌^◌}
 
 pub open-requires : goal.open-requires
@@ -14,3 +15,21 @@ open-requires c =
     let runs : runs_of c.in-Ok.roster ≡ script_runs script c.args.number = search rules in
     let few : home.opened < 2 ^ 31 = search rules in
     record { may = may_open_ever _ script c.args.mode c.args.number window home c.in-Ok.roster c.script.ensures.sound c.requires.goes at runs c.kept.ensures c.requires.fits few }
+
+pub returns-in-Ok-open-clause-free : goal.returns-in-Ok-open-clause-free
+returns-in-Ok-open-clause-free c =
+    let at : slice_get c.args.script.now.windows.items c.args.number ≡ Some c.in-Some.window.now = search rules in
+    let few : c.args.home.opened < 2 ^ 31 = search rules in
+    free_opened c.args.script.now c.args.number c.in-Some.window.now c.args.home at few
+
+pub returns-in-Err-open-clause-refused : goal.returns-in-Err-open-clause-refused
+returns-in-Err-open-clause-refused c =
+    let at : slice_get c.args.script.now.windows.items c.args.number ≡ Some c.in-Some.window.now = search rules in
+    let few : c.args.home.opened < 2 ^ 31 = search rules in
+    inr (free_opened c.args.script.now c.args.number c.in-Some.window.now c.args.home at few, refl)
+
+pub returns-in-Err-clause-refused : goal.returns-in-Err-clause-refused
+returns-in-Err-clause-refused c =
+    let at : slice_get c.args.script.now.windows.items c.args.number ≡ Some c.in-Some.window.now = search rules in
+    let few : c.args.home.opened < 2 ^ 31 = search rules in
+    inr (free_opened c.args.script.now c.args.number c.in-Some.window.now c.args.home at few, refl)

@@ -1,5 +1,5 @@
 use Rattle.home_states.proofs.Living.{never_moving}
-use Rattle.home_states.proofs.homes.LiveHome.text_of.Goals as goal
+use Rattle.home_states.proofs.homes.LiveHome.window_told.Goals as goal
 
 pub unreachable-requires : goal.unreachable-requires
 unreachable-requires c = never_moving _ c.self.invariant c.in-Moving.is
