@@ -9,6 +9,7 @@ ghost use Rattle.lazbendix_c.specs.Refusals.{IsNotAdded, IsNotBegun, IsNotRestoo
 use crate::handles::Handle;
 use crate::numbers::{device_number, followed};
 use crate::statuses::{CLOSED, DONE, draft_status, restanding_status};
+use home_states::LiveHome;
 use std::alloc::Global;
 
 /// Appends a window without runs to the script, at the time that the text tells and with so many
@@ -36,17 +37,35 @@ pub extern "C" fn lazbendix_begin_window(
 {
     match h.take(alloc) {
         Some(mut state) => {
-            let status = match state.begin_window(alloc, at, probes) {
-                Ok(begun) => {
-                    *number = begun;
-                    DONE
-                }
-                Err(why) => draft_status(why),
-            };
+            let status = begin_window(alloc, &mut state, at, probes, number);
             h.put(state);
             status
         }
         None => CLOSED,
+    }
+}
+
+fn begin_window(
+    alloc: Global,
+    state: &mut LiveHome,
+    at: &[u8],
+    probes: u32,
+    number: &mut u32,
+) -> i32
+    ensures done { result ≡ pos 0
+        → HasBegunWindow state.old at.now probes number.new state.new }
+    ensures free { result ≡ pos 0 → first_against_beginning state.old at.now probes ≡ None }
+    ensures refused { result ≢ pos 0 → IsNotBegun state.old at.now probes result }
+    ensures open { result ≢ pos 1 }
+    ensures same { result ≢ pos 0 → state.new ≡ state.old }
+    ensures untold { result ≢ pos 0 → number.new ≡ number.old }
+{
+    match state.begin_window(alloc, at, probes) {
+        Ok(begun) => {
+            *number = begun;
+            DONE
+        }
+        Err(why) => draft_status(why),
     }
 }
 

@@ -71,9 +71,7 @@ impl HomeBlock {
         ensures { result.state ≡ Some held.value }
     {
         let HeldBox { at, alloc: _ } = held;
-        HomeBlock {
-            at: at as *mut (),
-        }
+        HomeBlock { at: at as *mut () }
     }
 
     /// Lets go of it where there is none.

@@ -2,9 +2,7 @@
 ghost use Rattle.std.specs.Prelude.{◌≡◌, ◌≢◌, pos};
 ghost use Rattle.lazbendix_c.specs.Refusals.{answer_status, closing_status, draft_status, entry_status, opening_status, record_status, restanding_status, standing_status};
 
-use home_states::{
-    NotAnswered, NotBegun, NotClosed, NotOpened, NotRestood, NotStanding, NotTold,
-};
+use home_states::{NotAnswered, NotBegun, NotClosed, NotOpened, NotRestood, NotStanding, NotTold};
 use hub_table::NotTaken;
 
 /// The call did what it says.
