@@ -1,20 +1,18 @@
 -- The machine values of a `Held`, and of a home's block. Assumes `Logic`.
-use Rattle.std.proofs.Common.{◌≡◌, ◌≢◌, ℕ, ◌^◌, ◌<◌, List, [], ◌∷◌, ◌++◌, ◌∙◌, lit<, refl, subst, w64}
+use Rattle.std.proofs.Common.{◌≡◌, ◌≢◌, ℕ, List, [], ◌∷◌, ◌++◌, ◌∙◌, lit<, refl, subst}
 use mathlib.Core.Bool.{Bool, true, false, ◌&&◌}
 use lib.Dec.{T}
 use seplogic.Ra.Ura.{Ura}
-use mir.Syntax.{impl, tnil, tcons, dnil, ty_int, ty_ptr, ty_struct, int_big}
+use mir.Syntax.{impl, tnil, tcons, dnil, ty_ptr, ty_struct}
 use mir.Raw.{raw as bare}
-use mir.Val.{Fits, Val, vint, vptr, vstruct, vcons, vnil, of_list, has_ty, WT}
-use base.Logic.{emp, ent, fst∗, guard_i, never, via}
+use mir.Val.{Val, vptr, vstruct, vcons, vnil, of_list, has_ty, WT}
+use base.Logic.{emp, ent, fst∗, never}
 use base.Fml.{Fml}
-use prog.Wp.{Env}
 use types.Logic.{Logic, sem}
 use types.Kit.{Item, Goal, Seq, Step, step, ‵, ◌$◌, move, drop, fsplit, fjoin, fpick, fpack, feq_i, feq_l}
 use denote.RattleType.{RattleType, Valss}
-use denote.Builtin.{RawPtr, u64}
+use denote.Builtin.{RawPtr}
 use denote.Shadow.{makes_shadow, shadow}
-use types.Run.{Opd}
 use denote.Memory.{lone}
 use denote.RawPtr.{Ptr, block_ptr, null_ptr, ptr_val, in_a_block}
 use denote.Steps.{nothing}

@@ -17,7 +17,7 @@ use denote.Steps.{nothing}
 use denote.Triple.Walked.{Stays, walk_of}
 use mir.Val.{Val}
 use types.ByLocal.{alloc_all, env, free_all, look_at, pass_all, sets}
-use types.Kit.{ !, by, fjoin, keep, move, qed, raw, split, use0, ‵, ◌$◌, ◌∵◌, ◌⊛◌}
+use types.Kit.{ !, by, fjoin, keep, qed, raw, split, use0, ‵, ◌$◌, ◌∵◌, ◌⊛◌}
 use denote.Triple.Entry.{alive}
 use types.Part.{agg}
 use types.Run.{and_then, enter, lit, no_more, returns}
