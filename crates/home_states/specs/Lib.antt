@@ -5,3 +5,4 @@ pub mod Openings
 pub mod Readings
 pub mod Steps
 pub mod Texts
+pub mod Tickets

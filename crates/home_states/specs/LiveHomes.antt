@@ -1,5 +1,6 @@
 -- A home that is stepped from outside, and what is kept of it.
 use Rattle.handed_devices.specs.declared.devices.HandedDevice.{HandedDevice}
+use Rattle.home_states.specs.Tickets.{TicketsAreLow, tickets_in}
 use Rattle.home_states.specs.declared.homes.ClosedWindow.{ClosedWindow}
 use Rattle.home_states.specs.declared.homes.Phase.TheVariants.{Between, InWindow, Moving}
 use Rattle.home_states.specs.declared.homes.Phase.{Phase}
@@ -12,14 +13,16 @@ use Rattle.routine_reader.specs.Rosters.{kinds_of, start_home}
 use Rattle.routine_reader.specs.Scripts.{plain_script}
 use Rattle.routine_reader.specs.Sound.{IsSound}
 use Rattle.routine_reader.specs.declared.scripts.Script.{Script}
-use Rattle.std.specs.Prelude.{Bool, IfSome, IsTrue, List, None, Ok, Option, Some, [], false, length, ℕ, ⊤, ◌<◌, ◌≡◌}
+use Rattle.std.specs.Prelude.{Bool, IfSome, IsTrue, List, None, Ok, Option, Some, [], false, length, ℕ, ⊤, ◌+◌, ◌<◌, ◌≡◌}
 
--- what a live home shows: its script, the mode of its windows, what it is in, whether the last
--- window was begun and none opened since, the window closed last, and the text made last
+-- what a live home shows: its script, the mode of its windows, what it is in, how many device
+-- calls were handed out before the window that is open, whether the last window was begun and none
+-- opened since, the window closed last, and the text made last
 pub record LiveState : Type 0 where
   pub script : Script
   pub mode : Mode
   pub phase : Phase
+  pub tickets_before : ℕ
   pub is_draft : Bool
   pub closed : Option ClosedWindow
   pub text : List ℕ
@@ -50,6 +53,16 @@ pub record IsLive (s : LiveState) : Type 0 where
   pub fits : FitsScript s.script s.phase
   -- the window that can be told of is one of the script
   pub told : IfSome (number_told s) (λ k. k < length s.script.windows.items)
+  pub tickets : TicketsAreLow s.tickets_before s.phase
+
+-- how many device calls the home has handed out, in all its windows
+abbrev pub tickets_given : LiveState → ℕ
+tickets_given s = s.tickets_before + tickets_in s.phase
+
+-- .. and the home counts them
+pub record IsCounted (s : LiveState) (tickets : ℕ) : Type 0 where
+  pub live : IsLive s
+  pub count : tickets ≡ tickets_given s
 
 -- the home is between two windows
 abbrev pub IsBetweenIn : Phase → Type 0
@@ -79,7 +92,7 @@ abbrev pub hub_in : LiveState → Option (OpenHub HandedDevice)
 hub_in s = hub_of s.phase
 
 -- a live home as it begins: the bytes are read as its script, every device is up at its start, and
--- no window was opened
+-- no window was opened, so no device call handed out
 pub record BeginsAs (bytes : List ℕ) (mode : Mode) (s : LiveState) : Type 0 where
   pub home : HomeState HandedDevice
   pub reading : script_reading bytes ≡ Ok (plain_script s.script)
@@ -87,6 +100,7 @@ pub record BeginsAs (bytes : List ℕ) (mode : Mode) (s : LiveState) : Type 0 wh
   pub phase : s.phase ≡ Between home
   pub world : home.world ≡ start_home s.script
   pub opened : home.opened ≡ 0
+  pub tickets : s.tickets_before ≡ 0
   pub draft : s.is_draft ≡ false
   pub closed : s.closed ≡ None
   pub text : s.text ≡ []

@@ -21,7 +21,7 @@ use Rattle.live_scripts.specs.Reasons.{IsRefusedFor}
 use Rattle.routine_reader.specs.Rosters.{script_runs}
 use Rattle.routine_reader.specs.declared.scripts.Script.{Script}
 use Rattle.routine_reader.specs.declared.scripts.WindowText.{WindowText}
-use Rattle.std.specs.Prelude.{None, Option, Some, false, if◌then◌else◌, length, nat_le, slice_get, ℕ, ◌^◌, ◌≡◌}
+use Rattle.std.specs.Prelude.{None, Option, Some, false, if◌then◌else◌, length, nat_le, slice_get, ℕ, ◌+◌, ◌^◌, ◌≡◌}
 
 -- what a device shows whose calls are made elsewhere
 abbrev pub handed_shows : HandedDevice → Shown
@@ -77,7 +77,8 @@ first_against_opening s k = by_phase s.phase
 abbrev pub MayNotOpen : LiveState → ℕ → NotOpened → Type 0
 MayNotOpen s k why = IsRefusedFor NoMemory (first_against_opening s k) why
 
--- the live home is between two windows again, and has the record of the one that was open
+-- the live home is between two windows again, has the record of the one that was open, and goes on
+-- with the numbers of device calls behind those of that window
 pub record HasClosed (s t : LiveState) : Type 0 where
   pub number : ℕ
   pub hub : OpenHub HandedDevice
@@ -90,6 +91,7 @@ pub record HasClosed (s t : LiveState) : Type 0 where
       → BeginsWithSealed hub.setting (history_of closed) closed.order.items
   pub is : t ≡ record s {
     phase = Between home;
+    tickets_before = s.tickets_before + hub.tickets;
     closed = Some (record { number = number; closed = closed });
   }
 

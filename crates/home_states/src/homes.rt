@@ -38,13 +38,19 @@ pub struct ClosedWindow {
 /// A home with its script, between its windows or in one. Its device calls are made elsewhere, and
 /// their answers are handed in.
 ///
-/// The type keeps that it is in a window or between two, and that its home is of the script's kinds
-/// of devices.
+/// The type keeps that it is in a window or between two, that its home is of the script's kinds of
+/// devices, and that each device call which it hands out has a number of its own, from 1, in all
+/// its windows.
 #[derive(Drop)]
 pub struct LiveHome {
     pub(crate) script: LiveScript,
     pub(crate) mode: Mode,
     pub(crate) phase: Phase,
+    /// How many device calls were handed out before the window that is open, or so far, where none
+    /// is.
+    pub(crate) tickets_before: u64,
+    /// How many device calls were handed out so far.
+    pub(crate) tickets: u64,
     /// Whether the script's last window was begun, and no window was opened since.
     pub(crate) is_draft: bool,
     /// The window closed last, until the next one is begun or opened.
@@ -54,7 +60,7 @@ pub struct LiveHome {
 }
 
 impl Model for LiveHome {
-    ghost use Rattle.home_states.specs.LiveHomes.{IsLive, LiveState};
+    ghost use Rattle.home_states.specs.LiveHomes.{IsCounted, LiveState};
 
     ghost Value = { LiveState };
 
@@ -62,19 +68,21 @@ impl Model for LiveHome {
       script = s.script;
       mode = s.mode;
       phase = s.phase;
+      tickets_before = s.tickets_before;
       is_draft = s.is_draft;
       closed = s.closed;
       text = s.text;
     } };
 
-    ghost invariant = { λ s. IsLive (record {
+    ghost invariant = { λ s. IsCounted (record {
       script = s.script;
       mode = s.mode;
       phase = s.phase;
+      tickets_before = s.tickets_before;
       is_draft = s.is_draft;
       closed = s.closed;
       text = s.text;
-    }) };
+    }) s.tickets };
 }
 
 impl LiveHome {
@@ -104,6 +112,8 @@ impl LiveHome {
                 script: LiveScript::of(script),
                 mode,
                 phase: Phase::Between(home),
+                tickets_before: 0,
+                tickets: 0,
                 is_draft: false,
                 closed: None,
                 text,

@@ -4,6 +4,7 @@
 
 mod drafts;
 pub mod homes;
+mod numbers;
 mod openings;
 mod readings;
 pub mod refusals;

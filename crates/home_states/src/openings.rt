@@ -1,10 +1,12 @@
 //! A window of the script is opened on the home, and closed.
-ghost use Rattle.std.specs.Prelude.{◌≡◌, IfErr, IfOk, IsTrue, None};
+ghost use Rattle.std.specs.Prelude.{◌≡◌, ◌≤◌, ◌*◌, ℕ, IfErr, IfOk, IsTrue, None};
 ghost use Rattle.home_states.specs.Openings.{CannotOpen, HasClosed, HasOpened, IsOpenedOn, MayNotClose, MayNotOpen, first_against_home, first_against_opening};
+ghost use Rattle.home_states.specs.Tickets.{WindowTickets, window_tickets};
 ghost use Rattle.routine_reader.specs.Rosters.{kinds_of};
 ghost use Rattle.hub_core.specs.Openings.{is_mode};
 
 use crate::homes::{ClosedWindow, LiveHome, Phase, remember, settle};
+use crate::numbers::few;
 use crate::refusals::{NotClosed, NotOpened};
 use handed_devices::HandedDevice;
 use home_types::{Mode, NoMemory};
@@ -62,21 +64,25 @@ impl LiveHome {
         ensures same { IfErr result (λ _. self.new ≡ self.old) }
     {
         match mem::replace(&mut self.phase, Phase::Moving) {
-            Phase::InWindow(number, table) => match table.close() {
-                Ok((home, record)) => {
-                    settle(&mut self.phase, Phase::Between(home));
-                    let closed = ClosedWindow {
-                        number,
-                        closed: record,
-                    };
-                    remember(&mut self.closed, Some(closed));
-                    Ok(())
+            Phase::InWindow(number, table) => {
+                few(&table);
+                match table.close() {
+                    Ok((home, record)) => {
+                        settle(&mut self.phase, Phase::Between(home));
+                        self.tickets_before = self.tickets;
+                        let closed = ClosedWindow {
+                            number,
+                            closed: record,
+                        };
+                        remember(&mut self.closed, Some(closed));
+                        Ok(())
+                    }
+                    Err((table, why)) => {
+                        settle(&mut self.phase, Phase::InWindow(number, table));
+                        Err(NotClosed::NotQuiet(why))
+                    }
                 }
-                Err((table, why)) => {
-                    settle(&mut self.phase, Phase::InWindow(number, table));
-                    Err(NotClosed::NotQuiet(why))
-                }
-            },
+            }
             Phase::Between(home) => {
                 settle(&mut self.phase, Phase::Between(home));
                 Err(NotClosed::NoWindow)
@@ -97,6 +103,8 @@ fn open_on(
     requires goes { IsTrue (is_mode mode) }
     requires fits { home.kinds ≡ kinds_of script.now }
     ensures opened { IfOk result (λ table. IsOpenedOn script.now mode number home table) }
+    ensures numbers { IfOk result (λ table. (before : ℕ) → before ≤ home.opened * window_tickets
+        → WindowTickets before table) }
     ensures free { IfOk result (λ _. first_against_home script.now number home ≡ None) }
     ensures refused { IfErr result (λ refused. CannotOpen script.now number home refused.1) }
     ensures same { IfErr result (λ refused. refused.0 ≡ home) }

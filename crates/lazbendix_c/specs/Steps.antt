@@ -2,7 +2,8 @@
 use Rattle.device_gate.specs.declared.slips.Told.{Told}
 use Rattle.history_book.specs.declared.entries.Entry.{Entry}
 use Rattle.home_states.specs.LiveHomes.{LiveState, hub_in}
-use Rattle.home_states.specs.Steps.{HasAnswered, HasProbed, HasTaken, IsBlockedRun, left_to_do}
+use Rattle.home_states.specs.Steps.{HasAnswered, HasNextNumber, HasProbed, HasTaken, IsBlockedRun, left_to_do}
+use Rattle.home_states.specs.Tickets.{call_told}
 use Rattle.hub_core.specs.declared.refusals.NotQuiet.{NotQuiet}
 use Rattle.hub_table.specs.Tables.{SlipAndTask}
 use Rattle.hub_table.specs.declared.told.Taken.{Taken}
@@ -16,10 +17,12 @@ use Rattle.std.specs.Prelude.{Bool, IsTrue, List, Option, Some, if◌then◌else
 abbrev pub one_where : Bool → ℕ
 one_where so = (if so then 1 else 0)
 
--- the step of the run was made, and this is told of it, with its entries, three at most
+-- the step of the run was made, and this is told of it, with its entries, three at most; a call
+-- that goes out has the home's next ticket
 pub record HasStepped (s : LiveState) (run now : ℕ) (told : ToldTurn) (t : LiveState) : Type 0 where
   pub taken : Taken
   pub step : HasTaken s run now taken t
+  pub number : HasNextNumber s (call_told taken) t
   pub told_is : told ≡ turn_of run taken
   pub few : told.made.count ≤ 3
 
@@ -33,10 +36,11 @@ pub record HasGiven (s : LiveState) (device ticket answer value now : ℕ) (told
   pub told_is : told ≡ made_of made
   pub few : told.count ≤ 3
 
--- a probe of the device went out, and this is told of it
+-- a probe of the device went out, with the home's next ticket, and this is told of it
 pub record HasSent (s : LiveState) (device : ℕ) (told : ToldTurn) (t : LiveState) : Type 0 where
   pub out : SlipAndTask
   pub probed : HasProbed s (device_number device) (Some out) t
+  pub number : HasNextNumber s (Some out) t
   pub told_is : told ≡ out_turn out.0 out.1
 
 -- 1 is told of a run that is known to be blocked: a window is open, and it waits in it at every

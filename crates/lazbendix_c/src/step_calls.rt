@@ -1,7 +1,7 @@
 //! The steps of an open window.
 ghost use Rattle.std.specs.Prelude.{◌≡◌, ◌≢◌, ◌↔◌, IfSome, None, Some, pos};
-ghost use Rattle.home_states.specs.LiveHomes.{hub_in};
-ghost use Rattle.home_states.specs.Steps.{HasProbed};
+ghost use Rattle.home_states.specs.LiveHomes.{IsWindowOpen, hub_in};
+ghost use Rattle.home_states.specs.Steps.{HasNextNumber, HasProbed, IsOfNoCall};
 ghost use Rattle.hub_table.specs.Tables.{SlipAndTask};
 ghost use Rattle.lazbendix_c.specs.Calls.{Changes, IsClosed, IsOpen, SameHome, Shows};
 ghost use Rattle.lazbendix_c.specs.Numbers.{device_number, told_as};
@@ -65,7 +65,7 @@ fn take(state: &mut LiveHome, run: u32, now: u64, turn: &mut ToldTurn) -> i32
 }
 
 /// Hands in what the device told to the call with this ticket, at this moment, in ms, or at the
-/// last one where that is later: a run's call or a probe.
+/// last one where that is later: a run's call or a probe. A ticket of a window before is not out.
 ///
 /// Where the answer is not `DONE` nothing has changed, and a device that is out stays out.
 #[unsafe(no_mangle)]
@@ -84,6 +84,8 @@ pub extern "C" fn lazbendix_give(
     ensures refused { result ≢ pos 0 → result ≢ pos 1 → IfSome (told_as answer value) (λ told.
         Shows (λ s. IsNotAnswered s (device_number device) ticket told result) h.old) }
     ensures wrong { told_as answer value ≡ None → IsOpen h.old → result ≡ pos 11 }
+    ensures late { IfSome h.old.home.state (λ s. IsWindowOpen s → IsOfNoCall s ticket
+        → told_as answer value ≢ None → result ≡ pos 10) }
     ensures same { result ≢ pos 0 → SameHome h.old h.new }
     ensures untold { result ≢ pos 0 → made.new ≡ made.old }
     ensures closed { IsClosed h.old ↔ result ≡ pos 1 }
@@ -113,6 +115,8 @@ fn give(
     ensures refused { result ≢ pos 0 → IfSome (told_as answer value)
         (λ told. IsNotAnswered state.old (device_number device) ticket told result) }
     ensures wrong { told_as answer value ≡ None → result ≡ pos 11 }
+    ensures late { IsWindowOpen state.old → IsOfNoCall state.old ticket
+        → told_as answer value ≢ None → result ≡ pos 10 }
     ensures same { result ≢ pos 0 → state.new ≡ state.old }
     ensures untold { result ≢ pos 0 → made.new ≡ made.old }
     ensures open { result ≢ pos 1 }
@@ -160,7 +164,8 @@ pub extern "C" fn lazbendix_probe(
 
 fn probe(state: &mut LiveHome, device: DeviceNo, turn: &mut ToldTurn) -> i32
     ensures done { result ≡ pos 0 → (out : SlipAndTask)
-        × HasProbed state.old device.0 (Some out) state.new × (turn.new ≡ out_turn out.0 out.1) }
+        × HasProbed state.old device.0 (Some out) state.new
+        × HasNextNumber state.old (Some out) state.new × (turn.new ≡ out_turn out.0 out.1) }
     ensures refused { result ≢ pos 0 → IsNotSent state.old device.0 result }
     ensures open { result ≢ pos 1 }
     ensures same { result ≢ pos 0 → state.new ≡ state.old }

@@ -1,7 +1,10 @@
 use Rattle.command_rules.specs.Rosters.{runs_of}
+use Rattle.home_states.proofs.Counting.{opened_numbers}
 use Rattle.home_states.proofs.Refusing.{free_opened}
 use Rattle.home_states.proofs.Windows.{may_open_ever}
 use Rattle.home_states.proofs.openings.open_on.Goals as goal
+use Rattle.home_states.specs.Openings.{handed_shows}
+use Rattle.hub_core.specs.Homes.{setting_for}
 use Rattle.routine_reader.specs.Rosters.{script_runs}
 use Rattle.std.proofs.Common.{inr, refl, rules, ◌≡◌}
 use Rattle.std.specs.Prelude.{Some, slice_get, ◌<◌, ◌^◌}
@@ -33,3 +36,15 @@ returns-in-Err-clause-refused c =
     let at : slice_get c.args.script.now.windows.items c.args.number ≡ Some c.in-Some.window.now = search rules in
     let few : c.args.home.opened < 2 ^ 31 = search rules in
     inr (free_opened c.args.script.now c.args.number c.in-Some.window.now c.args.home at few, refl)
+
+pub returns-in-Ok-open-clause-numbers : goal.returns-in-Ok-open-clause-numbers
+returns-in-Ok-open-clause-numbers c =
+    let script = c.args.script.now in
+    let window = c.in-Some.window.now in
+    let home = c.args.home in
+    let at : slice_get script.windows.items c.args.number ≡ Some window = search rules in
+    let runs : runs_of c.in-Ok.roster ≡ script_runs script c.args.number = search rules in
+    let few : home.opened < 2 ^ 31 = search rules in
+    opened_numbers handed_shows (setting_for home c.in-Ok.roster c.args.mode) window.probes home c.in-Ok-open.table
+    (may_open_ever _ script c.args.mode c.args.number window home c.in-Ok.roster c.script.ensures.sound c.requires.goes at runs c.kept.ensures c.requires.fits few)
+    c.in-Ok-open.ensures.opened c.kept.ensures.size

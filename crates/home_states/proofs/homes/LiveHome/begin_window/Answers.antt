@@ -3,7 +3,7 @@ use Rattle.home_states.proofs.Living.{never_moving}
 use Rattle.home_states.proofs.homes.LiveHome.begin_window.Goals as goal
 
 pub unreachable-requires : goal.unreachable-requires
-unreachable-requires c = never_moving _ c.self.invariant c.in-Moving.is
+unreachable-requires c = never_moving _ c.self.invariant.live c.in-Moving.is
 
 pub returns-in-Ok-clause-begun : goal.returns-in-Ok-clause-begun
 returns-in-Ok-clause-begun c =

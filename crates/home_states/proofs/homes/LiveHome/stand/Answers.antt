@@ -2,4 +2,4 @@ use Rattle.home_states.proofs.Living.{never_moving}
 use Rattle.home_states.proofs.homes.LiveHome.stand.Goals as goal
 
 pub unreachable-requires : goal.unreachable-requires
-unreachable-requires c = never_moving _ c.self.invariant c.in-Moving.is
+unreachable-requires c = never_moving _ c.self.invariant.live c.in-Moving.is

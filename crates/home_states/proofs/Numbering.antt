@@ -1,0 +1,270 @@
+-- The numbers of device calls go on from step to step.
+use Rattle.device_gate.specs.Calls.{may_tell}
+use Rattle.device_gate.specs.Grips.{Gripped}
+use Rattle.device_gate.specs.Places.{all_home, kept_of}
+use Rattle.device_gate.specs.declared.gates.Place.TheVariants.{Home, Out}
+use Rattle.device_gate.specs.declared.gates.Place.{Place}
+use Rattle.device_gate.specs.declared.grips.Done.{Done}
+use Rattle.device_gate.specs.declared.grips.Ready.{Ready}
+use Rattle.device_gate.specs.declared.slips.Slip.{Slip}
+use Rattle.device_gate.specs.declared.slips.Task.{Task}
+use Rattle.device_gate.specs.declared.slips.Told.{Told}
+use Rattle.handed_devices.specs.declared.devices.HandedDevice.{HandedDevice}
+use Rattle.history_book.specs.declared.entries.Entry.{Entry}
+use Rattle.home_states.proofs.Counting.{back_counted, probe_counted, turn_counted}
+use Rattle.home_states.specs.LiveHomes.{FitsScript, IsCounted, IsLive, LiveState, number_in, tickets_given}
+use Rattle.home_states.specs.Openings.{IsOpenedOn}
+use Rattle.home_states.specs.Steps.{HasNextNumber}
+use Rattle.home_states.specs.Tickets.{CallsAreFew, TicketsAreGiven, TicketsAreLow, WindowTickets, call_told, count_after, numbered, numbered_call, numbered_turn, tickets_in}
+use Rattle.home_states.specs.declared.homes.Phase.TheVariants.{Between, InWindow}
+use Rattle.history_book.specs.Settings.{Setting}
+use Rattle.hub_core.specs.Homes.{HomeState}
+use Rattle.hub_core.specs.HubCalls.{IsProbed, IsTurn, SameWindow}
+use Rattle.hub_core.specs.OpenHubs.{OpenHub, configuration_of}
+use Rattle.hub_core.specs.declared.turns.Turn.TheVariants.{Absent, Go, Moved, Over, Wait}
+use Rattle.hub_core.specs.declared.turns.Turn.{Turn}
+use Rattle.hub_table.specs.Answers.{HasComeBack, refusal, unfit_for}
+use Rattle.hub_table.specs.Tables.{IsBack, SlipAndTask, lent_by, taken_of}
+use Rattle.hub_table.specs.declared.told.NotTaken.TheVariants.{NotOut}
+use Rattle.hub_table.specs.declared.told.NotTaken.{NotTaken}
+use Rattle.hub_table.specs.declared.told.Taken.TheVariants.{Absent as IsAbsent, Moved as HasMoved, Out as IsOut, Over as IsOver, Waits as IsWaiting}
+use Rattle.hub_table.specs.declared.told.Taken.{Taken}
+use Rattle.lock_leasing.specs.Configurations.{Configuration}
+use Rattle.std.proofs.Common.{ap, arith, inl, inr, refl, rules, subst, sym, ◌∙◌}
+use Rattle.std.proofs.lemmas.Grind.{common_steps}
+use Rattle.std.proofs.lemmas.List.{length-set}
+use Rattle.std.proofs.lemmas.Option.{slice_get_within}
+use Rattle.std.specs.Prelude.{Bool, IfSome, List, None, Option, Some, [], false, if◌then◌else◌, length, slice_get, slice_set, suc, true, zero, ℕ, ◌*◌, ◌+◌, ◌-◌, ◌<◌, ◌==◌, ◌^◌, ◌∷◌, ◌≡◌, ◌≢◌, ◌≤◌, ◌⊎◌}
+
+-- Tickets of the calls that are out
+
+set_get : {A : Type 0} (xs : List A) (i j : ℕ) (y x : A) → slice_get (slice_set xs i y) j ≡ Some x → (y ≡ x) ⊎ (slice_get xs j ≡ Some x)
+set_get [] i j y x at = inr at
+set_get (z ∷ xs) zero zero y x at = let same : y ≡ x = cc in inl same
+set_get (z ∷ xs) zero (suc j) y x at = inr at
+set_get (z ∷ xs) (suc i) zero y x at = inr at
+set_get (z ∷ xs) (suc i) (suc j) y x at = set_get xs i j y x at
+
+same_out : (a b : Slip) (v w : Task) → ◌≡◌ {A = Place HandedDevice} (Out a v) (Out b w) → a ≡ b
+same_out a b v w same = cc
+
+not_home : (device : HandedDevice) (slip : Slip) (task : Task) → ◌≡◌ {A = Place HandedDevice} (Home device) (Out slip task) → ⊥
+not_home device slip task same = absurd (cc)
+
+same_given : (places after : List (Place HandedDevice)) (tickets now : ℕ) → TicketsAreGiven places tickets → after ≡ places → now ≡ tickets → TicketsAreGiven after now
+same_given places after tickets now given same count = subst (λ p. TicketsAreGiven p now) (sym same) (subst (λ n. TicketsAreGiven places n) (sym count) given)
+
+out_given : (places after : List (Place HandedDevice)) (tickets now d : ℕ) (slip : Slip) (task : Task) → TicketsAreGiven places tickets → after ≡ slice_set places d (Out slip task) → slip.ticket ≡ tickets + 1 → now ≡ tickets + 1 → TicketsAreGiven after now
+out_given places after tickets now d slip task given put ticket count e other does at =
+    elim (set_get places d e (Out slip task) (Out other does) (ap (λ l. slice_get l e) (sym put) ∙ at)) [
+      | inl same ↦ (let own = ap (λ (x : Slip). x.ticket) (same_out slip other task does same) in (omega (arith, own, ticket, count), omega (arith, own, ticket, count)))
+      | inr old ↦ (let was = given e other does old in (was.0, omega (arith, was.1, count)))
+    ]
+
+home_given : (places after : List (Place HandedDevice)) (tickets now d : ℕ) (device : HandedDevice) → TicketsAreGiven places tickets → after ≡ slice_set places d (Home device) → now ≡ tickets → TicketsAreGiven after now
+home_given places after tickets now d device given put count e other does at =
+    elim (set_get places d e (Home device) (Out other does) (ap (λ l. slice_get l e) (sym put) ∙ at)) [
+      | inl same ↦ absurd (not_home device other does same)
+      | inr old ↦ (let was = given e other does old in (was.0, omega (arith, was.1, count)))
+    ]
+
+same_size : (places after : List (Place HandedDevice)) (d : ℕ) (place : Place HandedDevice) → after ≡ slice_set places d place → length after ≡ length places
+same_size places after d place put = ap (λ l. length l) put ∙ length-set places d place
+
+-- Windows
+
+window_on : (before : ℕ) (hub next : OpenHub HandedDevice) → WindowTickets before hub → SameWindow hub next → length next.places ≡ length hub.places → CallsAreFew (configuration_of next) next.tickets → TicketsAreGiven next.places next.tickets → WindowTickets before next
+window_on before hub next was window size few given = record {
+  before_low = omega (arith, was.before_low, window.opened);
+  few_windows = omega (arith, was.few_windows, window.opened);
+  size = (let first = ap (λ (w : Setting). length w.first) window.setting in omega (arith, was.size, size, first));
+  few_calls = few;
+  given = given;
+}
+
+turn_on : (before : ℕ) (hub next : OpenHub HandedDevice) (r m : ℕ) (turn : Turn HandedDevice) → WindowTickets before hub → IsTurn hub r m turn next → SameWindow hub next → WindowTickets before next
+turn_on before hub next r m (Go grip) was step window =
+    window_on before hub next was window (same_size hub.places next.places grip.slip.device.0 (Out grip.slip grip.task) step.places) (turn_counted hub next r m (Go grip) was.size step was.few_calls)
+    (out_given hub.places next.places hub.tickets next.tickets grip.slip.device.0 grip.slip grip.task was.given step.places step.next.ticket step.next.tickets)
+turn_on before hub next r m (Moved made) was step window =
+    window_on before hub next was window (ap (λ l. length l) step.places) (turn_counted hub next r m (Moved made) was.size step was.few_calls) (same_given hub.places next.places hub.tickets next.tickets was.given step.places step.tickets)
+turn_on before hub next r m (Wait why) was step window =
+    window_on before hub next was window (ap (λ l. length l) step.0.places) (turn_counted hub next r m (Wait why) was.size step was.few_calls) (same_given hub.places next.places hub.tickets next.tickets was.given step.0.places step.0.tickets)
+turn_on before hub next r m (Over end made) was step window =
+    window_on before hub next was window (ap (λ l. length l) step.places) (turn_counted hub next r m (Over end made) was.size step was.few_calls) (same_given hub.places next.places hub.tickets next.tickets was.given step.places step.tickets)
+turn_on before hub next r m Absent was step window =
+    window_on before hub next was window (ap (λ l. length l) step.0.places) (turn_counted hub next r m Absent was.size step was.few_calls) (same_given hub.places next.places hub.tickets next.tickets was.given step.0.places step.0.tickets)
+
+probe_on : (before : ℕ) (hub next : OpenHub HandedDevice) (d : ℕ) (grip : Option (Gripped HandedDevice Ready)) → WindowTickets before hub → IsProbed hub d grip next → SameWindow hub next → WindowTickets before next
+probe_on before hub next d (Some grip) was step window =
+    window_on before hub next was window (same_size hub.places next.places d (Out grip.slip grip.task) step.2) (probe_counted hub next d (Some grip) step was.few_calls)
+    (out_given hub.places next.places hub.tickets next.tickets d grip.slip grip.task was.given step.2 step.3.ticket step.3.tickets)
+probe_on before hub next d None was step window = subst (λ (x : OpenHub HandedDevice). WindowTickets before x) (sym step.1) was
+
+back_on : (before : ℕ) (hub next : OpenHub HandedDevice) (done : Gripped HandedDevice Done) (m : ℕ) (made : List Entry) → WindowTickets before hub → IsBack hub done m made next → SameWindow hub next → WindowTickets before next
+back_on before hub next done m made was back window =
+    let home : next.places ≡ slice_set hub.places done.slip.device.0 (Home done.device) = elim back [ inl given ↦ given.1 | inr given ↦ given.1 ] in
+    let count : next.tickets ≡ hub.tickets = elim back [ inl given ↦ given.2 | inr given ↦ given.2 ] in
+    window_on before hub next was window (same_size hub.places next.places done.slip.device.0 (Home done.device) home) (back_counted hub next done m made was.size back was.few_calls)
+    (home_given hub.places next.places hub.tickets next.tickets done.slip.device.0 done.device was.given home count)
+
+-- Live homes
+
+-- what is kept of the window in which a live home is
+pub window_of : (s : LiveState) (k : ℕ) (hub : OpenHub HandedDevice) → IsLive s → s.phase ≡ InWindow k hub → WindowTickets s.tickets_before hub
+window_of s k hub live is = subst (λ p. TicketsAreLow s.tickets_before p) is live.tickets
+
+live_on : (s : LiveState) (k : ℕ) (hub next : OpenHub HandedDevice) → IsLive s → s.phase ≡ InWindow k hub → SameWindow hub next → WindowTickets s.tickets_before next → IsLive (record s { phase = InWindow k next })
+live_on s k hub next live is window tickets = record {
+  sound = live.sound;
+  goes = live.goes;
+  fits = ap (λ (w : Setting). w.kinds) window.setting ∙ subst (λ p. FitsScript s.script p) is live.fits;
+  told = subst (λ p. IfSome (number_in p s.closed) (λ n. n < length s.script.windows.items)) is live.told;
+  tickets = tickets;
+}
+
+pub given_in : (s : LiveState) (k : ℕ) (hub : OpenHub HandedDevice) → s.phase ≡ InWindow k hub → tickets_given s ≡ s.tickets_before + hub.tickets
+given_in s k hub is = ap (λ p. s.tickets_before + tickets_in p) is
+
+-- a call that goes out, or none: how many were handed out then, and now
+abbrev pub IsNext : ℕ → ℕ → Option SlipAndTask → Type 0
+IsNext was now None = now ≡ was
+IsNext was now (Some out) = (out.0.ticket ≡ was + 1) × (now ≡ was + 1)
+
+turn_next : (hub next : OpenHub HandedDevice) (r m : ℕ) (turn : Turn HandedDevice) → IsTurn hub r m turn next → IsNext hub.tickets next.tickets (call_told (taken_of turn))
+turn_next hub next r m (Go grip) step = (step.next.ticket, step.next.tickets)
+turn_next hub next r m (Moved made) step = step.tickets
+turn_next hub next r m (Wait why) step = step.0.tickets
+turn_next hub next r m (Over end made) step = step.tickets
+turn_next hub next r m Absent step = step.0.tickets
+
+probe_next : (hub next : OpenHub HandedDevice) (d : ℕ) (grip : Option (Gripped HandedDevice Ready)) → IsProbed hub d grip next → IsNext hub.tickets next.tickets (lent_by grip)
+probe_next hub next d (Some grip) step = (step.3.ticket, step.3.tickets)
+probe_next hub next d None step = ap (λ (x : OpenHub HandedDevice). x.tickets) step.1
+
+next_count : (before tickets was now : ℕ) (call : Option SlipAndTask) → tickets ≡ before + was → IsNext was now call → count_after tickets before call ≡ before + now
+next_count before tickets was now None count next = omega (arith, count, next)
+next_count before tickets was now (Some out) count next = omega (arith, count, next.0, next.1)
+
+next_few : (before was now : ℕ) (call : Option SlipAndTask) → IsNext was now call → now ≤ 131072 → before < 2 ^ 48 → IfSome call (λ out. before + out.0.ticket < 2 ^ 64)
+next_few before was now None next few low = tt
+next_few before was now (Some out) next few low = omega (arith, next.0, next.1, few, low)
+
+before_low : (before : ℕ) (hub : OpenHub HandedDevice) → WindowTickets before hub → before < 2 ^ 48
+before_low before hub was = omega (arith, was.before_low, was.few_windows)
+
+-- the number told is the home's next one
+next_number : (inside s : LiveState) (k : ℕ) (hub next : OpenHub HandedDevice) (call : Option SlipAndTask) → inside ≡ s → inside.phase ≡ InWindow k hub → IsNext hub.tickets next.tickets call
+    → HasNextNumber s (numbered_call inside.tickets_before call) (record inside { phase = InWindow k next })
+next_number inside s k hub next call seen is step =
+    subst (λ (x : LiveState). HasNextNumber x (numbered_call inside.tickets_before call) (record inside { phase = InWindow k next })) seen (by_call call step)
+  where
+    by_call : (call : Option SlipAndTask) → IsNext hub.tickets next.tickets call → HasNextNumber inside (numbered_call inside.tickets_before call) (record inside { phase = InWindow k next })
+    by_call None step = let was = given_in inside k hub is in omega (arith, was, step)
+    by_call (Some out) step = let was = given_in inside k hub is in (omega (arith, was, step.0), omega (arith, was, step.1))
+
+call_of_turn : (before : ℕ) (taken : Taken) → call_told (numbered_turn before taken) ≡ numbered_call before (call_told taken)
+call_of_turn before (IsOut slip task) = refl
+call_of_turn before (HasMoved made) = refl
+call_of_turn before (IsWaiting why) = refl
+call_of_turn before (IsOver end made) = refl
+call_of_turn before IsAbsent = refl
+
+-- A step of a run
+
+pub turn_few : (s : LiveState) (k : ℕ) (hub next : OpenHub HandedDevice) (r m : ℕ) (turn : Turn HandedDevice) (taken : Taken) → IsLive s → s.phase ≡ InWindow k hub → IsTurn hub r m turn next → SameWindow hub next
+    → (CallsAreFew (configuration_of next) next.tickets → next.tickets ≤ 131072) → taken ≡ taken_of turn → IfSome (call_told taken) (λ out. s.tickets_before + out.0.ticket < 2 ^ 64)
+turn_few s k hub next r m turn taken live is step window few told =
+    let was = window_of s k hub live is in
+    subst (λ (x : Taken). IfSome (call_told x) (λ out. s.tickets_before + out.0.ticket < 2 ^ 64)) (sym told)
+    (next_few s.tickets_before hub.tickets next.tickets (call_told (taken_of turn)) (turn_next hub next r m turn step) (few (turn_on s.tickets_before hub next r m turn was step window).few_calls) (before_low s.tickets_before hub was))
+
+pub turn_counted_on : (s : LiveState) (tickets now k : ℕ) (hub next : OpenHub HandedDevice) (r m : ℕ) (turn : Turn HandedDevice) (taken : Taken) → IsCounted s tickets → s.phase ≡ InWindow k hub → IsTurn hub r m turn next → SameWindow hub next
+    → taken ≡ taken_of turn → now ≡ count_after tickets s.tickets_before (call_told taken) → IsCounted (record s { phase = InWindow k next }) now
+turn_counted_on s tickets now k hub next r m turn taken counted is step window told count = record {
+  live = live_on s k hub next counted.live is window (turn_on s.tickets_before hub next r m turn (window_of s k hub counted.live is) step window);
+  count = count ∙ ap (λ (x : Taken). count_after tickets s.tickets_before (call_told x)) told ∙ next_count s.tickets_before tickets hub.tickets next.tickets (call_told (taken_of turn)) (counted.count ∙ given_in s k hub is) (turn_next hub next r m turn step);
+}
+
+pub turn_number : (inside s : LiveState) (k : ℕ) (hub next : OpenHub HandedDevice) (r m : ℕ) (turn : Turn HandedDevice) (taken shown : Taken) → inside ≡ s → inside.phase ≡ InWindow k hub → IsTurn hub r m turn next
+    → taken ≡ taken_of turn → shown ≡ numbered_turn inside.tickets_before taken → HasNextNumber s (call_told shown) (record inside { phase = InWindow k next })
+turn_number inside s k hub next r m turn taken shown seen is step told numbered_so =
+    subst (λ call. HasNextNumber s call (record inside { phase = InWindow k next }))
+    (sym (ap (λ (x : Taken). call_told x) numbered_so ∙ call_of_turn inside.tickets_before taken ∙ ap (λ (x : Taken). numbered_call inside.tickets_before (call_told x)) told))
+    (next_number inside s k hub next (call_told (taken_of turn)) seen is (turn_next hub next r m turn step))
+
+-- A probe
+
+pub probe_few : (s : LiveState) (k : ℕ) (hub next : OpenHub HandedDevice) (d : ℕ) (grip : Option (Gripped HandedDevice Ready)) (call : Option SlipAndTask) → IsLive s → s.phase ≡ InWindow k hub → IsProbed hub d grip next → SameWindow hub next
+    → (CallsAreFew (configuration_of next) next.tickets → next.tickets ≤ 131072) → call ≡ lent_by grip → IfSome call (λ out. s.tickets_before + out.0.ticket < 2 ^ 64)
+probe_few s k hub next d grip call live is step window few told =
+    let was = window_of s k hub live is in
+    subst (λ x. IfSome x (λ out. s.tickets_before + out.0.ticket < 2 ^ 64)) (sym told)
+    (next_few s.tickets_before hub.tickets next.tickets (lent_by grip) (probe_next hub next d grip step) (few (probe_on s.tickets_before hub next d grip was step window).few_calls) (before_low s.tickets_before hub was))
+
+pub probe_counted_on : (s : LiveState) (tickets now k : ℕ) (hub next : OpenHub HandedDevice) (d : ℕ) (grip : Option (Gripped HandedDevice Ready)) (call : Option SlipAndTask) → IsCounted s tickets → s.phase ≡ InWindow k hub → IsProbed hub d grip next → SameWindow hub next
+    → call ≡ lent_by grip → now ≡ count_after tickets s.tickets_before call → IsCounted (record s { phase = InWindow k next }) now
+probe_counted_on s tickets now k hub next d grip call counted is step window told count = record {
+  live = live_on s k hub next counted.live is window (probe_on s.tickets_before hub next d grip (window_of s k hub counted.live is) step window);
+  count = count ∙ ap (λ x. count_after tickets s.tickets_before x) told ∙ next_count s.tickets_before tickets hub.tickets next.tickets (lent_by grip) (counted.count ∙ given_in s k hub is) (probe_next hub next d grip step);
+}
+
+pub probe_number : (inside s : LiveState) (k : ℕ) (hub next : OpenHub HandedDevice) (d : ℕ) (grip : Option (Gripped HandedDevice Ready)) (call shown : Option SlipAndTask) → inside ≡ s → inside.phase ≡ InWindow k hub → IsProbed hub d grip next
+    → call ≡ lent_by grip → shown ≡ numbered_call inside.tickets_before call → HasNextNumber s shown (record inside { phase = InWindow k next })
+probe_number inside s k hub next d grip call shown seen is step told numbered_so =
+    subst (λ x. HasNextNumber s x (record inside { phase = InWindow k next })) (sym (numbered_so ∙ ap (λ x. numbered_call inside.tickets_before x) told))
+    (next_number inside s k hub next (lent_by grip) seen is (probe_next hub next d grip step))
+
+-- An answer
+
+pub back_counted_on : (s : LiveState) (tickets k : ℕ) (hub next : OpenHub HandedDevice) (d ticket : ℕ) (told : Told) (m : ℕ) (made : List Entry) → IsCounted s tickets → s.phase ≡ InWindow k hub → HasComeBack hub d ticket told m made next → SameWindow hub next
+    → IsCounted (record s { phase = InWindow k next }) tickets
+back_counted_on s tickets k hub next d ticket told m made counted is back window =
+    let count : next.tickets ≡ hub.tickets = elim back.back [ inl given ↦ given.2 | inr given ↦ given.2 ] in
+    let was = counted.count ∙ given_in s k hub is in
+    record {
+      live = live_on s k hub next counted.live is window (back_on s.tickets_before hub next back.done m made (window_of s k hub counted.live is) back.back window);
+      count = omega (arith, was, count);
+    }
+
+-- A window that opens
+
+pub opened_counted_on : (s : LiveState) (tickets k : ℕ) (home : HomeState HandedDevice) (hub : OpenHub HandedDevice) → IsCounted s tickets → s.phase ≡ Between home → IsOpenedOn s.script s.mode k home hub
+    → ((before : ℕ) → before ≤ home.opened * 131072 → WindowTickets before hub) → IsCounted (record s { phase = InWindow k hub; is_draft = false; closed = None }) tickets
+opened_counted_on s tickets k home hub counted is on numbers = record {
+  live = record {
+    sound = counted.live.sound;
+    goes = counted.live.goes;
+    fits = ap (λ (c : Configuration). c.setting.kinds) on.opened.configuration ∙ subst (λ p. FitsScript s.script p) is counted.live.fits;
+    told = slice_get_within s.script.windows.items k on.window on.at;
+    tickets = numbers s.tickets_before (subst (λ p. TicketsAreLow s.tickets_before p) is counted.live.tickets);
+  };
+  count = (let was = counted.count ∙ ap (λ p. s.tickets_before + tickets_in p) is in omega (arith, was, on.opened.tickets));
+}
+
+-- the number is of a call of the window, so it is refused as the window refuses it
+same_test : (before n ticket : ℕ) → before ≤ ticket → (before + n == ticket) ≡ (n == ticket - before)
+same_test before n ticket low = grind (arith, common_steps, low)
+
+pub same_refusal : (before ticket : ℕ) (told : Told) (out : Option SlipAndTask) → before ≤ ticket → refusal (numbered_call before out) ticket told ≡ refusal out (ticket - before) told
+same_refusal before ticket told None low = refl
+same_refusal before ticket told (Some out) low =
+    ap (λ b. if b then (if may_tell out.1 out.0.stood told then None else Some (unfit_for out.1 told)) else Some NotOut) (same_test before out.0.ticket ticket low)
+
+-- .. and else it is not out
+pub not_given : (before : ℕ) (hub : OpenHub HandedDevice) (d ticket : ℕ) (told : Told) → TicketsAreGiven hub.places hub.tickets → (ticket ≤ before) ⊎ (before + hub.tickets < ticket)
+    → refusal (numbered_call before (kept_of (slice_get hub.places d))) ticket told ≡ Some NotOut
+not_given before hub d ticket told given other = by_place (slice_get hub.places d) refl
+  where
+    by_test : (b : Bool) (rest : Option NotTaken) → b ≡ false → (if b then rest else Some NotOut) ≡ Some NotOut
+    by_test true rest is = absurd (cc)
+    by_test false rest is = refl
+
+    by_place : (p : Option (Place HandedDevice)) → slice_get hub.places d ≡ p → refusal (numbered_call before (kept_of p)) ticket told ≡ Some NotOut
+    by_place None at = refl
+    by_place (Some (Home device)) at = refl
+    by_place (Some (Out slip task)) at =
+        let own = given d slip task at in
+        let apart : before + slip.ticket ≢ ticket = λ same. absurd (elim other [ inl low ↦ omega (arith, own.0, low, same) | inr high ↦ omega (arith, own.1, high, same) ]) in
+        let test : (before + slip.ticket == ticket) ≡ false = grind (arith, common_steps, apart) in
+        by_test (before + slip.ticket == ticket) _ test
