@@ -103,7 +103,8 @@ impl<D: Device> Hub<D> {
     /// of it is left.
     ///
     /// Where the device is counted down, and answers the probe, the grip drives it to the value at
-    /// which it should stand. Takes no memory.
+    /// which it should stand. Where none goes out, the runs that are marked as blocked stay so.
+    /// Takes no memory.
     #[tactic(auto, using(crate::proofs::calls::FinalItems::probed_sealed))]
     pub fn take_probe(&mut self, d: DeviceNo) -> Option<Grip<D, Ready>>
         ensures probed { IsProbed self.old d.0 result self.new }
@@ -112,14 +113,18 @@ impl<D: Device> Hub<D> {
         ensures window { SameWindow self.old self.new }
     {
         self.window.whole();
-        let probe = self.window.take_probe(d);
-        self.window.whole();
-        if self.window.is_weak() {
-            self.blocked.unmark_all();
-        } else {
-            self.blocked.unmark_at(d);
+        match self.window.take_probe(d) {
+            Some(grip) => {
+                self.window.whole();
+                if self.window.is_weak() {
+                    self.blocked.unmark_all();
+                } else {
+                    self.blocked.unmark_at(d);
+                }
+                Some(grip)
+            }
+            None => None,
         }
-        probe
     }
 
     /// Takes the device of the detector's grip home.

@@ -1,20 +1,26 @@
 use Rattle.hub_core.proofs.calls.HubMarks.{marks_probed, model_before}
 use Rattle.hub_core.proofs.calls.Placings.{kept_for}
 use Rattle.hub_core.proofs.kept.BlockedMarks.{none_blocked}
-use Rattle.std.proofs.Common.{false, sym}
+use Rattle.hub_core.specs.HubCalls.{IsProbed}
+use Rattle.std.proofs.Common.{None, false, subst, sym}
 use Rattle.hub_core.proofs.hubs.Hub.take_probe.Goals as goal
 
 pub invariant_of-self-else-is_weak : goal.invariant_of-self-else-is_weak
 invariant_of-self-else-is_weak g c = record {
   marks =
-      marks_probed g.D.Device.shows c.self.inside.window c.take_probe-probe.new.self c.args.d.0 _ _ _
-      (model_before c.self.inside.window c.take_probe-probe.new.self false c.take_probe-probe.ensures.window (sym c.if-is_weak.ensures))
-      (sym c.if-is_weak.ensures) c.whole.ensures c.whole-2.ensures c.take_probe-probe.ensures.probed c.self.invariant.marks c.unmark_at.ensures;
-  scratch = kept_for c.self.inside.window c.take_probe-probe.new.self c.self.inside.scratch c.take_probe-probe.ensures.window c.self.invariant.scratch;
+      marks_probed g.D.Device.shows c.self.inside.window c.take_probe.new.self c.args.d.0 _ _ _
+      (model_before c.self.inside.window c.take_probe.new.self false c.take_probe.ensures.window (sym c.if-is_weak.ensures))
+      (sym c.if-is_weak.ensures) c.whole.ensures c.whole-in-Some.ensures c.take_probe.ensures.probed c.self.invariant.marks c.unmark_at.ensures;
+  scratch = kept_for c.self.inside.window c.take_probe.new.self c.self.inside.scratch c.take_probe.ensures.window c.self.invariant.scratch;
 }
 
 pub invariant_of-self : goal.invariant_of-self
 invariant_of-self g c = record {
   marks = none_blocked _ _ c.unmark_all.ensures;
-  scratch = kept_for c.self.inside.window c.take_probe-probe.new.self c.self.inside.scratch c.take_probe-probe.ensures.window c.self.invariant.scratch;
+  scratch = kept_for c.self.inside.window c.take_probe.new.self c.self.inside.scratch c.take_probe.ensures.window c.self.invariant.scratch;
 }
+
+pub returns-in-None-clause-probed : goal.returns-in-None-clause-probed
+returns-in-None-clause-probed g c =
+    let is : IsProbed c.self.inside.window c.args.d.0 None c.take_probe.new.self = subst (λ probe. IsProbed c.self.inside.window c.args.d.0 probe c.take_probe.new.self) c.in-None.is c.take_probe.ensures.probed in
+    subst (λ hub. IsProbed hub c.args.d.0 None c.take_probe.new.self) c.self.view_is is
