@@ -1,4 +1,4 @@
-"""What pyproject.toml cannot name, since it lies outside this folder: the version and the reference."""
+"""What pyproject.toml cannot name, since it is outside this folder: version and reference."""
 
 from pathlib import Path
 

@@ -2,7 +2,15 @@
 # Tests the command lazbendix, and asks a type checker and a linter where they are installed.
 cd "$(dirname "$0")" || exit
 python3 -m unittest discover -s tests || exit
-if command -v mypy >/dev/null; then mypy || exit; else echo "mypy is not there: types were not looked at"; fi
+if command -v mypy >/dev/null; then
+    # (a type checker looks for the reference where an installed package has it)
+    room=$(mktemp -d) || exit
+    trap 'rm -rf "$room"' EXIT
+    cp -r lazbendix pyproject.toml "$room" && cp -r ../reference/. "$room/lazbendix/reference" || exit
+    (cd "$room" && mypy) || exit
+else
+    echo "mypy is not there: types were not looked at"
+fi
 if command -v ruff >/dev/null; then
     ruff check . || exit
 elif command -v flake8 >/dev/null; then
