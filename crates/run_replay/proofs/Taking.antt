@@ -1,5 +1,5 @@
 -- A run takes its step: what its player is after it.
-use Rattle.command_rules.specs.Rosters.{device_no, is_run}
+use Rattle.command_rules.specs.Rosters.{is_run}
 use Rattle.device_gate.specs.Grips.{Gripped}
 use Rattle.device_gate.specs.declared.grips.Ready.{Ready}
 use Rattle.device_gate.specs.declared.slips.Slip.{Slip}

@@ -17,7 +17,7 @@ home = record {
 
 -- what is written for the light when it leaves for run 1
 abbrev pub slip : Slip
-slip = record { ticket = 1; device = device_no 0; maker = 1; stood = 0; turns = 0; probes = 0; faults = 0 }
+slip = record { ticket = 1; device = device_no 0; maker = 1; stood = 0; turns = 0; drives = 0; probes = 0; faults = 0 }
 
 abbrev pub carried : Carried
 carried = record { slip = slip; task = Drive 1 }
@@ -72,7 +72,7 @@ are_strangers = record { another_ticket = refl; nothing_changes = refl; another_
 -- The detector's grip of the fan
 
 abbrev pub probe_slip : Slip
-probe_slip = record { ticket = 2; device = device_no 1; maker = 0; stood = 0; turns = 0; probes = 0; faults = 0 }
+probe_slip = record { ticket = 2; device = device_no 1; maker = 0; stood = 0; turns = 0; drives = 0; probes = 0; faults = 0 }
 
 abbrev pub probe : Carried
 probe = record { slip = probe_slip; task = Probe None }

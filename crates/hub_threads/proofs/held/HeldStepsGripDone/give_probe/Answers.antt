@@ -1,9 +1,12 @@
+use Rattle.history_book.specs.Histories.{kept_by}
 use Rattle.hub_core.specs.HubCalls.{carried_by}
+use Rattle.hub_core.specs.OpenHubs.{OpenHub}
+use Rattle.hub_threads.proofs.Added.{probe_given_adds}
 use Rattle.hub_threads.proofs.Holding.{probe_given_held}
 use Rattle.hub_threads.proofs.Passes.{claimed, cleared, probe_taken_in}
 use Rattle.hub_threads.proofs.held.HeldStepsGripDone.give_probe.Goals as goal
-use Rattle.std.proofs.Common.{ap, sym, ◌∙◌}
-use Rattle.std.specs.Prelude.{slice_get, ◌+◌}
+use Rattle.std.proofs.Common.{ap, subst, sym, ◌∙◌}
+use Rattle.std.specs.Prelude.{slice_get, ◌++◌, ◌+◌, ◌≡◌}
 
 pub unreachable-requires : goal.unreachable-requires
 unreachable-requires g c =
@@ -16,3 +19,6 @@ invariant_of-self g c =
     c.come_home.new.self c.self.invariant c.in-Ok.ensures.given c.in-Ok.ensures.window c.requires.plan
     (c.add.ensures.total ∙ ap (λ n. c.self.inside.book.total + n) c.count.ensures) c.call.ensures.blocked
     c.come_home.ensures.name (cleared g.N.Name.desk (carried_by c.args.grip) c.args.pass c.self.inside.desk.out c.come_home.new.self.out c.requires.pass.0 c.come_home.ensures.out)
+
+pub returns-clause-appended : goal.returns-clause-appended
+returns-clause-appended g c = subst (λ (s : OpenHub _). c.give_probe.new.self.history ≡ s.history ++ kept_by 0 c.in-Ok.found) c.self.view_is (probe_given_adds c.self.inside.hub c.give_probe.new.self c.args.grip c.in-Ok.found c.in-Ok.ensures.given).history

@@ -1,8 +1,9 @@
 use Rattle.run_replay.proofs.PlayerSteps.{made_steps, steps_now, waited_steps, went_steps}
-use Rattle.run_replay.proofs.Taking.{IsFree, answered_keeps, answers_now, goes_now, never_absent, went_keeps}
+use Rattle.run_replay.proofs.Taking.{IsFree, answered_keeps, answers_now, goes_now, hand_is_empty, never_absent, went_keeps}
 use Rattle.run_replay.proofs.hands.Hands.run_takes.Goals as goal
 use Rattle.run_replay.specs.Players.{PlayerIsKept, PlayerState, is_ended, is_full}
-use Rattle.std.proofs.Common.{ap, refl, subst, sym}
+use Rattle.std.proofs.Common.{None, ap, refl, subst, sym, ◌∙◌}
+use Rattle.std.proofs.lemmas.Option.{get_or_from_slice_get}
 use Rattle.std.specs.Prelude.{false, slice_set, ℕ, ◌<◌, ◌≡◌}
 
 -- the run is free, in the player as it was
@@ -128,3 +129,9 @@ returns-in-None g c =
       place = refl;
       moves = refl;
     }))
+
+pub unreachable-requires : goal.unreachable-requires
+unreachable-requires g c =
+    let free = free_of _ _ c.args.r.0 c.self.view_is c.self.invariant c.requires.run c.requires.going c.requires.empty in
+    let none : c.replace.result ≡ None = c.replace.ensures.value ∙ c.index_mut.ensures.value ∙ get_or_from_slice_get c.self.inside.grips.items c.args.r.0 None c.index_mut.result.now (hand_is_empty _ c.args.r.0 free) in
+    absurd (let both = sym none ∙ c.in-Some.is in cc)
