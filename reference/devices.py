@@ -7,7 +7,7 @@ class Device:
 
     def __init__(self, start, downs=()):
         self.stands, self.downs = start, downs
-        self.turns = self.probes = self.faults = self.calls = 0
+        self.turns = self.drives = self.probes = self.faults = self.calls = 0
 
     def answers(self):
         self.calls += 1
@@ -20,6 +20,7 @@ class Device:
             return False
         self.stands = value
         self.turns += 1
+        self.drives += 1
         return True
 
     def sense(self):
@@ -43,6 +44,7 @@ class Slip:
     maker: int  # the number of a run, or 0 for the detector
     stood: int
     turns: int
+    drives: int  # how many of the turns
     probes: int
     faults: int
 

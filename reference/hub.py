@@ -273,7 +273,7 @@ class Hub:
     def hand_out(self, d, maker, task, is_undo=False):
         self.ticket += 1
         device = self.devices[d]
-        slip = Slip(self.ticket, d, maker, device.stands, device.turns, device.probes, device.faults)
+        slip = Slip(self.ticket, d, maker, device.stands, device.turns, device.drives, device.probes, device.faults)
         self.out[d] = Grip(device, slip, task, is_undo)
         return self.out[d]
 
