@@ -22,32 +22,40 @@ fi
 say() { echo "test: $*"; }
 fail() {
     echo "test: $*" >&2
+    [ -z "${pages:-}" ] || kill "$pages" 2>/dev/null
     exit 1
 }
 command -v rt >/dev/null || fail "there is no rt on the PATH"
 kit=$(dirname "$(rt doc)")
 
 # tries WHAT WORD ..: this command ends with 0; else what it said is shown
+said=$room/said
 tries() {
     what=$1
     shift
-    "$@" >"$room/said" 2>&1 && return
-    tail -n 40 "$room/said" >&2
+    "$@" >"$said" 2>&1 && return
+    tail -n 40 "$said" >&2
     fail "$what is not as wanted"
 }
 
-say "pages and tools"
-tries "what a page names" python3 tools/check_pages.py
-tries "what crosses crates in proofs" python3 tools/check_cited.py
-tries "what the tools tell of days" python3 tools/check_days.py 40
-tries "what explain tells of mistakes" python3 tools/check_explain.py 20
-if python3 -c 'import jsonschema' 2>/dev/null; then
-    tries "the schema of scripts" python3 tools/check_schema.py 200
-else
-    say "jsonschema is not there: the schema of scripts is not tried"
-fi
-tries "an example, by the reference" python3 reference/tables.py examples
-tries "the command lazbendix" sh python/test.sh
+# what needs nothing built, beside the builds
+pages_and_tools() {
+    said=$room/said-of-pages
+    tries "what a page names" python3 tools/check_pages.py
+    tries "what crosses crates in proofs" python3 tools/check_cited.py
+    tries "what the tools tell of days" python3 tools/check_days.py 40
+    tries "what explain tells of mistakes" python3 tools/check_explain.py 20
+    if python3 -c 'import jsonschema' 2>/dev/null; then
+        tries "the schema of scripts" python3 tools/check_schema.py 200
+    else
+        say "jsonschema is not there: the schema of scripts is not tried"
+    fi
+    tries "an example, by the reference" python3 reference/tables.py examples
+    tries "the command lazbendix" sh python/test.sh
+}
+say "pages and tools, beside the rest"
+pages_and_tools &
+pages=$!
 
 say "building the library, the programs and the tests, unproved"
 python3 tools/unproved_build.py "$room" || fail "it was not built"
@@ -93,5 +101,7 @@ fi
 
 say "the library"
 tries "the library" env LAZBENDIX_OUT="$room" sh library/tests/run.sh 100
+
+wait "$pages" || exit 1
 
 say "all as wanted. Nothing was proved: rt ci proves, and sh .ci/run does all there is."
