@@ -143,14 +143,21 @@ fn restand_in(home: &mut Home<HandedDevice>, d: DeviceNo, value: Value) -> Resul
     if !kind.has(value) {
         return Err(NotRestood::NoValue);
     }
-    let found = HandedDevice {
+    let found = found_at(device, value);
+    home.restand(d, found, value);
+    Ok(())
+}
+
+/// The device as it is known, found at this value.
+fn found_at(device: &HandedDevice, value: Value) -> HandedDevice
+    ensures { result ≡ record device.now { value = value } }
+{
+    HandedDevice {
         number: device.number,
         value,
         turns: device.turns,
         drives: device.drives,
         probes: device.probes,
         faults: device.faults,
-    };
-    home.restand(d, found, value);
-    Ok(())
+    }
 }
