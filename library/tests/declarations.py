@@ -106,7 +106,7 @@ def of_rust() -> tuple[dict[str, Arguments], dict[str, Arguments]]:
 
 
 def of_python() -> tuple[dict[str, Arguments], dict[str, Arguments]]:
-    text = read("library", "python", "lazbendix", "_calls.py")
+    text = read("python", "lazbendix", "_calls.py")
     numbers = {"c_uint32": "u32", "c_uint64": "u64", "c_size_t": "size", "c_uint8": "u8"}
 
     def argument(word: str) -> Arguments:
