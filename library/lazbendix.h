@@ -200,7 +200,7 @@ int32_t lazbendix_give(lazbendix_hub *h, uint32_t device, uint64_t ticket, uint3
                        lazbendix_made *made);
 /* Sends a probe to the device: the turn is a GO. NO_WINDOW, NO_PROBE. */
 int32_t lazbendix_probe(lazbendix_hub *h, uint32_t device, lazbendix_turn *turn);
-/* Tells 1 where the run need not be taken: it waits, at every moment, until another step; else 0. NO_WINDOW. */
+/* Tells 1 only of a run that need not be taken: it waits, at every moment, until another step; 0 says nothing. NO_WINDOW. */
 int32_t lazbendix_blocked(lazbendix_hub *h, uint32_t run, uint32_t *yes);
 /* Tells what is left to do in the window. NO_WINDOW. */
 int32_t lazbendix_quiet(lazbendix_hub *h, lazbendix_left *left);

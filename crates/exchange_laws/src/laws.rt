@@ -25,9 +25,10 @@ pub fn reached_orders()
         → IsRearranged runs line next }
 {}
 
-/// A legal window with its order so exchanged is legal: the items at `at` and the next place, which
-/// are apart, may change places, then any two neighbours that are, and so on. And where an order is
-/// reached so, the window with the line of its history for its order is a legal one.
+/// A legal window with its order so exchanged is legal, but that its order is reached so from the
+/// line of its history: the items at `at` and the next place, which are apart, may change places,
+/// then any two neighbours that are, and so on. And where an order is reached so, the window with
+/// the line of its history for its order is a legal one.
 pub fn legal_exchange()
     ensures itself { (w : Setting) (closed : WindowRecord) → IsLegalWindow w closed
         → IsLegalUpToExchanges w closed }

@@ -1,6 +1,7 @@
 -- Answers to calls that were made elsewhere.
 use Rattle.device_gate.specs.Calls.{may_tell}
 use Rattle.device_gate.specs.Grips.{Gripped}
+use Rattle.device_gate.specs.Places.{kept_of}
 use Rattle.device_gate.specs.declared.grips.Done.{Done}
 use Rattle.device_gate.specs.declared.slips.Slip.{Slip}
 use Rattle.device_gate.specs.declared.slips.Task.{Task}
@@ -13,7 +14,7 @@ use Rattle.hub_core.specs.OpenHubs.{OpenHub}
 use Rattle.hub_table.specs.Tables.{IsBack}
 use Rattle.hub_table.specs.declared.told.NotTaken.{NotTaken}
 use Rattle.hub_table.specs.declared.told.NotTaken.TheVariants.{Differs, NotOut, OtherKind}
-use Rattle.std.specs.Prelude.{List, None, Option, Some, if◌then◌else◌, ℕ, ◌==◌, ◌≡◌}
+use Rattle.std.specs.Prelude.{List, None, Option, Some, if◌then◌else◌, slice_get, ℕ, ◌==◌, ◌≡◌}
 
 -- what is wrong with an answer to the task that the device may not tell: a sense has found another
 -- value, all else is of another kind
@@ -32,11 +33,12 @@ refusal (Some out) ticket told =
     then (if may_tell out.1 out.0.stood told then None else Some (unfit_for out.1 told))
     else Some NotOut
 
--- the device d was out with this ticket, told this, and is back
+-- the device d was out with this ticket, told this, which is an answer to its task, and is back
 pub record HasComeBack (s : OpenHub HandedDevice) (d ticket : ℕ) (told : Told) (m : ℕ)
     (made : List Entry) (t : OpenHub HandedDevice) : Type 0 where
   pub done : Gripped HandedDevice Done
   pub device : done.slip.device.0 ≡ d
   pub ticket_is : done.slip.ticket ≡ ticket
   pub told_is : done.stage.told ≡ told
+  pub free : refusal (kept_of (slice_get s.places d)) ticket told ≡ None
   pub back : IsBack s done m made t

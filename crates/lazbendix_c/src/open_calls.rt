@@ -35,6 +35,7 @@ pub extern "C" fn lazbendix_open(
     ensures mode { IsClosed h.old → mode_of model scheduler ≡ None → result ≡ pos 4 }
     ensures open { IsOpen h.old ↔ result ≡ pos 2 }
     ensures same { result ≢ pos 0 → SameHome h.old h.new }
+    ensures untouched { IsClosed h.old → result ≢ pos 0 → h.new ≡ h.old }
     ensures untold { result ≢ pos 3 → fault.new ≡ fault.old }
 {
     match h.take(alloc) {
@@ -64,7 +65,7 @@ fn open_as(
     ensures refused { IfErr opened (λ why. result ≡ refusal_status why) }
     ensures told { IfErr opened (λ why. result ≡ pos 3 → fault.new ≡ fault_of why) }
     ensures room { IsOk opened → result ≢ pos 0 → result ≡ pos 5 }
-    ensures same { result ≢ pos 0 → IsClosed h.new }
+    ensures same { result ≢ pos 0 → h.new ≡ h.old }
     ensures untold { result ≢ pos 3 → fault.new ≡ fault.old }
 {
     match opened {

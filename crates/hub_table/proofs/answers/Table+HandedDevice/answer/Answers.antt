@@ -34,5 +34,9 @@ returns-clause-answered c =
       device = ap (λ (s : Slip). s.device.0) c.in-Ok.ensures.slip ∙ c.self.invariant.own c.args.d.0 c.in-Some-lift.grip c.in-Some-lift.ensures.found;
       ticket_is = ap (λ (s : Slip). s.ticket) c.in-Ok.ensures.slip ∙ (is_held_answer c.self.inside.grips.items c.args.d.0 c.in-Some-lift.grip c.args.ticket c.args.told c.in-Some-lift.ensures.found fits).0;
       told_is = c.in-Ok.ensures.told;
+      free =
+          ap (λ s. refusal (kept_of (slice_get s.places c.args.d.0)) c.args.ticket c.args.told) (sym c.self.view_is)
+          ∙ ap (λ o. refusal o c.args.ticket c.args.told) (sym (out_held c.self.inside.hub.places c.self.inside.grips.items c.args.d.0 c.self.invariant))
+          ∙ fits;
       back = subst (λ s. IsBack s c.in-Ok.done c.args.moment c.take_home.result c.take_home.new.hub) c.self.view_is c.take_home.ensures.back;
     }
