@@ -92,10 +92,10 @@ done
 say "what the built program tells"
 tries "a call of crates/hub_main/edge.sh" sh crates/hub_main/edge.sh "$room/hub_main"
 if [ -f tools/check_syncs.py ]; then
-    if command -v strace >/dev/null 2>&1; then
+    if strace -o /dev/null true 2>/dev/null; then
         tries "how often keep syncs its file" python3 tools/check_syncs.py "$room/hub_main"
     else
-        say "strace is not there: how often keep syncs its file is not tried"
+        say "strace is not there, or may not watch: how often keep syncs its file is not tried"
     fi
 fi
 
