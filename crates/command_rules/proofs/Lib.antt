@@ -4,6 +4,7 @@ mod LastSums
 mod FirstReads
 mod FirstUses
 mod FootprintBits
+mod Joining
 mod Sharing
 mod Indexes
 mod ClosedParts

@@ -1,14 +1,15 @@
 //! A roster with the footprint of each run, made once: its devices as bits, and which commands are
 //! the last ones there.
-ghost use Rattle.std.specs.Prelude.{◌≡◌, ◌<◌, ◌≤◌, ◌&&◌, IfOk, IsTrue, Some, length, option_map, slice_get, ℕ};
+ghost use Rattle.std.specs.Prelude.{◌≡◌, ◌<◌, ◌≤◌, ◌&&◌, ◌++◌, ◌∷◌, [], IfOk, OnErr, OnOk, IsTrue, Some, length, option_map, slice_get, ℕ};
 ghost use Rattle.command_rules.specs.Footprints.{FitsIndex, IsFootprint};
-ghost use Rattle.command_rules.specs.Rosters.{commands_of, is_last, is_run, reads_first, runs_of, shares, touches, writes_on};
+ghost use Rattle.command_rules.specs.Rosters.{commands_of, is_last, is_run, plain_run, reads_first, runs_of, shares, touches, writes_on};
+ghost use Rattle.home_types.specs.declared.commands.Command.{Command};
 ghost use Rattle.home_types.specs.DeviceSets.{IsFirstFrom};
 ghost use Rattle.std.specs.FinSet as set;
 ghost use Rattle.home_types.specs.Limits.{most_commands, most_devices};
 
 use crate::jobs::{is_always, reads};
-use crate::rosters::Roster;
+use crate::rosters::{Roster, RosterRun};
 use home_types::{Command, DeviceNo, DeviceSet, List, NoMemory, RunNo};
 use std::alloc::Global;
 use std::marker::Model;
@@ -26,8 +27,8 @@ pub(crate) struct Footprint {
     written: DeviceSet,
 }
 
-/// The runs of an open window, with the footprint of each, made once and never changed: no call
-/// goes over the commands of a run.
+/// The runs of an open window, with the footprint of each, made once, as the run comes, and never
+/// changed: no other call goes over the commands of a run.
 ///
 /// Contracts see the roster.
 #[derive(Drop)]
@@ -65,6 +66,37 @@ impl IndexedRoster {
             footprints.push(footprint_of(run.routine.commands.as_slice()))?;
         }
         Ok(IndexedRoster { roster, footprints })
+    }
+
+    /// Appends a run, which is the last one then, with its footprint. All memory is taken before
+    /// anything is appended.
+    ///
+    /// Answers `NoMemory` where there is none to be had: the runs stay as they are, and the run is
+    /// dropped.
+    pub fn join(&mut self, run: RosterRun) -> Result<(), NoMemory>
+        requires few { length run.routine.commands.items ≤ most_commands }
+        requires low { (k : ℕ) (c : Command) → slice_get run.routine.commands.items k ≡ Some c
+            → c.device.0 < most_devices }
+        ensures joined { OnOk result
+            (runs_of self.new ≡ runs_of self.old ++ plain_run run ∷ []) }
+        ensures refused { OnErr result (runs_of self.new ≡ runs_of self.old) }
+    {
+        if self.roster.runs.reserve(1).is_err() {
+            drop(run);
+            return Err(NoMemory);
+        }
+        if self.footprints.reserve(1).is_err() {
+            drop(run);
+            return Err(NoMemory);
+        }
+        let footprint = footprint_of(run.routine.commands.as_slice());
+        let Ok(()) = self.footprints.push(footprint) else {
+            unreachable!();
+        };
+        let Ok(()) = self.roster.runs.push(run) else {
+            unreachable!();
+        };
+        Ok(())
     }
 
     /// The runs.

@@ -47,3 +47,8 @@ pub use Rattle.history_book.proofs.Sealed.{begins_with_sealed, first_within, sea
 pub use Rattle.history_book.proofs.Asking.{asks_guard, asks_next}
 -- The devices of the first so many commands.
 pub use Rattle.history_book.proofs.CommandFronts.{among_more, differ, is_among}
+-- One run more joins the window: what a roster and a reading say of a run that there was, and what
+-- the timeline asks of it.
+pub use Rattle.history_book.proofs.Joined.{first_holds, live_own, masked, own_commands, own_follows, own_passed, own_pends, own_run, own_shares, own_touches, same_devices, same_gap, same_split}
+-- .. a well-formed history reads the same, and what is said along it stays.
+pub use Rattle.history_book.proofs.JoinedReads.{Along_joined, ReadsOwn, along_joined, formed_joined, own_start, same_reading}

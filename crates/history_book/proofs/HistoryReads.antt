@@ -1,9 +1,11 @@
--- A history beside what is fixed in its window: as it opens, with one entry more, and what is known of a run.
+-- A history beside what is fixed in its window: as it opens, with one entry more, where a run joins, and what is known of a run.
 use Rattle.command_rules.specs.Rosters.{Run, command_at, commands_of, is_run}
+use Rattle.history_book.proofs.JoinedReads.{formed_joined, same_reading}
 use Rattle.history_book.proofs.Shapes.{shapes}
 use Rattle.history_book.proofs.Snoc.{each_at, each_more, entries_on, put_keeps, reading_more}
 use Rattle.history_book.proofs.Told.{progress_is}
 use Rattle.history_book.specs.Histories.{entries_of, entry, kept_by, reading}
+use Rattle.history_book.specs.Joined.{with_joined}
 use Rattle.history_book.specs.Progress.{progress_in, progress_of}
 use Rattle.history_book.specs.ReadHistories.{HistoryState, IsReadWith, read_in, with_entry}
 use Rattle.history_book.specs.Readings.{Reading, next_of, nothing_read}
@@ -18,11 +20,11 @@ use Rattle.home_types.specs.Commands.{register_after}
 use Rattle.home_types.specs.Limits.{most_runs}
 use Rattle.home_types.specs.declared.commands.Answer.{Answer}
 use Rattle.home_types.specs.declared.numbers.RunNo.{RunNo}
-use Rattle.std.proofs.Common.{ap, append_assoc, arith, refl, subst, sym, ◌∙◌}
+use Rattle.std.proofs.Common.{ap, append_assoc, arith, length-append, refl, subst, sym, ◌∙◌}
 use Rattle.std.proofs.lemmas.Grind.{common_steps, get_or-set_at}
 use Rattle.std.proofs.lemmas.List.{get_or-set_other, length-set}
 use Rattle.std.proofs.lemmas.Option.{slice_get_within}
-use Rattle.std.specs.Prelude.{Bool, IsTrue, List, None, Option, Some, [], false, if◌then◌else◌, is_none, is_some, length, not, replicate, slice_get, slice_index_or, slice_set, suc, true, zero, ℕ, ◌++◌, ◌+◌, ◌-◌, ◌<◌, ◌==◌, ◌∷◌, ◌≡◌, ◌≢◌, ◌≤◌}
+use Rattle.std.specs.Prelude.{Bool, Err, IsTrue, List, None, Ok, OnErr, OnOk, Option, Result, Some, [], false, if◌then◌else◌, is_none, is_some, length, not, replicate, slice_get, slice_index_or, slice_set, suc, true, zero, ℕ, ◌++◌, ◌+◌, ◌-◌, ◌<◌, ◌==◌, ◌∷◌, ◌≡◌, ◌≢◌, ◌≤◌}
 
 -- a run has a number from 1 on, and a place in the roster
 pub run_place : (runs : List Run) (r : ℕ) → IsTrue (is_run runs r) → (r ≡ suc (r - 1)) × (r - 1 < length runs)
@@ -121,6 +123,37 @@ other_read w h g n m maker e registers silent more follows read =
     same (Rose d) no' q = refl
     same (Doomed r cause) no' q = put_keeps (λ o. o.register) before.run r.0 _ refl q
     same (Ended r end) no' q = put_keeps (λ o. o.register) before.run r.0 _ refl q
+
+-- Where a run joins the window
+
+-- the window has one run more, and there is room
+joined_read : (w : Setting) (q : Run) (h : List Kept) (n m : ℕ) (registers : List ℕ) → length w.runs < most_runs → 0 < m → IsReadWith (record { setting = w; history = h; spare = n }) registers
+    → IsReadWith (record { setting = with_joined w q; history = h; spare = m }) registers
+joined_read w q h n m registers low some read = record {
+  few = let longer : length (w.runs ++ q ∷ []) ≡ length w.runs + 1 = length-append w.runs (q ∷ []) in omega (arith, longer, low);
+  room = λ runs. omega (arith, some);
+  well_formed = formed_joined w q (entries_of h) read.well_formed;
+  size = read.size;
+  registers_are = λ r within. read.registers_are r within ∙ ap (λ (x : Reading). (x.run r).register) (sym (same_reading w q (entries_of h) read.well_formed));
+}
+
+-- it has the runs that it had
+roomier_read : (w : Setting) (h : List Kept) (n m : ℕ) (registers : List ℕ) → 0 < m → IsReadWith (record { setting = w; history = h; spare = n }) registers → IsReadWith (record { setting = w; history = h; spare = m }) registers
+roomier_read w h n m registers some read = record {
+  few = read.few;
+  room = λ runs. omega (arith, some);
+  well_formed = read.well_formed;
+  size = read.size;
+  registers_are = read.registers_are;
+}
+
+-- .. by what the call answers that lets the run join the roster
+pub join_read : {T E : Type 0} (result : Result T E) (w : Setting) (q : Run) (runs : List Run) (h g : List Kept) (n m : ℕ) (registers : List ℕ) → OnOk result (runs ≡ w.runs ++ q ∷ []) → OnErr result (runs ≡ w.runs) → g ≡ h
+    → length w.runs < most_runs → 0 < m → IsReadWith (record { setting = w; history = h; spare = n }) registers → IsReadWith (record { setting = record w { runs = runs }; history = g; spare = m }) registers
+join_read (Ok t) w q runs h g n m registers more none same low some read =
+    rw (more, same) (joined_read w q h n m registers low some read)
+join_read (Err e) w q runs h g n m registers more none same low some read =
+    rw (none, same) (roomier_read w h n m registers some read)
 
 -- What is known of a run
 

@@ -8,6 +8,8 @@ mod Shapes
 mod Counts
 mod Once
 mod OwnItems
+mod Joined
+mod JoinedReads
 mod Searches
 mod Searching
 mod Logs

@@ -33,10 +33,10 @@ any_fewer p r (i ∷ line) none = of_bool (any_fewer p r line (grind (arith, com
     of_bool rest true e = rest
     of_bool rest false e = let first : p i ≡ false = grind (arith, common_steps) in rw first rest
 
-abbrev NoneStrays : Setting → Reading → Type 0
+abbrev pub NoneStrays : Setting → Reading → Type 0
 NoneStrays w n = list_any (is_stray w) n.line ≡ false
 
-stray_step : (w : Setting) (n : Reading) (e : Entry) → IsTrue (may_follow w n e) → NoneStrays w n → NoneStrays w (entry w n e)
+pub stray_step : (w : Setting) (n : Reading) (e : Entry) → IsTrue (may_follow w n e) → NoneStrays w n → NoneStrays w (entry w n e)
 stray_step w n (Arrived r m) ok none = none
 stray_step w n (Placed r at m) ok none =
     any_insert (is_stray w) (split_of w n r.0 at m).front (split_of w n r.0 at m).back (Ran r)

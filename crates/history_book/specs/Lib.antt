@@ -12,3 +12,4 @@ pub mod BookParts
 pub mod ReadHistories
 pub mod Sealed
 pub mod Causes
+pub mod Joined

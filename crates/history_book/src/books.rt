@@ -92,6 +92,13 @@ impl Book {
         }
     }
 
+    /// How many more entries the book takes with no memory.
+    pub(crate) fn spare(&self) -> u64
+        ensures { result ≡ self.now.spare }
+    {
+        self.kept.spare()
+    }
+
     /// How many entries the book has.
     pub fn len(&self) -> u64
         ensures { result ≡ length self.now.items }

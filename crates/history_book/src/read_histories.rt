@@ -1,20 +1,24 @@
 //! The history of a window beside what is fixed in the window: what it says of each run, and of its
 //! commands.
-ghost use Rattle.std.specs.Prelude.{◌≡◌, ◌+◌, ◌<◌, ◌≤◌, ◌&&◌, ◌||◌, IfSome, IsTrue, [], find, is_none, length, not, option_map, ℕ};
-ghost use Rattle.command_rules.specs.Rosters.{command_at, commands_of, is_run, runs_of};
+ghost use Rattle.std.specs.Prelude.{◌≡◌, ◌+◌, ◌<◌, ◌≤◌, ◌&&◌, ◌||◌, IfSome, IsTrue, OnErr, OnOk, Some, [], find, is_none, length, not, option_map, slice_get, ℕ};
+ghost use Rattle.command_rules.specs.Rosters.{command_at, commands_of, is_run, plain_run, runs_of};
+ghost use Rattle.history_book.specs.Joined.{with_joined};
+ghost use Rattle.home_types.specs.declared.commands.Command.{Command};
 ghost use Rattle.history_book.specs.Progress.{progress_of};
 ghost use Rattle.history_book.specs.ReadHistories.{read_in, with_entry};
 ghost use Rattle.history_book.specs.Readings.{is_doomed, is_live, next_command, next_of, pends};
 ghost use Rattle.history_book.specs.Settings.{is_strict, is_weak, run_numbers, scheduler_of};
 ghost use Rattle.history_book.specs.WellFormed.{may_follow};
 ghost use Rattle.home_types.specs.Kinds.{kind_at};
-ghost use Rattle.home_types.specs.Limits.{most_runs};
+ghost use Rattle.home_types.specs.Limits.{most_commands, most_devices, most_runs};
 
 use crate::books::{Book, PLACES};
 use crate::entries::{Entry, Kept};
 use crate::progress::RunProgress;
-use command_rules::{IndexedRoster, Roster, register_after};
-use home_types::{Command, DeviceNo, Kind, List, Mode, RunNo, Scheduler, Value, Visibility, World};
+use command_rules::{IndexedRoster, Roster, RosterRun, register_after};
+use home_types::{
+    Command, DeviceNo, Kind, List, Mode, NoMemory, RunNo, Scheduler, Value, Visibility, World,
+};
 use std::marker::Model;
 
 /// The history of a window, each entry of which may follow those before it, beside what is fixed in
@@ -127,6 +131,35 @@ impl ReadHistory {
             let job = command_in(&self.roster, r, k).job;
             self.registers[at] = register_after(job, answer, self.registers[at]);
         }
+    }
+
+    /// Appends a run to those of the window, as its last one, which has not arrived, and makes room
+    /// for so many entries more than are left. All memory is taken before the run is appended.
+    ///
+    /// Answers `NoMemory` where there is none to be had: then there may be more room, and all else
+    /// stays as it is; the run is dropped.
+    pub fn join(&mut self, run: RosterRun, entries: u64) -> Result<(), NoMemory>
+        requires number { length self.old.setting.runs < most_runs }
+        requires few { length run.routine.commands.items ≤ most_commands }
+        requires low { (k : ℕ) (c : Command) → slice_get run.routine.commands.items k ≡ Some c
+            → c.device.0 < most_devices }
+        requires some { 0 < entries }
+        ensures joined { OnOk result
+            (self.new.setting ≡ with_joined self.old.setting (plain_run run)) }
+        ensures refused { OnErr result (self.new.setting ≡ self.old.setting) }
+        ensures history { self.new.history ≡ self.old.history }
+        ensures room { OnOk result (self.new.spare ≡ self.old.spare + entries) }
+        ensures kept { self.old.spare ≤ self.new.spare }
+    {
+        let Some(room) = self.book.spare().checked_add(entries) else {
+            drop(run);
+            return Err(NoMemory);
+        };
+        if self.book.reserve(room).is_err() {
+            drop(run);
+            return Err(NoMemory);
+        }
+        self.roster.join(run)
     }
 
     /// The runs of the window.

@@ -1,15 +1,15 @@
--- A home that is told where a device was found is kept.
+-- A home that is told where a device was found, or that it is lost, is kept.
 use Rattle.device_states.specs.Devices.{Shown}
 use Rattle.home_types.specs.HomeStates.{stand_at}
 use Rattle.home_types.specs.Kinds.{has_value, kind_at}
 use Rattle.home_types.specs.declared.worlds.Stand.{Stand}
 use Rattle.window_devices.proofs.Cited.{get_set}
 use Rattle.hub_core.specs.Homes.{CountsAreLow, HomeIsKept, HomeState}
-use Rattle.hub_core.specs.Restandings.{restood}
+use Rattle.hub_core.specs.Restandings.{lost, restood}
 use Rattle.std.proofs.Common.{ap, arith, inl, inr, refl, subst, sym, ◌∙◌, ◌⊎◌}
 use Rattle.std.proofs.lemmas.List.{length-set}
 use Rattle.std.proofs.lemmas.Option.{same_Some}
-use Rattle.std.specs.Prelude.{IsTrue, List, Some, [], length, slice_get, slice_set, suc, true, zero, ℕ, ◌<◌, ◌∷◌, ◌≡◌, ◌≢◌}
+use Rattle.std.specs.Prelude.{IsTrue, List, Some, [], length, slice_get, slice_set, suc, false, true, zero, ℕ, ◌<◌, ◌∷◌, ◌≡◌, ◌≢◌}
 
 -- how a device stands after one was written
 stand_set : (world : List Stand) (d e : ℕ) (s : Stand) → d < length world
@@ -59,4 +59,27 @@ restand_keeps shows s d device value kept there has at own low =
         ])
       ]);
       counts = each_set (λ e x. CountsAreLow s.opened (shows x).turns (shows x).probes (shows x).faults) s.devices d device there low kept.counts;
+    }
+
+-- one that is told that a device is lost: it is not up, so nothing is asked of where it stands
+pub lose_keeps : {D : Type 0} (shows : D → Shown) (s : HomeState D) (d : ℕ) → HomeIsKept shows s → d < length s.devices → HomeIsKept shows (lost s d)
+lose_keeps shows s d kept there =
+    let now : Stand = record { value = (stand_at s.world d).value; up = false } in
+    let size = length-set s.world d now in
+    let inside : d < length s.world = omega (arith, there, kept.size) in
+    record {
+      numbered = kept.numbered;
+      kinds = omega (arith, kept.kinds, size);
+      size = omega (arith, kept.size, size);
+      few = omega (arith, kept.few, size);
+      opened = kept.opened;
+      values = λ e low. (elim (stand_set s.world d e now inside) [
+        | inl p ↦ subst (λ (q : ℕ × Stand). IsTrue (has_value (kind_at s.kinds q.0) q.1.value)) (λ i. (sym p.0 i, sym p.1 i)) (kept.values d inside)
+        | inr q ↦ subst (λ (x : Stand). IsTrue (has_value (kind_at s.kinds e) x.value)) (sym q.1) (kept.values e (omega (arith, low, size)))
+      ]);
+      stand = λ e x is up. (elim (stand_set s.world d e now inside) [
+        | inl p ↦ (let down : true ≡ false = sym up ∙ ap (λ (y : Stand). y.up) p.1 in absurd (cc))
+        | inr q ↦ kept.stand e x is (ap (λ (y : Stand). y.up) (sym q.1) ∙ up) ∙ ap (λ (y : Stand). y.value) (sym q.1)
+      ]);
+      counts = kept.counts;
     }

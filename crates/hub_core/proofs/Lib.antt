@@ -4,6 +4,7 @@ mod kept
 mod waiting
 mod calls
 mod weak
+mod joins
 mod FoundDevices
 mod SoundWindows
 pub mod Cited

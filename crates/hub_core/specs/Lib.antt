@@ -7,6 +7,7 @@ pub mod HubCalls
 pub mod HubKept
 pub mod HubSteps
 pub mod HubsKept
+pub mod Joins
 pub mod KeptByModel
 pub mod KeptOrders
 pub mod MarkedRuns

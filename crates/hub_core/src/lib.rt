@@ -10,6 +10,7 @@ mod freed_runs;
 mod give_calls;
 pub mod homes;
 pub mod hubs;
+mod join_calls;
 mod lenders;
 mod open_calls;
 mod open_windows;

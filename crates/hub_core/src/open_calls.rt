@@ -51,13 +51,13 @@ struct GatedHome<D: Device> {
 }
 
 /// How many entries a history of one run has at most.
-const ENTRIES_OF_A_RUN: u64 = 132;
+pub(crate) const ENTRIES_OF_A_RUN: u64 = 132;
 
 /// How many entries a window may have, and how many items its line.
 #[derive(Clone, Copy, Debug, PartialEq, Eq)]
-struct Bounds {
-    entries: u64,
-    items: u64,
+pub(crate) struct Bounds {
+    pub(crate) entries: u64,
+    pub(crate) items: u64,
 }
 
 impl<D: Device> Home<D> {
@@ -233,7 +233,7 @@ impl<D: Device> Home<D> {
 
 /// The bounds of a window of so many runs, on a home of so many devices, with so many rounds of
 /// probes.
-fn bounds_of(runs: u64, devices: u64, rounds: u32) -> Bounds
+pub(crate) fn bounds_of(runs: u64, devices: u64, rounds: u32) -> Bounds
     requires runs { runs ≤ most_runs }
     requires devices { devices ≤ most_devices }
     requires rounds { rounds ≤ most_probes }

@@ -1,9 +1,9 @@
-//! Where the devices of a home were found between two windows.
+//! Where the devices of a home were found between two windows, and which were lost.
 ghost use Rattle.std.specs.Option.{option_copied};
 ghost use Rattle.std.specs.Prelude.{◌≡◌, ◌<◌, IsTrue, length, slice_get};
 ghost use Rattle.home_types.specs.Kinds.{has_value, kind_at};
 ghost use Rattle.hub_core.specs.Homes.{CountsAreLow};
-ghost use Rattle.hub_core.specs.Restandings.{restood};
+ghost use Rattle.hub_core.specs.Restandings.{lost, restood};
 
 use crate::homes::Home;
 use device_states::Device;
@@ -43,5 +43,18 @@ impl<D: Device> Home<D> {
             .devices
             .set(d.0 as u64, Stand { value, up: true });
         self.devices.set(d.0 as u64, device);
+    }
+
+    /// Tells the home that the device is lost, as its own protocol said: the next window begins
+    /// with it counted down, and a probe finds it. Nothing is called, and the state of the home
+    /// keeps its value. One that is down already stays as it is.
+    pub fn lose(&mut self, d: DeviceNo)
+        requires there { d.0 < length self.old.devices }
+        ensures { self.new ≡ lost self.old d.0 }
+    {
+        let value = self.world.devices.get(d.0 as u64).unwrap().value;
+        self.world
+            .devices
+            .set(d.0 as u64, Stand { value, up: false });
     }
 }

@@ -3,3 +3,6 @@
 
 -- Items of lists, and how many there are of a kind.
 pub use Rattle.legal_days.proofs.Lists.{at_place, count_cons}
+-- What was shown along a history is shown where one run more joins the window: clean reads, the
+-- causes of dooms, isolation, and the calls that are told.
+pub use Rattle.legal_days.proofs.JoinedCauses.{joined_clean, joined_justified, joined_strict, same_told, shown}

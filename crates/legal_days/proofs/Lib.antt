@@ -1,2 +1,3 @@
 mod Lists
+mod JoinedCauses
 pub mod Cited

@@ -3,7 +3,7 @@ use Rattle.home_types.specs.DeviceSets.{Devices}
 use Rattle.home_types.proofs.Cited.{contains_insert, contains_remove}
 use Rattle.lineage_table.proofs.KeptTables.{table_set}
 use Rattle.lineage_table.specs.Accesses.{IsDisciplined, has_access}
-use Rattle.lineage_table.specs.Lineages.{LineageState, accesses_at, lineage_at, no_lineage}
+use Rattle.lineage_table.specs.Lineages.{LineageState, accesses_at, lineage_at, no_lineage, with_more_room}
 use Rattle.lineage_table.specs.RunDevices.{HasLess, HasMore, TableIsSound, is_in}
 use Rattle.std.proofs.Common.{List, [], ap, arith, get_or, length, refl, set as set_at, subst, suc, sym, zero, ℕ, ◌++◌, ◌+◌, ◌<◌, ◌∙◌, ◌∷◌, ◌≡◌, ◌≢◌}
 use Rattle.std.proofs.lemmas.Bool.{eq-eqb}
@@ -11,7 +11,7 @@ use Rattle.std.proofs.lemmas.Grind.{common_steps}
 use Rattle.std.proofs.lemmas.List.{get_or-set_other, get_or-set_same, length-set}
 use Rattle.std.specs.FinSet as set
 use Rattle.std.specs.Ordering.{nat_cmp}
-use Rattle.std.specs.Prelude.{nat_lt, Bool, false, if◌then◌else◌, not, true, ◌&&◌, ◌==◌, ◌||◌, ◌≤◌}
+use Rattle.std.specs.Prelude.{nat_lt, Bool, Err, Ok, OnErr, OnOk, Result, false, if◌then◌else◌, not, true, ◌&&◌, ◌==◌, ◌||◌, ◌≤◌}
 
 pub equal : (x y : ℕ) → (x == y) ≡ true → x ≡ y
 equal x y h = grind (arith, common_steps)
@@ -114,6 +114,11 @@ read_there (y ∷ ys) (suc i) x d within is = read_there ys i x d (omega (arith,
 
 pub lineage_here : (table now : List LineageState) (d : ℕ) (x : LineageState) → table ≡ now → d < length now → x ≡ get_or table d x → lineage_at now d ≡ x
 lineage_here table now d x same below is = ap (λ (l : List LineageState). lineage_at l d) (sym same) ∙ sym (read_there table d x no_lineage (subst (λ (l : List LineageState). d < length l) (sym same) below) is)
+
+-- whether room for one access more is made or refused, the accesses stay
+pub accesses_stay : {A B : Type 0} (result : Result A B) (old new : LineageState) → OnOk result (new ≡ with_more_room old) → OnErr result (new ≡ old) → new.accesses ≡ old.accesses
+accesses_stay (Ok a) old new made refused = ap (λ (s : LineageState). s.accesses) made
+accesses_stay (Err e) old new made refused = ap (λ (s : LineageState). s.accesses) refused
 
 -- the lineage `old` of the device becomes `s`, which is read again as `x`
 module _ (sets now : List Devices) (table now_table : List LineageState) (d : ℕ) (old s x : LineageState) (is : TableIsSound sets table)

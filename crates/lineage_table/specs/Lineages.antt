@@ -86,6 +86,10 @@ with_committed v s = record s { committed = v }
 abbrev pub counted_up : Bool → LineageState → LineageState
 counted_up up s = record s { up = up }
 
+-- with room for one access more
+abbrev pub with_more_room : LineageState → LineageState
+with_more_room s = record s { room = s.room + 1 }
+
 -- The lineages of a home
 
 -- the lineage of a device that is none of the home

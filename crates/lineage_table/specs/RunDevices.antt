@@ -1,12 +1,11 @@
 -- The devices to which a run has an access, kept as a set for each run number below some.
-use Rattle.command_rules.specs.Rosters.{Run, is_run}
 use Rattle.home_types.specs.DeviceSets.{Devices}
 use Rattle.home_types.specs.Limits.{most_runs}
 use Rattle.home_types.specs.Numbers.{DeviceId, RunId}
 use Rattle.lineage_table.specs.Accesses.{has_access}
 use Rattle.lineage_table.specs.Lineages.{IsTable, LineageState, accesses_at}
 use Rattle.std.specs.FinSet as set
-use Rattle.std.specs.Prelude.{Bool, List, false, length, not, slice_index_or, true, ◌&&◌, ◌<◌, ◌==◌, ◌||◌, ◌≡◌, ◌≤◌}
+use Rattle.std.specs.Prelude.{Bool, List, false, length, not, slice_index_or, ◌&&◌, ◌+◌, ◌<◌, ◌==◌, ◌||◌, ◌≡◌}
 
 -- the device is in the set of the run
 abbrev pub is_in : List Devices → RunId → DeviceId → Bool
@@ -23,9 +22,9 @@ pub record TableIsSound (sets : List Devices) (lineages : List LineageState) : T
   pub table : IsTable lineages
   pub devices : AreOfAccesses sets lineages
 
--- each of these runs has a set, where its number is one that a window may have
-abbrev pub HaveSets : List Run → List Devices → Type 0
-HaveSets runs sets = (r : RunId) → is_run runs r ≡ true → r ≤ most_runs → r < length sets
+-- there is a set for each run number that a window may have, and for 0, and there are no more
+abbrev pub HaveSets : List Devices → Type 0
+HaveSets sets = length sets ≡ most_runs + 1
 
 -- no device is in a set
 abbrev pub AreEmpty : List Devices → Type 0

@@ -1,5 +1,5 @@
 //! The lineage of one device: its committed value and its accesses, in line order.
-ghost use Rattle.std.specs.Prelude.{◌≡◌, ◌+◌, ◌<◌, [], false, IfOk, IsSome, IsTrue, Some, not};
+ghost use Rattle.std.specs.Prelude.{◌≡◌, ◌+◌, ◌<◌, [], false, IfOk, IsSome, IsTrue, OnErr, OnOk, Some, not};
 ghost use Rattle.chain_arena.specs.Chains.{values_of};
 ghost use Rattle.std.specs.Option.{ForSome};
 ghost use Rattle.lineage_table.specs.declared.accesses.Access.{Access};
@@ -7,7 +7,7 @@ ghost use Rattle.lineage_table.specs.Accesses.{IsDisciplined, IsFirstBefore, acc
 ghost use Rattle.lineage_table.specs.Answers.{MayAnswer, answered_access, answered_if};
 ghost use Rattle.home_types.specs.declared.numbers.RunNo.{RunNo};
 ghost use Rattle.lineage_table.specs.Knots.{CutAtKnot, IsKnotOf};
-ghost use Rattle.lineage_table.specs.Lineages.{IsNewLineage, acquired, counted_up, released, removed, scheduled, settled, undone, with_committed, with_value_written};
+ghost use Rattle.lineage_table.specs.Lineages.{IsNewLineage, acquired, counted_up, released, removed, scheduled, settled, undone, with_committed, with_more_room, with_value_written};
 
 use crate::accesses::{Access, Status};
 use chain_arena::{Chain, Knot};
@@ -18,7 +18,8 @@ use std::marker::Model;
 /// The lineage of one device: its committed value, its accesses in line order, and whether it is
 /// counted up.
 ///
-/// Contracts see beside them how many more accesses it takes. Only `open` takes memory.
+/// Contracts see beside them how many more accesses it takes. Only `open` and `make_room` take
+/// memory.
 #[derive(Drop)]
 pub struct Lineage {
     committed: Value,
@@ -62,6 +63,18 @@ impl Lineage {
             writer: None,
             up: stand.up,
         })
+    }
+
+    /// Makes room for one access more, or answers `NoMemory`, and nothing changes then.
+    pub fn make_room(&mut self) -> Result<(), NoMemory>
+        ensures made { OnOk result (self.new ≡ with_more_room self.old) }
+        ensures refused { OnErr result (self.new ≡ self.old) }
+    {
+        let room = self.accesses.spare();
+        if room == u32::MAX {
+            return Err(NoMemory);
+        }
+        self.accesses.reserve(room + 1)
     }
 
     /// Puts a scheduled access before that of this run, last where none is named.

@@ -1,19 +1,20 @@
 //! To which devices each run has an access.
 ghost use Rattle.std.specs.Prelude.{◌≡◌, ◌<◌, ◌==◌, ◌↔◌, IfOk, IsTrue, length, option_map};
-ghost use Rattle.command_rules.specs.Rosters.{runs_of};
 ghost use Rattle.home_types.specs.DeviceSets.{IsFirstFrom};
 ghost use Rattle.home_types.specs.Limits.{most_devices};
 ghost use Rattle.lineage_table.specs.RunDevices.{AreEmpty, HasLess, HasMore, HaveSets, is_in};
 ghost use Rattle.std.specs.FinSet as set;
 ghost use Rattle.std.specs.Prelude.{◌&&◌, ℕ};
 
-use command_rules::Roster;
 use home_types::limits::RUNS;
 use home_types::{DeviceNo, DeviceSet, NoMemory, RunNo};
 use std::alloc::Global;
 use std::marker::Model;
 
-/// For each run number up to some one a set of devices.
+/// How many sets there are: one for each run that a window may have, by its number, and one for 0.
+const SETS: usize = RUNS as usize + 1;
+
+/// For each run number that a window may have a set of devices.
 #[derive(Drop)]
 pub(crate) struct RunDevices {
     sets: Vec<DeviceSet>,
@@ -23,35 +24,30 @@ impl Model for RunDevices {
     ghost use Rattle.std.specs.Prelude.{List};
     ghost use Rattle.std.specs.Coded.{coded_list, coded_ℕ};
     ghost use Rattle.std.specs.FinSet as set;
-    ghost use Rattle.command_rules.specs.Rosters.{runs_of};
     ghost use Rattle.home_types.specs.DeviceSets.{Devices};
+    ghost use Rattle.lineage_table.specs.RunDevices.{HaveSets};
 
     ghost Value = { List Devices };
 
     ghost coded = { coded_list (set.code coded_ℕ) };
 
     ghost view = { λ s. s.sets.items };
+
+    ghost invariant = { λ s. HaveSets s.sets.items };
 }
 
 impl RunDevices {
-    /// An empty set for each run of the roster.
-    pub(crate) fn of(alloc: Global, roster: &Roster) -> Result<RunDevices, NoMemory>
-        ensures runs { IfOk result (HaveSets (runs_of roster.now)) }
+    /// An empty set for each run number that a window may have.
+    ///
+    /// Answers `NoMemory` where there is none to be had.
+    pub(crate) fn open(alloc: Global) -> Result<RunDevices, NoMemory>
+        ensures sets { IfOk result HaveSets }
         ensures none { IfOk result AreEmpty }
     {
-        let last = roster.runs.len().min(RUNS as u64);
-        RunDevices::open(alloc, last as usize + 1)
-    }
-
-    /// An empty set for each of this many run numbers, from 0.
-    fn open(alloc: Global, runs: usize) -> Result<RunDevices, NoMemory>
-        ensures runs { IfOk result (λ sets. length sets ≡ runs) }
-        ensures none { IfOk result AreEmpty }
-    {
-        let Ok(mut sets) = Vec::with_capacity(alloc, runs) else {
+        let Ok(mut sets) = Vec::with_capacity(alloc, SETS) else {
             return Err(NoMemory);
         };
-        'runs: for _ in 0..runs {
+        'runs: for _ in 0..SETS {
             sets.push_reserved(DeviceSet::none());
         }
         Ok(RunDevices { sets })

@@ -1,5 +1,5 @@
 //! The lineage table: the lineage of each device of a home.
-ghost use Rattle.std.specs.Prelude.{◌&&◌, ◌≡◌, ◌+◌, ◌<◌, ◌≤◌, ◌==◌, ◌||◌, ◌^◌, [], false, if◌then◌else◌, IfOk, IfSome, IsSome, IsTrue, Some, length, not, option_map, slice_index_or, true, ℕ};
+ghost use Rattle.std.specs.Prelude.{◌&&◌, ◌≡◌, ◌+◌, ◌<◌, ◌≤◌, ◌==◌, ◌||◌, ◌^◌, [], false, if◌then◌else◌, IfOk, IfSome, IsSome, IsTrue, OnErr, OnOk, Some, length, not, option_map, slice_index_or, true, ℕ};
 ghost use Rattle.std.specs.List.{list_any};
 ghost use Rattle.std.specs.FinSet as set;
 ghost use Rattle.std.specs.Option.{ForSome};
@@ -10,7 +10,7 @@ ghost use Rattle.home_types.specs.DeviceSets.{IsFirstFrom};
 ghost use Rattle.home_types.specs.Limits.{most_devices};
 ghost use Rattle.lineage_table.specs.Answers.{MayAnswer, answered_if};
 ghost use Rattle.lineage_table.specs.RunDevices.{HasLess};
-ghost use Rattle.lineage_table.specs.Lineages.{TableIsOpened, accesses_at, acquired, counted_up, lineage_at, released, removed, runs_on, scheduled, settled, undone, with_committed, with_lineage, with_value_written};
+ghost use Rattle.lineage_table.specs.Lineages.{TableIsOpened, accesses_at, acquired, counted_up, lineage_at, released, removed, runs_on, scheduled, settled, undone, with_committed, with_lineage, with_more_room, with_value_written};
 
 use crate::accesses::{Access, Status};
 use crate::lineages::Lineage;
@@ -25,11 +25,12 @@ use std::marker::Model;
 /// number.
 ///
 /// A device's lineage has its committed value, its accesses in line order and whether it is counted
-/// up. Contracts see beside these how many more accesses it takes. Only `open` takes memory.
+/// up. Contracts see beside these how many more accesses it takes. Only `open` and `make_room` take
+/// memory.
 #[derive(Drop)]
 pub struct Table {
     lineages: Vec<Lineage>,
-    // the devices to which each run has an access, for the run numbers up to that of the last run
+    // the devices to which each run has an access, for the run numbers that a window may have
     devices: RunDevices,
 }
 
@@ -58,12 +59,24 @@ impl Table {
         let Ok(mut lineages) = Vec::with_capacity(alloc, stands.len()) else {
             return Err(NoMemory);
         };
-        let devices = RunDevices::of(alloc, roster)?;
+        let devices = RunDevices::open(alloc)?;
         let runs = count_runs(roster);
         'devices: for d in 0..stands.len() {
             lineages.push_reserved(Lineage::open(alloc, stands[d], runs[d])?);
         }
         Ok(Table { lineages, devices })
+    }
+
+    /// Makes room for one access more to the device, or answers `NoMemory`, and nothing changes
+    /// then.
+    pub fn make_room(&mut self, d: DeviceNo) -> Result<(), NoMemory>
+        requires { d.0 < length self.old }
+        ensures made { OnOk result (self.new ≡ with_lineage self.old d.0 with_more_room) }
+        ensures refused { OnErr result (self.new ≡ self.old) }
+    {
+        let made = self.lineages[d.0 as usize].make_room();
+        self.lineages[d.0 as usize].kept();
+        made
     }
 
     /// Puts the scheduled access of a run before that of the run `before`, or last. Takes no
@@ -217,8 +230,8 @@ impl Table {
 
     /// The smallest device from `from` on to which the run has an access.
     ///
-    /// Of the runs of the roster it looks at four words at most; for others it goes over the
-    /// devices.
+    /// Of the runs that a window may have it looks at four words at most; for others it goes over
+    /// the devices.
     pub fn next_device(&self, r: RunNo, from: DeviceNo) -> Option<DeviceNo>
         ensures next { IsFirstFrom (λ d. has_access r.0 (accesses_at self.now d)) from.0
             (option_map (λ d. d.0) result) }
@@ -248,7 +261,8 @@ impl Table {
 
     /// The devices of this set to which the run has an access.
     ///
-    /// Of the runs of the roster it looks at four words; for others it goes over the devices.
+    /// Of the runs that a window may have it looks at four words; for others it goes over the
+    /// devices.
     pub fn devices_among(&self, r: RunNo, devices: &DeviceSet) -> DeviceSet
         ensures devices { (d : ℕ) → set.contains result d
             ≡ (has_access r.0 (accesses_at self.now d) && set.contains devices.now d) }

@@ -36,3 +36,6 @@ pub use Rattle.lock_leasing.proofs.FirstRuns.{first_live, waits_for_none}
 -- The first live run of the line of which a test holds, as the accesses to a device tell it, and
 -- what is put before it: so an event finds its place, and a failure the run that it loses.
 pub use Rattle.lock_leasing.proofs.EventRuns.{before_first, before_none, first_open, found_there, put_at, run_place}
+-- What the words on a point say stays as it is where one run more joins the window: who holds a
+-- device, who asks for it, what may be out, and where a run is placed.
+pub use Rattle.lock_leasing.proofs.JoinedPoints.{joined_grips, joined_scheduled, own_asks, same_holds}

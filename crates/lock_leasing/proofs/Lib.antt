@@ -14,4 +14,5 @@ mod EarliestPlaces
 mod TouchCounts
 mod FirstRuns
 mod EventRuns
+mod JoinedPoints
 pub mod Cited

@@ -12,8 +12,8 @@ pub use Rattle.serial_line.proofs.Fronts.{front_inserted, front_within}
 pub use Rattle.serial_line.proofs.Sealed.{front_placed, front_settling, front_touching, front_without, live_unsealed, unsealed_place}
 -- Sets of devices that have a device in common.
 pub use Rattle.serial_line.proofs.Meetings.{meets_by}
--- What a line keeps of the runs of its window tells which items meet.
-pub use Rattle.serial_line.proofs.KeptRuns.{kept_meet}
+-- What a line keeps of the runs of its window tells which items meet, and how many runs there are.
+pub use Rattle.serial_line.proofs.KeptRuns.{kept_meet, kept_size}
 -- How each call of a line keeps it the line that a layer above means, and what its answers then
 -- say.
 pub use Rattle.serial_line.proofs.Ties.{front_in_line, items_inserted, last_in_line, line_empty, line_inserted, line_rearranged, line_removed, line_retold, line_settling, line_touching, run_comes, touched_in_line}

@@ -4,16 +4,17 @@ use Rattle.command_rules.specs.Apart.{are_tied, meet, share_device}
 use Rattle.command_rules.specs.Rosters.{Run, commands_of, followed_by, follows, is_on, is_run, run_in_roster, shares, touches}
 use Rattle.home_types.proofs.Cited.{contains_insert, snoc_get}
 use Rattle.home_types.specs.DeviceSets.{Devices, Meet}
+use Rattle.home_types.specs.Listed.{Listed}
 use Rattle.home_types.specs.declared.commands.Command.{Command}
 use Rattle.home_types.specs.declared.items.Item.TheVariants.{Back, Failed, Ran}
 use Rattle.home_types.specs.declared.items.Item.{Item}
 use Rattle.home_types.specs.declared.numbers.RunNo.{RunNo}
 use Rattle.serial_line.proofs.Meetings.{both_ways, listed, meets_told}
-use Rattle.serial_line.specs.KeptRuns.{AreKeptOf, kept_run, on_device}
+use Rattle.serial_line.specs.KeptRuns.{AreKeptOf, HasRoomForRuns, kept_run, on_device}
 use Rattle.serial_line.specs.declared.kept_runs.KeptRun.{KeptRun}
 use Rattle.std.proofs.Common.{ap, arith, inl, inr, refl, subst, sym, ◌∙◌, ◌⊎◌}
 use Rattle.std.proofs.lemmas.Grind.{common_steps}
-use Rattle.std.proofs.lemmas.List.{at_drop_more, drop_all, length-append, length-map}
+use Rattle.std.proofs.lemmas.List.{at_drop_more, drop_all, length-append, length-map, map-append}
 use Rattle.std.proofs.lemmas.Option.{slice_get-map}
 use Rattle.std.specs.FinSet as set
 use Rattle.std.specs.List.{list_any}
@@ -186,3 +187,61 @@ kept_meets runs kept are i j = λ k. share i j k || tied i j k
 -- .. as one word
 pub kept_meet : (runs kept : List Run) → AreKeptOf runs kept → meet kept ≡ meet runs
 kept_meet runs kept are = λ k i j. kept_meets runs kept are i j k
+
+-- One run more
+
+-- an item more leaves the room for the others
+pub room_stays : (old new : Listed KeptRun) (k : KeptRun) → new.items ≡ old.items ++ k ∷ [] → (0 < old.spare → new.spare + 1 ≡ old.spare) → HasRoomForRuns old → HasRoomForRuns new
+room_stays old new k is used room =
+    let size : length new.items ≡ length old.items + 1 = ap (λ l. length l) is ∙ length-append old.items (k ∷ []) in by_spare old.spare refl size
+  where
+    by_spare : (n : ℕ) → old.spare ≡ n → length new.items ≡ length old.items + 1 → HasRoomForRuns new
+    by_spare zero none size = omega (arith, size, none, room)
+    by_spare (suc n) some size = let used_one = used (omega (arith, some)) in omega (arith, size, used_one, room)
+
+-- lists of which the same is told at each place, with one item more of which the same is told
+joined_at : {X : Type 0} (f : Option Run → X) (runs kept : List Run) (q k : Run) → length kept ≡ length runs → ((i : ℕ) → f (slice_get kept i) ≡ f (slice_get runs i)) → f (Some k) ≡ f (Some q)
+    → (i : ℕ) → f (slice_get (kept ++ k ∷ []) i) ≡ f (slice_get (runs ++ q ∷ []) i)
+joined_at f [] [] q k size same last zero = last
+joined_at f [] [] q k size same last (suc i) = refl
+joined_at f [] (y ∷ kept) q k size same last i = absurd (omega (arith, size))
+joined_at f (x ∷ runs) [] q k size same last i = absurd (omega (arith, size))
+joined_at f (x ∷ runs) (y ∷ kept) q k size same last zero = same 0
+joined_at f (x ∷ runs) (y ∷ kept) q k size same last (suc i) = joined_at f runs kept q k (omega (arith, size)) (λ j. same (suc j)) last i
+
+same_size : (runs kept : List Run) → ((i : ℕ) → is_some (slice_get kept i) ≡ is_some (slice_get runs i)) → length kept ≡ length runs
+same_size [] [] same = refl
+same_size [] (y ∷ kept) same = absurd (let clash : true ≡ false = same 0 in cc)
+same_size (x ∷ runs) [] same = absurd (let clash : false ≡ true = same 0 in cc)
+same_size (x ∷ runs) (y ∷ kept) same = let rest = same_size runs kept (λ i. same (suc i)) in omega (arith, rest)
+
+-- as many runs are kept as there are
+pub kept_size : (runs kept : List Run) → AreKeptOf runs kept → length kept ≡ length runs
+kept_size runs kept are = same_size runs kept (λ i. are.there (suc i))
+
+-- where the same devices, and whom it follows, are kept of the last one too
+joined_kept : (runs kept : List Run) (q k : Run) → AreKeptOf runs kept → ((d : ℕ) → list_any (is_on d) k.commands ≡ list_any (is_on d) q.commands) → k.follows ≡ q.follows → AreKeptOf (runs ++ q ∷ []) (kept ++ k ∷ [])
+joined_kept runs kept q k are devices leads = record { there = there; touched = touched; followed = followed }
+  where
+    size : length kept ≡ length runs
+    size = kept_size runs kept are
+
+    there : (r : ℕ) → is_run (kept ++ k ∷ []) r ≡ is_run (runs ++ q ∷ []) r
+    there zero = refl
+    there (suc i) = joined_at is_some runs kept q k size (λ j. are.there (suc j)) refl i
+
+    touched : (r d : ℕ) → touches (kept ++ k ∷ []) r d ≡ touches (runs ++ q ∷ []) r d
+    touched zero d = refl
+    touched (suc i) d = joined_at (λ x. list_any (is_on d) (unwrap_or (option_map (λ run. run.commands) x) [])) runs kept q k size (λ j. are.touched (suc j) d) (devices d) i
+
+    followed : (r f : ℕ) → follows (kept ++ k ∷ []) r f ≡ follows (runs ++ q ∷ []) r f
+    followed zero f = refl
+    followed (suc i) f =
+        joined_at (λ x. unwrap_or (option_map (λ y. y.0 == f) (option_and_then (λ run. run.follows) x)) false) runs kept q k size (λ j. are.followed (suc j) f)
+        (ap (λ x. unwrap_or (option_map (λ y. y.0 == f) x) false) leads) i
+
+-- with what is kept of one run more, at the end
+pub kept_more : (runs : List Run) (ks gs : List KeptRun) (k : KeptRun) (q : Run) → AreKeptOf runs (map kept_run ks) → gs ≡ ks ++ k ∷ [] → ((d : ℕ) → set.contains k.devices d ≡ list_any (is_on d) q.commands) → k.follows ≡ q.follows → AreKeptOf (runs ++ q ∷ []) (map kept_run gs)
+kept_more runs ks gs k q are is devices leads =
+    subst (AreKeptOf (runs ++ q ∷ [])) (sym (ap (map kept_run) is ∙ map-append kept_run ks (k ∷ [])))
+    (joined_kept runs (map kept_run ks) q (kept_run k) are (λ d. sym (on_these d (set.items k.devices)) ∙ sym (listed k.devices d) ∙ devices d) leads)

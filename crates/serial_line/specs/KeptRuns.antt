@@ -1,5 +1,7 @@
 -- The runs of a window as a line keeps them: their devices, and whom they follow.
 use Rattle.command_rules.specs.Rosters.{Run, device_no, follows, is_run, no_command, touches}
+use Rattle.home_types.specs.Limits.{most_runs}
+use Rattle.home_types.specs.Listed.{Listed}
 use Rattle.home_types.specs.Numbers.{DeviceId, RunId}
 use Rattle.home_types.specs.contracts.commands.Command as the_command
 use Rattle.home_types.specs.contracts.numbers.RunNo as the_number
@@ -10,7 +12,7 @@ use Rattle.home_types.specs.declared.numbers.RunNo.{RunNo}
 use Rattle.serial_line.specs.declared.kept_runs.KeptRun.{KeptRun}
 use Rattle.std.specs.Coded.{Coded, code_by, coded_list, coded_option, coded×}
 use Rattle.std.specs.FinSet as set
-use Rattle.std.specs.Prelude.{Bool, List, Option, map, refl, true, ◌==◌, ◌≡◌}
+use Rattle.std.specs.Prelude.{Bool, List, Option, [], length, map, refl, true, ◌+◌, ◌++◌, ◌==◌, ◌∷◌, ◌≡◌, ◌≤◌}
 
 -- a run is stored as the tuple of its fields
 abbrev pub run_code : Coded Run
@@ -33,6 +35,15 @@ pub record AreKeptOf (runs kept : List Run) : Type 0 where
   pub there : (r : RunId) → is_run kept r ≡ is_run runs r
   pub touched : (r : RunId) (d : DeviceId) → touches kept r d ≡ touches runs r d
   pub followed : (r f : RunId) → follows kept r f ≡ follows runs r f
+
+-- of whatever runs these were kept, they are kept now of those with one run more
+abbrev pub KeepsOneMore : List Run → List Run → Run → Type 0
+KeepsOneMore old new q =
+    (runs : List Run) → AreKeptOf runs old → AreKeptOf (runs ++ q ∷ []) new
+
+-- what is kept, and the room beside it, are no fewer than the runs that a window may have
+abbrev pub HasRoomForRuns : Listed KeptRun → Type 0
+HasRoomForRuns runs = most_runs ≤ length runs.items + runs.spare
 
 -- the device is one of the item's: an event has its own
 abbrev pub has_device : List Run → DeviceId → Item → Bool

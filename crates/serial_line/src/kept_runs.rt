@@ -1,14 +1,16 @@
 //! The runs of a window, of which a line keeps the devices, and whom they follow.
-ghost use Rattle.std.specs.Prelude.{◌≡◌, ◌<◌, IfOk, Some, option_copied, option_map, slice_get, ℕ};
+ghost use Rattle.std.specs.Prelude.{◌≡◌, ◌<◌, IfOk, Some, length, option_copied, option_map, slice_get, ℕ};
 ghost use Rattle.std.specs.FinSet as set;
 ghost use Rattle.std.specs.List.{list_any};
 ghost use Rattle.command_rules.specs.Apart.{meet};
 ghost use Rattle.command_rules.specs.Footprints.{FitsIndex};
-ghost use Rattle.command_rules.specs.Rosters.{follows, is_on, run_in_roster, runs_of, shares, touches};
-ghost use Rattle.home_types.specs.Limits.{most_devices};
-ghost use Rattle.serial_line.specs.KeptRuns.{AreKeptOf, has_device, kept_run};
+ghost use Rattle.command_rules.specs.Rosters.{follows, is_on, plain_run, run_in_roster, runs_of, shares, touches};
+ghost use Rattle.home_types.specs.Limits.{most_devices, most_runs};
+ghost use Rattle.home_types.specs.declared.commands.Command.{Command};
+ghost use Rattle.serial_line.specs.KeptRuns.{AreKeptOf, KeepsOneMore, has_device, kept_run};
 
-use command_rules::Roster;
+use command_rules::{Roster, RosterRun};
+use home_types::limits::RUNS;
 use home_types::{Command, DeviceNo, DeviceSet, Item, List, NoMemory, RunNo};
 use std::alloc::Global;
 use std::marker::Model;
@@ -20,7 +22,7 @@ pub(crate) struct KeptRun {
     pub(crate) follows: Option<RunNo>,
 }
 
-/// The runs of a window, in the order of their numbers.
+/// The runs of a window, in the order of their numbers, with room for as many as a window may have.
 ///
 /// Contracts see each with one command for each of its devices.
 #[derive(Drop)]
@@ -39,10 +41,15 @@ impl Model for KeptRuns {
     ghost coded = { coded_list run_code };
 
     ghost view = { λ k. map kept_run k.runs.items };
+
+    ghost use Rattle.serial_line.specs.KeptRuns.{HasRoomForRuns};
+
+    ghost invariant = { λ k. HasRoomForRuns k.runs };
 }
 
 impl KeptRuns {
-    /// Keeps the devices of the runs of this roster, and whom they follow.
+    /// Keeps the devices of the runs of this roster, and whom they follow, with room for as many
+    /// runs as a window may have.
     ///
     /// Answers `NoMemory` where there is none to be had.
     pub(crate) fn of(alloc: Global, roster: &Roster) -> Result<KeptRuns, NoMemory>
@@ -50,15 +57,24 @@ impl KeptRuns {
         ensures { IfOk result (λ kept. AreKeptOf (runs_of roster.now) kept) }
     {
         let mut runs = List::new(alloc);
-        runs.reserve(roster.runs.len())?;
+        runs.reserve(roster.runs.len().max(RUNS as u64))?;
         'runs: for at in 0..roster.runs.len() {
             let run = roster.runs.get(at).unwrap();
-            runs.push(KeptRun {
-                devices: devices_of(run.routine.commands.as_slice()),
-                follows: run.follows,
-            })?;
+            runs.push(kept_of(run))?;
         }
         Ok(KeptRuns { runs })
+    }
+
+    /// Keeps one run more, the last one then. Takes no memory.
+    pub(crate) fn join(&mut self, run: &RosterRun)
+        requires few { length self.old < most_runs }
+        requires low { (k : ℕ) (c : Command) → slice_get run.now.routine.commands.items k ≡ Some c
+            → c.device.0 < most_devices }
+        ensures { KeepsOneMore self.old self.new (plain_run run.now) }
+    {
+        let Ok(()) = self.runs.push(kept_of(run)) else {
+            unreachable!();
+        };
     }
 
     /// Whether the items share a device, or are runs of which one follows the other.
@@ -137,6 +153,20 @@ impl KeptRuns {
             return None;
         }
         self.runs.get(run.0 as u64 - 1)
+    }
+}
+
+/// What is kept of the run: the devices of its commands, and whom it follows.
+fn kept_of(run: &RosterRun) -> KeptRun
+    requires { (k : ℕ) (c : Command) → slice_get run.now.routine.commands.items k ≡ Some c
+        → c.device.0 < most_devices }
+    ensures devices { (d : ℕ) → set.contains result.devices d
+        ≡ list_any (is_on d) run.now.routine.commands.items }
+    ensures leader { result.follows ≡ run.now.follows }
+{
+    KeptRun {
+        devices: devices_of(run.routine.commands.as_slice()),
+        follows: run.follows,
     }
 }
 

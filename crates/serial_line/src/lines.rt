@@ -1,11 +1,12 @@
-ghost use Rattle.std.specs.Prelude.{◌≡◌, true, false, if◌then◌else◌, ◌++◌, ◌+◌, ◌-◌, ◌<◌, ◌≤◌, ◌^◌, [], drop, insert, is_some, length, max, option_map, remove, slice_get, take, unwrap_or, IfOk, IfSome, IsTrue, OnOk, OnErr};
+ghost use Rattle.std.specs.Prelude.{◌≡◌, true, false, if◌then◌else◌, ◌++◌, ◌+◌, ◌-◌, ◌<◌, ◌≤◌, ◌^◌, [], drop, insert, is_some, length, max, option_map, remove, slice_get, take, unwrap_or, IfOk, IfSome, IsTrue, OnOk, OnErr, Some, ℕ};
 ghost use Rattle.command_rules.specs.Apart.{meet};
 ghost use Rattle.command_rules.specs.ClosedSets.{Exchanged, HoldsFirst, IsClosed, are_apart, brought, exchanged, may_pass, rearranged};
 ghost use Rattle.command_rules.specs.Footprints.{FitsIndex};
-ghost use Rattle.command_rules.specs.Rosters.{runs_of};
-ghost use Rattle.home_types.specs.Limits.{most_devices};
+ghost use Rattle.command_rules.specs.Rosters.{plain_run, runs_of};
+ghost use Rattle.home_types.specs.Limits.{most_devices, most_runs};
+ghost use Rattle.home_types.specs.declared.commands.Command.{Command};
 ghost use Rattle.home_types.specs.declared.items.Item.TheVariants.{Ran};
-ghost use Rattle.serial_line.specs.KeptRuns.{AreKeptOf, is_known};
+ghost use Rattle.serial_line.specs.KeptRuns.{AreKeptOf, KeepsOneMore, is_known};
 ghost use Rattle.serial_line.specs.Labels.{AreGivenAnew, LabelsAreInOrder, end_leaves_room, has_free, is_sealed, label_of, labels_without, new_label};
 ghost use Rattle.serial_line.specs.Marks.{all_differ, front_of, items_of, last_meeting, mark_has_touched, marks_without, meet_marks, meets, place_of, settling, stands, touching, with_item};
 ghost use Rattle.serial_line.specs.RunPlaces.{ArePlacesBefore, AreRunPlaces, with_place};
@@ -13,7 +14,7 @@ ghost use Rattle.serial_line.specs.RunPlaces.{ArePlacesBefore, AreRunPlaces, wit
 use crate::entries::MarkedItem;
 use crate::kept_runs::KeptRuns;
 use crate::order_labels::{insert_label, remove_label, with_room};
-use command_rules::Roster;
+use command_rules::{Roster, RosterRun};
 use home_types::{DeviceNo, DeviceSet, Item, NoMemory, RunNo, limits};
 use std::alloc::Global;
 use std::marker::Model;
@@ -69,7 +70,8 @@ impl Model for Line {
 
 impl Line {
     /// Makes an empty line for the runs of this roster, and keeps their devices and whom they
-    /// follow. Answers `NoMemory` where there is none to be had.
+    /// follow, with room for as many runs as a window may have. Answers `NoMemory` where there is
+    /// none to be had.
     ///
     /// Asks that each command is on one of the 256 devices that a home may have, and that there are
     /// no more of a run than a routine may have.
@@ -91,6 +93,21 @@ impl Line {
             sealed: 0,
             runs,
         })
+    }
+
+    /// Keeps the devices of one run more, the last one of the window then, and whom it follows. The
+    /// items and all that is told of them stay. Takes no memory.
+    ///
+    /// Asks that fewer runs are kept than a window may have, and that each command of the run is on
+    /// one of the 256 devices that a home may have.
+    pub fn join(&mut self, run: &RosterRun)
+        requires few { length self.old.runs < most_runs }
+        requires low { (k : ℕ) (c : Command) → slice_get run.now.routine.commands.items k ≡ Some c
+            → c.device.0 < most_devices }
+        ensures joined { KeepsOneMore self.old.runs self.new.runs (plain_run run.now) }
+        ensures rest { self.new ≡ record self.old { runs = self.new.runs } }
+    {
+        self.runs.join(run);
     }
 
     /// Makes room for `n` more items and for no more than these, or answers `NoMemory`. The items
@@ -401,6 +418,13 @@ impl Line {
         ensures sealed { self.now.sealed ≤ length self.now.marks }
     {
         self.entries.len() as u32
+    }
+
+    /// How many more items the line takes with no memory.
+    pub fn spare(&self) -> u32
+        ensures { result ≡ self.now.spare }
+    {
+        self.spare
     }
 
     /// The last place of an item that has touched one of the devices, counted from 0. `None` where

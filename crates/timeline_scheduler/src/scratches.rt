@@ -1,5 +1,5 @@
 //! The room in which the timeline looks for the set of items behind which a run is placed.
-ghost use Rattle.std.specs.Prelude.{IfOk, IsTrue, count_by, false, length, map, not, option_map, slice_index_or, true, ◌<◌, ◌^◌, ◌≡◌, ◌≤◌};
+ghost use Rattle.std.specs.Prelude.{IfOk, IsTrue, OnErr, OnOk, count_by, false, length, map, not, option_map, slice_index_or, true, ◌+◌, ◌<◌, ◌^◌, ◌≡◌, ◌≤◌};
 ghost use Rattle.command_rules.specs.Apart.{meet};
 ghost use Rattle.command_rules.specs.ClosedSets.{chosen, closure, either_of};
 ghost use Rattle.command_rules.specs.Items.{of_run};
@@ -61,6 +61,25 @@ impl Scratch {
                 Err(NoMemory)
             }
         }
+    }
+
+    /// Makes room for one item of the line more. What it holds stays in both cases.
+    ///
+    /// Answers `NoMemory` where there is none to be had, or there is room for 2^32 - 1 items
+    /// already: the room stays as it is.
+    pub fn make_room(&mut self) -> Result<(), NoMemory>
+        ensures made { OnOk result (self.new ≡ record self.old { items = self.old.items + 1 }) }
+        ensures refused { OnErr result (self.new ≡ self.old) }
+    {
+        let Some(items) = self.items.checked_add(1) else {
+            return Err(NoMemory);
+        };
+        let more = items as usize - self.before.len();
+        if self.before.reserve_exact(more).is_err() {
+            return Err(NoMemory);
+        }
+        self.items = items;
+        Ok(())
     }
 
     /// From when and to when the run that was placed last is planned to use the device, in ms: from

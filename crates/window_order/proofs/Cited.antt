@@ -85,3 +85,6 @@ pub use Rattle.window_order.proofs.SkippedCommands.{IsSkipped, marks_skipped, sk
 pub use Rattle.window_order.proofs.SkippedTables.{skipped_status, skipped_table}
 -- A table in which the lineage of one device is changed: how long it is, and that lineage.
 pub use Rattle.window_order.proofs.NotedAnswers.{length_set, lineage_set}
+-- One run more joins the window: its order and its lineages are kept, where there is room for the
+-- accesses of the run; nothing has happened to a run that is none of the window.
+pub use Rattle.window_order.proofs.JoinedOrders.{joined_lineage, joined_window_order, roomier_table, stranger_idle}

@@ -52,4 +52,6 @@ mod PassedRuns
 mod WaitingAgain
 mod Scheduling
 mod KeptFronts
+mod JoinedOrders
+mod MadeRoom
 pub mod Cited

@@ -5,4 +5,5 @@ pub mod TableChanges
 pub mod MarksKept
 pub mod LostRuns
 pub mod KeptOrders
+pub mod Joins
 pub mod Leavings

@@ -3,6 +3,7 @@
 // window follow from it.
 #![tactic(auto)]
 
+mod joins;
 mod kept_orders;
 mod leavings;
 mod releases;

@@ -1,8 +1,13 @@
 use Rattle.command_rules.specs.Rosters.{runs_of}
 use Rattle.serial_line.proofs.KeptRuns.{AreFirstKept}
 use Rattle.serial_line.proofs.kept_runs.KeptRuns.of.Given as goal
+use Rattle.serial_line.specs.KeptRuns.{HasRoomForRuns}
 use Rattle.std.specs.Prelude.{length, ◌≡◌}
 
--- the runs up to here are kept
+-- the runs up to here are kept, and there is room
 abbrev pub invariant-runs : goal.invariant-runs
-invariant-runs l = (l.at-end ≡ length l.roster.runs.items) × AreFirstKept l.at (runs_of l.roster) l.runs.items
+invariant-runs l = record {
+  end : l.at-end ≡ length l.roster.runs.items;
+  kept : AreFirstKept l.at (runs_of l.roster) l.runs.items;
+  room : HasRoomForRuns l.runs;
+}
