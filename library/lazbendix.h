@@ -5,7 +5,7 @@
  * device calls that the steps ask for, however late and in which order, and hands the answers in. There is no input, no
  * output, no clock and no thread inside. What a step does is proved; README.md beside this file says what of it.
  *
- * Every call answers a status. Where it is not LAZBENDIX_DONE, the home is as it was, and so is all that the call would
+ * Every call but lazbendix_version answers a status. Where it is not LAZBENDIX_DONE, the home is as it was, and so is all that the call would
  * have written; the one exception is the fault of a script that is refused. LAZBENDIX_NO_MEMORY is told only where no other
  * status of the call holds, but by lazbendix_open. A call on a closed handle writes nothing, not to the handle either.
  *
@@ -30,6 +30,9 @@
 
 #include <stddef.h>
 #include <stdint.h>
+
+/* The version of this header, 1.2.3 as 1002003; lazbendix_version answers that of the library. */
+#define LAZBENDIX_VERSION 1001000
 
 #ifdef __cplusplus
 extern "C" {
@@ -60,7 +63,7 @@ enum {
     LAZBENDIX_NO_MEMORY = 5,   /* there is no memory; the call may be made again */
     LAZBENDIX_IN_WINDOW = 6,   /* a window is open */
     LAZBENDIX_NO_WINDOW = 7,   /* no window is open, or none was begun that is still to be opened */
-    LAZBENDIX_ABSENT = 8,      /* there is no such window, routine, device or entry */
+    LAZBENDIX_ABSENT = 8,      /* there is no such window, routine, device, entry or final item */
     LAZBENDIX_TOO_MANY = 9,    /* more runs, rounds of probes, or windows of a home than there may be */
     LAZBENDIX_NOT_OUT = 10,    /* the device is not out, or is out with another ticket: an answer that is late, or twice */
     LAZBENDIX_WRONG = 11,      /* no answer to the task */
@@ -173,6 +176,14 @@ enum { LAZBENDIX_WORKED = 1, LAZBENDIX_FOUND_VALUE = 2, LAZBENDIX_DEAD = 3 };
 /* What is left to do in a window: 0 nothing, 1 the smallest run that has not ended, 2 the smallest device that is out. */
 typedef struct lazbendix_left { uint32_t kind, number; } lazbendix_left;
 
+/* An item of a window's order. A number that its kind does not speak of is 0. */
+enum {
+    LAZBENDIX_RAN = 1, /* run, done whole */
+    LAZBENDIX_FAILED,  /* device, and the number of its failure in the window, from 1 */
+    LAZBENDIX_BACK     /* device, and the number of its restart in the window, from 1 */
+};
+typedef struct lazbendix_item { uint32_t kind, run, device, number; } lazbendix_item;
+
 /* Where a device stands between two windows, and whether it is up, 1 or 0. */
 typedef struct lazbendix_stand_told { uint32_t value, up; } lazbendix_stand_told;
 
@@ -186,6 +197,8 @@ int32_t lazbendix_open(lazbendix_hub *h, const uint8_t *script, size_t len, uint
                        lazbendix_fault *fault);
 /* Closes the handle and frees all behind it, whatever is open or out. CLOSED. */
 int32_t lazbendix_end(lazbendix_hub *h);
+/* Answers the version of the library, as LAZBENDIX_VERSION has it, and no status. */
+int32_t lazbendix_version(void);
 
 /* A window. */
 
@@ -202,6 +215,17 @@ int32_t lazbendix_give(lazbendix_hub *h, uint32_t device, uint64_t ticket, uint3
 int32_t lazbendix_probe(lazbendix_hub *h, uint32_t device, lazbendix_turn *turn);
 /* Tells 1 only of a run that need not be taken: it waits, at every moment, until another step; 0 says nothing. NO_WINDOW. */
 int32_t lazbendix_blocked(lazbendix_hub *h, uint32_t run, uint32_t *yes);
+/* Tells of all runs at once what lazbendix_blocked tells of one: of the run r in the bit r - 1. NO_WINDOW. */
+int32_t lazbendix_blocked_runs(lazbendix_hub *h, uint64_t *runs);
+/* Tells the turn with which the device went out, a GO, as lazbendix_take or lazbendix_probe told it. NO_WINDOW, ABSENT,
+   NOT_OUT. */
+int32_t lazbendix_out(lazbendix_hub *h, uint32_t device, lazbendix_turn *turn);
+/* Tells how many items of the window's order are final: those before the first run that is live, from its place to its
+   end, all where none is. They stay in their order, whatever comes. But under the weak model the order of the window's
+   record begins with them. NO_WINDOW. */
+int32_t lazbendix_sealed(lazbendix_hub *h, uint32_t *count);
+/* Tells the final item at this place of the order. NO_WINDOW, ABSENT from lazbendix_sealed on. */
+int32_t lazbendix_final_item(lazbendix_hub *h, uint32_t at, lazbendix_item *item);
 /* Tells what is left to do in the window. NO_WINDOW. */
 int32_t lazbendix_quiet(lazbendix_hub *h, lazbendix_left *left);
 /* Closes the window. NO_WINDOW, NOT_QUIET. */
@@ -234,6 +258,9 @@ int32_t lazbendix_begin_window(lazbendix_hub *h, const uint8_t *at, size_t at_le
 int32_t lazbendix_add_run(lazbendix_hub *h, uint32_t routine, uint32_t follows, uint32_t *run);
 /* Tells the home that the device was found up at this value, as somebody turned it. IN_WINDOW, ABSENT, NO_VALUE. */
 int32_t lazbendix_restand(lazbendix_hub *h, uint32_t device, uint32_t value);
+/* Tells the home that the device is lost, as its own protocol says: the next window begins with it down, and a probe
+   finds it. Its value stays, and so does one that is down. IN_WINDOW, ABSENT. */
+int32_t lazbendix_lose(lazbendix_hub *h, uint32_t device);
 
 /* The home and its script. */
 

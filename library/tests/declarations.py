@@ -3,8 +3,8 @@
 
     python3 library/tests/declarations.py
 
-Each export has to stand in all four, with the same arguments, and each structure with the same members in the same order. It
-prints the first that differs, and ends with 1.
+Each export has to stand in all four, with the same arguments, and each structure with the same members in the same order; the
+version of header and exports is that of the file VERSION. It prints the first that differs, and ends with 1.
 """
 import glob
 import os
@@ -15,7 +15,7 @@ TOP = os.path.join(os.path.dirname(os.path.abspath(__file__)), "..", "..")
 Arguments = list[str]
 NUMBERS = {"u32": "u32", "u64": "u64", "usize": "size"}
 STRUCTURES = {"ToldFault": "fault", "ToldTurn": "turn", "ToldMade": "made", "ToldEntry": "entry", "ToldLeft": "left",
-              "ToldStand": "stand_told", "ToldCounts": "counts_told"}
+              "ToldItem": "item", "ToldStand": "stand_told", "ToldCounts": "counts_told"}
 C_NUMBERS = {"uint32_t": "u32", "uint64_t": "u64", "size_t": "size", "uint8_t": "u8", "lazbendix_entry": "entry", "lazbendix_made": "made"}
 
 
@@ -123,10 +123,25 @@ def of_python() -> tuple[dict[str, Arguments], dict[str, Arguments]]:
         kinds: list[str] = []
         for member, kind, _, many in re.findall(r'\("(\w+)", (\w+)( \* (\d+))?\)', members):
             kinds += [f"{member} {STRUCTURES.get(kind) or numbers[kind]}"] * int(many or 1)
-        listed = re.search(r"for name in \((.*?)\)\]", members, re.S)
+        listed = re.search(r"for name in \((.*?)\)\s*\]", members, re.S)
         kinds += [f"{member} u32" for member in re.findall(r'"(\w+)"', listed[1])] if listed else []
         structures[STRUCTURES[name]] = kinds
     return exports, structures
+
+
+def version() -> int:
+    """The number of the file VERSION, 1.2.3 as 1002003."""
+    first, second, third = map(int, read("VERSION").strip().split("."))
+    return (first * 1000 + second) * 1000 + third
+
+
+def versions() -> dict[str, int]:
+    """The numbers of the version that are written down elsewhere."""
+    crate = "crates", "lazbendix_c"
+    places = {"lazbendix.h": ("library", "lazbendix.h"), "the code of lazbendix_c": (*crate, "src", "query_calls.rt"),
+              "its specification": (*crate, "specs", "Queries.antt")}
+    ways = r"#define LAZBENDIX_VERSION (\d+)", r"\bconst VERSION: i32 = ([\d_]+);", r"(?m)^version = pos (\d+)$"
+    return {place: int((re.search(way, read(*path)) or ["", "0"])[1]) for (place, path), way in zip(places.items(), ways)}
 
 
 def main() -> None:
@@ -138,6 +153,9 @@ def main() -> None:
             for name in sorted(ours.keys() | theirs.keys()):
                 if ours.get(name) != theirs.get(name):
                     sys.exit(f"declarations: {what} {name}: {ours.get(name)}, in {language} {theirs.get(name)}")
+    for place, number in versions().items():
+        if number != version():
+            sys.exit(f"declarations: the version of {place} is {number}, and that of VERSION {version()}")
     print(f"{len(exports)} exports and {len(structures)} structures are declared as they are")
 
 

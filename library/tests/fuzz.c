@@ -4,9 +4,9 @@
 
    Each call has to answer one of its own statuses, and where that is not DONE it may not have written anything; on a
    closed handle it leaves the handle's bytes too. A call of a device has a ticket above that of each call of its home
-   before it, and no answer is taken but one to a call that is out. Where REFUSED is not 0, one allocation of so many is
-   refused. In the end no block of memory is left. Link it with
-   -Wl,--wrap=malloc,--wrap=realloc,--wrap=free. */
+   before it, no answer is taken but one to a call that is out, a device that is out is told with the turn of its call,
+   and no item that is final changes. Where REFUSED is not 0, one allocation of so many is refused. In the end no block of
+   memory is left. Link it with -Wl,--wrap=malloc,--wrap=realloc,--wrap=free. */
 #include "../lazbendix.h"
 #include "home.h"
 #include <inttypes.h>
@@ -19,6 +19,7 @@
 #define ROOM 64
 #define STATUSES 19
 #define ANSWERED 64
+#define FINAL 16
 
 /* Memory, counted and refused. */
 
@@ -63,6 +64,7 @@ static struct {
     lazbendix_made made;
     lazbendix_entry entry;
     lazbendix_left left;
+    lazbendix_item item;
     lazbendix_stand_told stand;
     lazbendix_counts_told counts;
     uint64_t wide;
@@ -81,7 +83,12 @@ static struct {
     int is_out[DEVICES];
     lazbendix_turn answered[ANSWERED];
     lazbendix_turn last;
+    lazbendix_item final_items[FINAL]; /* of the window that is open */
+    uint32_t sealed;
 } known[HANDLES];
+
+/* The device or the place of the question that was drawn. */
+static uint32_t asked;
 
 /* The device and the ticket of the answer that was drawn. */
 static struct {
@@ -153,8 +160,9 @@ static int32_t give(int h) {
 }
 
 enum call {
-    OPEN, END, WINDOW, TAKE, GIVE, PROBE, BLOCKED, QUIET, CLOSE_WINDOW, RECORD, HEAD, ENTRY_TEXT, READ, ENTRY_COUNT,
-    ENTRY_AT, BEGIN_WINDOW, ADD_RUN, RESTAND, STAND, COUNTS, RUN_COUNT, DEVICE_NAME, ROUTINE_NAME, VALUE_NAME, CALLS
+    OPEN, END, WINDOW, TAKE, GIVE, PROBE, BLOCKED, BLOCKED_RUNS, OUT, SEALED, FINAL_ITEM, QUIET, CLOSE_WINDOW, RECORD, HEAD,
+    ENTRY_TEXT, READ, ENTRY_COUNT, ENTRY_AT, BEGIN_WINDOW, ADD_RUN, RESTAND, LOSE, STAND, COUNTS, RUN_COUNT, DEVICE_NAME,
+    ROUTINE_NAME, VALUE_NAME, CALLS
 };
 
 #define BIT(status) (1u << LAZBENDIX_##status)
@@ -171,6 +179,10 @@ static const struct {
     [GIVE] = { "give", BIT(NO_WINDOW) | BIT(NOT_OUT) | BIT(WRONG) | BIT(DIFFERS) },
     [PROBE] = { "probe", BIT(NO_WINDOW) | BIT(NO_PROBE) },
     [BLOCKED] = { "blocked", BIT(NO_WINDOW) },
+    [BLOCKED_RUNS] = { "blocked_runs", BIT(NO_WINDOW) },
+    [OUT] = { "out", BIT(NO_WINDOW) | BIT(ABSENT) | BIT(NOT_OUT) },
+    [SEALED] = { "sealed", BIT(NO_WINDOW) },
+    [FINAL_ITEM] = { "final_item", BIT(NO_WINDOW) | BIT(ABSENT) },
     [QUIET] = { "quiet", BIT(NO_WINDOW) },
     [CLOSE_WINDOW] = { "close_window", BIT(NO_WINDOW) | BIT(NOT_QUIET) },
     [RECORD] = { "record", BIT(NO_RECORD) | BIT(NO_MEMORY) },
@@ -182,6 +194,7 @@ static const struct {
     [BEGIN_WINDOW] = { "begin_window", BIT(IN_WINDOW) | BIT(BAD_TIME) | BIT(TOO_MANY) | BIT(NO_MEMORY) },
     [ADD_RUN] = { "add_run", BIT(NO_WINDOW) | BIT(ABSENT) | BIT(BAD_FOLLOW) | BIT(TOO_MANY) | BIT(NO_MEMORY) },
     [RESTAND] = { "restand", BIT(IN_WINDOW) | BIT(ABSENT) | BIT(NO_VALUE) },
+    [LOSE] = { "lose", BIT(IN_WINDOW) | BIT(ABSENT) },
     [STAND] = { "stand", BIT(IN_WINDOW) | BIT(ABSENT) },
     [COUNTS] = { "counts", 0 },
     [RUN_COUNT] = { "run_count", 0 },
@@ -201,6 +214,10 @@ static int32_t make(enum call call, int h) {
     case GIVE: return give(h);
     case PROBE: return lazbendix_probe(hub, small(), &out.turn);
     case BLOCKED: return lazbendix_blocked(hub, small(), &out.number);
+    case BLOCKED_RUNS: return lazbendix_blocked_runs(hub, &out.wide);
+    case OUT: return lazbendix_out(hub, asked = small(), &out.turn);
+    case SEALED: return lazbendix_sealed(hub, &out.number);
+    case FINAL_ITEM: return lazbendix_final_item(hub, asked = small(), &out.item);
     case QUIET: return lazbendix_quiet(hub, &out.left);
     case CLOSE_WINDOW: return lazbendix_close_window(hub);
     case RECORD: return lazbendix_record(hub, small(), &out.len);
@@ -212,6 +229,7 @@ static int32_t make(enum call call, int h) {
     case BEGIN_WINDOW: return begin_window(h);
     case ADD_RUN: return lazbendix_add_run(hub, small(), small(), &out.number);
     case RESTAND: return lazbendix_restand(hub, small(), small());
+    case LOSE: return lazbendix_lose(hub, small());
     case STAND: return lazbendix_stand(hub, small(), &out.stand);
     case COUNTS: return lazbendix_counts(hub, &out.counts);
     case RUN_COUNT: return lazbendix_run_count(hub, small(), &out.wide);
@@ -264,6 +282,25 @@ static const char *note(enum call call, int h, int32_t status) {
             return "an answer is taken that is none to a call that is out";
         known[h].answered[drawn() % ANSWERED] = known[h].out[d];
         known[h].is_out[d] = 0;
+        break;
+    case OUT:
+        if (asked >= DEVICES || !known[h].is_out[asked] || memcmp(&out.turn, &known[h].out[asked], sizeof out.turn) != 0)
+            return "a device is told as out otherwise than it went out";
+        break;
+    case WINDOW:
+        memset(known[h].final_items, 0, sizeof known[h].final_items);
+        known[h].sealed = 0;
+        break;
+    case SEALED:
+        if (out.number < known[h].sealed)
+            return "fewer items are final than before";
+        known[h].sealed = out.number;
+        break;
+    case FINAL_ITEM:
+        if (asked < FINAL && known[h].final_items[asked].kind && memcmp(&out.item, &known[h].final_items[asked], sizeof out.item) != 0)
+            return "an item that was final has changed";
+        if (asked < FINAL)
+            known[h].final_items[asked] = out.item;
         break;
     case END:
         memset(known[h].is_out, 0, sizeof known[h].is_out);

@@ -5,7 +5,8 @@
 
    The devices stand here: they fail as the script's `down` says. The actors of a window, its runs and the detector, are
    stepped in the order of `replay`. Each answer is first given as it must not be, and all of these are refused; the
-   entries that the steps told are those of the history, and their lines those of the trace. */
+   entries that the steps told are those of the history, and their lines those of the trace. After each step each device
+   that is out is told with its turn, and no other one; the items that are final stay, and are the order of the record. */
 #include "../lazbendix.h"
 #include "cases.h"
 
@@ -59,12 +60,14 @@ typedef struct player {
     const day *played;
     const played_window *window;
     device *wall;
-    uint64_t moment, to_probe, draws;
+    uint64_t moment, to_probe, draws, asked;
     size_t told_len;
     lazbendix_entry *told; /* the entries of all steps */
     int has_ended[ACTORS], is_doomed[ACTORS], is_out[ACTORS], is_undo[ACTORS];
     uint64_t did[ACTORS];
     lazbendix_turn out[ACTORS];
+    uint32_t final_len;
+    lazbendix_item *final_items;
 } player;
 
 enum { PASSED, WAITED };
@@ -79,6 +82,37 @@ static void note(player *p, const lazbendix_made *made) {
         p->did[it->run] += it->kind == LAZBENDIX_DID;
         p->is_doomed[it->run] |= it->kind == LAZBENDIX_DOOMED;
         p->has_ended[it->run] |= it->kind == LAZBENDIX_COMMITTED || it->kind == LAZBENDIX_ABORTED;
+    }
+}
+
+/* Each device that is out is told with its turn, and of this one whether it is out. */
+static void ask_devices(player *p, uint32_t device) {
+    lazbendix_turn turn;
+    int is_out = 0;
+    for (uint32_t actor = 0; actor <= p->window->routines.len; actor++) {
+        if (!p->is_out[actor])
+            continue;
+        is_out |= p->out[actor].device == device;
+        WANT(lazbendix_out(p->hub, p->out[actor].device, &turn) == LAZBENDIX_DONE);
+        WANT(memcmp(&turn, &p->out[actor], sizeof turn) == 0);
+    }
+    WANT(lazbendix_out(p->hub, device, &turn) == (is_out ? LAZBENDIX_DONE : LAZBENDIX_NOT_OUT));
+    WANT(lazbendix_out(p->hub, (uint32_t)p->played->devices, &turn) == LAZBENDIX_ABSENT);
+}
+
+/* No fewer items are final than before, and this one of them is what it was. */
+static void ask_order(player *p, uint32_t at) {
+    lazbendix_item item;
+    uint32_t count;
+    WANT(lazbendix_sealed(p->hub, &count) == LAZBENDIX_DONE && count >= p->final_len);
+    p->final_items = (lazbendix_item *)realloc(p->final_items, (count + 1) * sizeof item);
+    WANT(p->final_items != NULL);
+    for (; p->final_len < count; p->final_len++)
+        WANT(lazbendix_final_item(p->hub, p->final_len, &p->final_items[p->final_len]) == LAZBENDIX_DONE);
+    WANT(lazbendix_final_item(p->hub, count, &item) == LAZBENDIX_ABSENT);
+    if (at < count) {
+        WANT(lazbendix_final_item(p->hub, at, &item) == LAZBENDIX_DONE);
+        WANT(memcmp(&item, &p->final_items[at], sizeof item) == 0);
     }
 }
 
@@ -129,7 +163,7 @@ static void probe(player *p) {
     p->is_out[DETECTOR] = 1;
 }
 
-static int pick(player *p, uint32_t actor) {
+static int step(player *p, uint32_t actor) {
     lazbendix_turn turn;
     if (has_ended(p, actor))
         return PASSED;
@@ -138,7 +172,9 @@ static int pick(player *p, uint32_t actor) {
     if (actor == DETECTOR)
         return probe(p), PASSED;
     uint32_t blocked;
+    uint64_t runs;
     WANT(lazbendix_blocked(p->hub, actor, &blocked) == LAZBENDIX_DONE);
+    WANT(lazbendix_blocked_runs(p->hub, &runs) == LAZBENDIX_DONE && blocked == (runs >> (actor - 1) & 1));
     WANT(lazbendix_take(p->hub, actor, p->moment, &turn) == LAZBENDIX_DONE);
     WANT(!blocked || turn.kind == LAZBENDIX_WAITS);
     note(p, &turn.made);
@@ -149,6 +185,15 @@ static int pick(player *p, uint32_t actor) {
         p->is_undo[actor] = p->is_doomed[actor];
     }
     return turn.kind == LAZBENDIX_WAITS ? WAITED : PASSED;
+}
+
+/* A step, and what is asked of the window behind it, of a device and an item that go round. */
+static int pick(player *p, uint32_t actor) {
+    int did = step(p, actor);
+    p->asked++;
+    ask_devices(p, (uint32_t)(p->asked % p->played->devices));
+    ask_order(p, (uint32_t)(p->asked % (p->final_len + 1)));
+    return did;
 }
 
 static uint64_t drawn_below(player *p, uint64_t bound) {
@@ -217,6 +262,32 @@ static void compare_entries(player *p, const char *trace) {
     WANT(strncmp(trace, "# ", 2) != 0);
 }
 
+/* The final items are the order that the record has behind this place, but under the weak model. */
+static void compare_order(const player *p, const char *record) {
+    const char *line = strstr(record, "\norder ");
+    WANT(line != NULL);
+    line += strlen("\norder");
+    if (p->played->model == LAZBENDIX_WEAK)
+        return;
+    for (uint32_t i = 0; i < p->final_len; i++) {
+        static const char *const words[] = { "", "fail(", "back(" };
+        const lazbendix_item *it = &p->final_items[i];
+        char item[128];
+        uint8_t name[32];
+        size_t len;
+        if (it->kind == LAZBENDIX_RAN) {
+            snprintf(item, sizeof item, " %" PRIu32, it->run);
+        } else {
+            WANT(it->kind == LAZBENDIX_FAILED || it->kind == LAZBENDIX_BACK);
+            WANT(lazbendix_device_name(p->hub, it->device, name, sizeof name, &len) == LAZBENDIX_DONE);
+            snprintf(item, sizeof item, " %s%.*s)", words[it->kind - 1], (int)len, (char *)name);
+        }
+        WANT(strncmp(line, item, strlen(item)) == 0);
+        line += strlen(item);
+    }
+    WANT(*line == '\n' || (p->final_len == 0 && strncmp(line, " none\n", 6) == 0));
+}
+
 /* A window, from the place of its text in the record on. Counts the runs that committed. */
 static size_t play_window(lazbendix_hub *hub, const day *played, uint32_t k, device *wall, size_t at, uint64_t *committed) {
     player p;
@@ -243,8 +314,10 @@ static size_t play_window(lazbendix_hub *hub, const day *played, uint32_t k, dev
     compare_entries(&p, head_end + 1);
     for (size_t i = 0; i < p.told_len; i++)
         *committed += p.told[i].kind == LAZBENDIX_COMMITTED;
+    compare_order(&p, head_end);
     WANT(lazbendix_record(hub, 1, &len) == LAZBENDIX_DONE);
     free(p.told);
+    free(p.final_items);
     return compare(hub, len, played, at);
 }
 

@@ -13,7 +13,7 @@
 /* As the other languages declare them. */
 _Static_assert(sizeof(lazbendix_hub) == 16 && sizeof(lazbendix_fault) == 40 && sizeof(lazbendix_entry) == 56, "sizes");
 _Static_assert(sizeof(lazbendix_made) == 176 && sizeof(lazbendix_turn) == 272 && sizeof(lazbendix_left) == 8, "sizes");
-_Static_assert(sizeof(lazbendix_stand_told) == 8 && sizeof(lazbendix_counts_told) == 24, "sizes");
+_Static_assert(sizeof(lazbendix_stand_told) == 8 && sizeof(lazbendix_counts_told) == 24 && sizeof(lazbendix_item) == 16, "sizes");
 
 static lazbendix_hub hub = LAZBENDIX_HUB_CLOSED;
 
@@ -47,6 +47,7 @@ static void closed(void) {
     lazbendix_made made = { 0 };
     lazbendix_entry entry = { 0 };
     lazbendix_left left = { 0 };
+    lazbendix_item item = { 0 };
     lazbendix_stand_told stand = { 0 };
     lazbendix_counts_told counts = { 0 };
     uint8_t room[8] = { 0 };
@@ -59,6 +60,10 @@ static void closed(void) {
     IS(CLOSED, lazbendix_give(&hub, 0, 1, LAZBENDIX_DEAD, 0, 0, &made));
     IS(CLOSED, lazbendix_probe(&hub, 0, &turn));
     IS(CLOSED, lazbendix_blocked(&hub, 1, &number));
+    IS(CLOSED, lazbendix_blocked_runs(&hub, &count));
+    IS(CLOSED, lazbendix_out(&hub, 0, &turn));
+    IS(CLOSED, lazbendix_sealed(&hub, &number));
+    IS(CLOSED, lazbendix_final_item(&hub, 0, &item));
     IS(CLOSED, lazbendix_quiet(&hub, &left));
     IS(CLOSED, lazbendix_close_window(&hub));
     IS(CLOSED, lazbendix_record(&hub, 1, &len));
@@ -70,6 +75,7 @@ static void closed(void) {
     IS(CLOSED, lazbendix_begin_window(&hub, room, 0, 0, &number));
     IS(CLOSED, lazbendix_add_run(&hub, 0, 0, &number));
     IS(CLOSED, lazbendix_restand(&hub, 0, 0));
+    IS(CLOSED, lazbendix_lose(&hub, 0));
     IS(CLOSED, lazbendix_stand(&hub, 0, &stand));
     IS(CLOSED, lazbendix_counts(&hub, &counts));
     IS(CLOSED, lazbendix_run_count(&hub, 0, &count));
@@ -77,7 +83,7 @@ static void closed(void) {
     IS(CLOSED, lazbendix_routine_name(&hub, 0, room, sizeof room, &len));
     IS(CLOSED, lazbendix_value_name(&hub, 0, 0, room, sizeof room, &len));
     WANT(ZEROS(fault) && ZEROS(turn) && ZEROS(made) && ZEROS(entry) && ZEROS(left) && ZEROS(stand) && ZEROS(counts));
-    WANT(ZEROS(room) && number == 0 && count == 0 && len == 0);
+    WANT(ZEROS(room) && ZEROS(item) && number == 0 && count == 0 && len == 0);
 }
 
 static void openings(void) {
@@ -131,6 +137,7 @@ static void between(void) {
     lazbendix_turn turn;
     lazbendix_made made;
     lazbendix_left left;
+    lazbendix_item item;
     lazbendix_stand_told stand;
     uint32_t number;
     uint64_t count;
@@ -139,6 +146,11 @@ static void between(void) {
     IS(NO_WINDOW, lazbendix_give(&hub, 0, 1, LAZBENDIX_DEAD, 0, 0, &made));
     IS(NO_WINDOW, lazbendix_probe(&hub, 0, &turn));
     IS(NO_WINDOW, lazbendix_blocked(&hub, 1, &number));
+    IS(NO_WINDOW, lazbendix_blocked_runs(&hub, &count));
+    IS(NO_WINDOW, lazbendix_out(&hub, 0, &turn));
+    IS(NO_WINDOW, lazbendix_out(&hub, DEVICES, &turn));
+    IS(NO_WINDOW, lazbendix_sealed(&hub, &number));
+    IS(NO_WINDOW, lazbendix_final_item(&hub, 0, &item));
     IS(NO_WINDOW, lazbendix_quiet(&hub, &left));
     IS(NO_WINDOW, lazbendix_close_window(&hub));
     IS(NO_RECORD, lazbendix_record(&hub, 0, &len));
@@ -152,6 +164,8 @@ static void between(void) {
     IS(DONE, lazbendix_restand(&hub, 1, 19));
     IS(DONE, lazbendix_stand(&hub, 1, &stand));
     WANT(stand.value == 19 && stand.up == 1);
+    IS(ABSENT, lazbendix_lose(&hub, DEVICES));
+    IS(ABSENT, lazbendix_lose(&hub, 1u << 16));
     IS(DONE, lazbendix_entry_count(&hub, &count));
     WANT(count == 0);
 }
@@ -216,6 +230,8 @@ static void in_a_window(void) {
     IS(IN_WINDOW, lazbendix_begin_window(&hub, (const uint8_t *)"2022-04-26T09:00:00", 19, 0, &number));
     IS(NO_WINDOW, lazbendix_add_run(&hub, 0, 0, &number));
     IS(IN_WINDOW, lazbendix_restand(&hub, 0, 0));
+    IS(IN_WINDOW, lazbendix_lose(&hub, 0));
+    IS(IN_WINDOW, lazbendix_lose(&hub, DEVICES));
     IS(IN_WINDOW, lazbendix_stand(&hub, 0, &stand));
     IS(NO_RECORD, lazbendix_record(&hub, 0, &len));
     IS(ABSENT, lazbendix_entry_at(&hub, 0, &entry, &number));
@@ -253,6 +269,118 @@ static void a_probe_of_a_device_that_is_out(void) {
     IS(DONE, lazbendix_end(&hub));
 }
 
+/* A device that is lost keeps its value, and is down as the next window begins: no run calls it, and a probe finds it. */
+static void a_device_that_is_lost(void) {
+    lazbendix_stand_told stand;
+    lazbendix_turn turn;
+    lazbendix_made made;
+    IS(DONE, lazbendix_restand(&hub, 0, 1));
+    for (int i = 0; i < 2; i++) {
+        IS(DONE, lazbendix_lose(&hub, 0));
+        IS(DONE, lazbendix_stand(&hub, 0, &stand));
+        WANT(stand.value == 1 && stand.up == 0);
+    }
+    IS(DONE, lazbendix_window(&hub, 0));
+    do
+        IS(DONE, lazbendix_take(&hub, 1, 0, &turn));
+    while (turn.kind == LAZBENDIX_MOVED);
+    WANT(turn.kind == LAZBENDIX_OVER && turn.end.kind == LAZBENDIX_ABORTED && turn.end.cause == LAZBENDIX_MUST_DOWN);
+    IS(DONE, lazbendix_probe(&hub, 0, &turn));
+    WANT(turn.task == LAZBENDIX_RESTORE && turn.value == 1 && turn.ticket == 1);
+    IS(DONE, lazbendix_give(&hub, 0, turn.ticket, LAZBENDIX_WORKED, 0, 0, &made));
+    WANT(made.count == 1 && made.entries[0].kind == LAZBENDIX_ROSE && made.entries[0].device == 0);
+    IS(DONE, lazbendix_end(&hub));
+    IS(CLOSED, lazbendix_lose(&hub, 0));
+}
+
+/* Steps the run until a device is out for it. */
+static void go(uint32_t run, lazbendix_turn *turn) {
+    do
+        IS(DONE, lazbendix_take(&hub, run, 0, turn));
+    while (turn->kind == LAZBENDIX_MOVED);
+    WANT(turn->kind == LAZBENDIX_GO);
+}
+
+/* So many items are final, the last of them this run. */
+static void are_final(uint32_t count, uint32_t run) {
+    lazbendix_item item;
+    uint32_t found;
+    IS(DONE, lazbendix_sealed(&hub, &found));
+    WANT(found == count);
+    IS(ABSENT, lazbendix_final_item(&hub, count, &item));
+    IS(ABSENT, lazbendix_final_item(&hub, UINT32_MAX, &item));
+    if (!count)
+        return;
+    IS(DONE, lazbendix_final_item(&hub, count - 1, &item));
+    WANT(item.kind == LAZBENDIX_RAN && item.run == run && item.device == 0 && item.number == 0);
+}
+
+/* With what devices are out, which runs wait, and which items of the order are final. */
+static void what_is_asked_of_a_window(void) {
+    lazbendix_turn turn, out, twice;
+    lazbendix_item item;
+    uint64_t runs;
+    IS(DONE, lazbendix_window(&hub, 0));
+    are_final(0, 0);
+    IS(DONE, lazbendix_blocked_runs(&hub, &runs));
+    WANT(runs == 0);
+    go(1, &turn); /* the lamp */
+    IS(DONE, lazbendix_out(&hub, 0, &out));
+    IS(DONE, lazbendix_out(&hub, 0, &twice));
+    WANT(memcmp(&out, &turn, sizeof out) == 0 && memcmp(&out, &twice, sizeof out) == 0);
+    WANT(out.run == 1 && out.task == LAZBENDIX_DRIVE && out.value == 1 && out.ticket == 1);
+    IS(NOT_OUT, lazbendix_out(&hub, 1, &out));
+    IS(ABSENT, lazbendix_out(&hub, DEVICES, &out));
+    IS(ABSENT, lazbendix_out(&hub, 1u << 16, &out));
+    for (uint32_t run = 2; run <= 3; run++)
+        do
+            IS(DONE, lazbendix_take(&hub, run, 0, &out));
+        while (out.kind != LAZBENDIX_WAITS);
+    IS(DONE, lazbendix_blocked_runs(&hub, &runs));
+    for (uint32_t run = 1; run <= 64; run++) {
+        uint32_t blocked;
+        IS(DONE, lazbendix_blocked(&hub, run, &blocked));
+        WANT(blocked == (runs >> (run - 1) & 1));
+    }
+    WANT((runs & 3) == 2); /* the second run waits for the lamp, for which the first one is out */
+    IS(DONE, lazbendix_probe(&hub, 2, &turn));
+    IS(DONE, lazbendix_out(&hub, 2, &out));
+    WANT(memcmp(&out, &turn, sizeof out) == 0 && out.run == 0 && out.task == LAZBENDIX_PROBE && out.ticket == 2);
+    give(&out);
+    IS(NOT_OUT, lazbendix_out(&hub, 2, &out));
+    IS(DONE, lazbendix_out(&hub, 0, &out));
+    give(&out);
+    for (int command = 2; command <= 3; command++) {
+        go(1, &turn);
+        are_final(0, 0);
+        give(&turn);
+    }
+    do
+        IS(DONE, lazbendix_take(&hub, 1, 0, &turn));
+    while (turn.kind != LAZBENDIX_OVER);
+    are_final(1, 1);
+    go(2, &turn); /* the lamp dies: a failure, in front of its run */
+    lazbendix_made made;
+    IS(DONE, lazbendix_give(&hub, turn.device, turn.ticket, LAZBENDIX_DEAD, 0, 0, &made));
+    IS(DONE, lazbendix_sealed(&hub, &turn.device));
+    WANT(turn.device == 2);
+    IS(DONE, lazbendix_final_item(&hub, 1, &item));
+    WANT(item.kind == LAZBENDIX_FAILED && item.run == 0 && item.device == 0 && item.number == 1);
+    IS(DONE, lazbendix_end(&hub));
+}
+
+/* The turn of a device that is out has the home's ticket, in a later window too. */
+static void a_device_that_is_out_in_a_later_window(void) {
+    lazbendix_turn turn, out;
+    play(0, 3);
+    IS(DONE, lazbendix_window(&hub, 1));
+    go(1, &turn);
+    IS(DONE, lazbendix_out(&hub, turn.device, &out));
+    WANT(memcmp(&out, &turn, sizeof out) == 0 && out.ticket > 1);
+    give(&out);
+    IS(DONE, lazbendix_end(&hub));
+}
+
 int main(void) {
     size_t len;
     lazbendix_fault fault;
@@ -276,6 +404,13 @@ int main(void) {
     in_a_window();
     IS(DONE, lazbendix_open(&hub, SCRIPT, LAZBENDIX_EVENTUAL, LAZBENDIX_FCFS, &fault));
     a_probe_of_a_device_that_is_out();
+    IS(DONE, lazbendix_open(&hub, SCRIPT, LAZBENDIX_EVENTUAL, LAZBENDIX_FCFS, &fault));
+    a_device_that_is_lost();
+    IS(DONE, lazbendix_open(&hub, SCRIPT, LAZBENDIX_EVENTUAL, LAZBENDIX_FCFS, &fault));
+    what_is_asked_of_a_window();
+    IS(DONE, lazbendix_open(&hub, SCRIPT, LAZBENDIX_EVENTUAL, LAZBENDIX_FCFS, &fault));
+    a_device_that_is_out_in_a_later_window();
+    WANT(lazbendix_version() == LAZBENDIX_VERSION);
     puts("each export answers each of its statuses");
     return 0;
 }

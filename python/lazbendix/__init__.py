@@ -1,7 +1,8 @@
 """The proved core of a smart-home hub, for Python.
 
-A `Hub` is a home. Open a window on it, take the runs of the window step by step, make the device calls that the steps ask
-for, however late and in which order, and give the answers. There is no input, no output, no clock and no thread inside.
+A `Hub` is a home. Open a window on it, take the runs of the window step by step, make the device
+calls that the steps ask for, however late and in which order, and give the answers. There is no
+input, no output, no clock and no thread inside.
 
     with Hub(script) as hub:
         hub.window(0)
@@ -15,22 +16,77 @@ for, however late and in which order, and give the answers. There is no input, n
 """
 from typing import TYPE_CHECKING
 
-from lazbendix.told import (Answer, Cause, Counts, Dead, Entry, EntryKind, Fault, Found, Given, Go, Left, Model, Moved, NoRun,
-                            Over, Refused, Scheduler, ScriptRefused, Stand, Status, Task, Turn, Waits, Why, Worked)
+from lazbendix.told import (
+    Answer,
+    Cause,
+    Counts,
+    Dead,
+    Entry,
+    EntryKind,
+    Fault,
+    Found,
+    Given,
+    Go,
+    Item,
+    ItemKind,
+    Left,
+    Model,
+    Moved,
+    NoRun,
+    Over,
+    Refused,
+    Scheduler,
+    ScriptRefused,
+    Stand,
+    Status,
+    Task,
+    Turn,
+    Waits,
+    Why,
+    Worked,
+)
 
 if TYPE_CHECKING:
-    from lazbendix.hubs import Hub
+    from lazbendix.hubs import Hub, library_version
 
 
 def __getattr__(name: str) -> object:
-    """`Hub` alone wants the library's shared object, which is loaded where it is asked for."""
-    if name == "Hub":
-        from lazbendix.hubs import Hub
-        return Hub
+    """These two alone want the library's shared object, which is loaded where it is asked for."""
+    if name in ("Hub", "library_version"):
+        from lazbendix import hubs
+
+        return getattr(hubs, name)
     raise AttributeError(f"module 'lazbendix' has no attribute {name!r}")
 
 
 __all__ = [
-    "Answer", "Cause", "Counts", "Dead", "Entry", "EntryKind", "Fault", "Found", "Given", "Go", "Hub", "Left", "Model", "Moved",
-    "NoRun", "Over", "Refused", "Scheduler", "ScriptRefused", "Stand", "Status", "Task", "Turn", "Waits", "Why", "Worked",
+    "Answer",
+    "Cause",
+    "Counts",
+    "Dead",
+    "Entry",
+    "EntryKind",
+    "Fault",
+    "Found",
+    "Given",
+    "Go",
+    "Hub",
+    "Item",
+    "ItemKind",
+    "Left",
+    "Model",
+    "Moved",
+    "NoRun",
+    "Over",
+    "Refused",
+    "Scheduler",
+    "ScriptRefused",
+    "Stand",
+    "Status",
+    "Task",
+    "Turn",
+    "Waits",
+    "Why",
+    "Worked",
+    "library_version",
 ]

@@ -5,7 +5,10 @@ from ctypes import POINTER, c_char_p, c_int32, c_size_t, c_uint8, c_uint32, c_ui
 from typing import Any
 
 HERE = os.path.dirname(os.path.abspath(__file__))
-PLACES = [os.path.join(HERE, "liblazbendix.so"), os.path.join(HERE, "..", "..", "library", "out", "liblazbendix.so")]
+PLACES = [
+    os.path.join(HERE, "liblazbendix.so"),
+    os.path.join(HERE, "..", "..", "library", "out", "liblazbendix.so"),
+]
 
 
 class Handle(ctypes.Structure):
@@ -14,13 +17,26 @@ class Handle(ctypes.Structure):
 
 class ToldFault(ctypes.Structure):
     _fields_ = [("count", c_uint64), ("limit", c_uint64)] + [
-        (name, c_uint32) for name in ("kind", "counted", "part", "outer", "inner", "zero")]
+        (name, c_uint32) for name in ("kind", "counted", "part", "outer", "inner", "zero")
+    ]
 
 
 class ToldEntry(ctypes.Structure):
     _fields_ = [("moment", c_uint64), ("deadline", c_uint64)] + [
         (name, c_uint32)
-        for name in ("kind", "run", "command", "device", "place", "answer", "value", "drove", "cause", "lender")]
+        for name in (
+            "kind",
+            "run",
+            "command",
+            "device",
+            "place",
+            "answer",
+            "value",
+            "drove",
+            "cause",
+            "lender",
+        )
+    ]
 
 
 class ToldMade(ctypes.Structure):
@@ -29,11 +45,17 @@ class ToldMade(ctypes.Structure):
 
 class ToldTurn(ctypes.Structure):
     _fields_ = [("ticket", c_uint64), ("made", ToldMade), ("end", ToldEntry)] + [
-        (name, c_uint32) for name in ("kind", "why", "device", "run", "task", "value", "stood", "zero")]
+        (name, c_uint32)
+        for name in ("kind", "why", "device", "run", "task", "value", "stood", "zero")
+    ]
 
 
 class ToldLeft(ctypes.Structure):
     _fields_ = [("kind", c_uint32), ("number", c_uint32)]
+
+
+class ToldItem(ctypes.Structure):
+    _fields_ = [("kind", c_uint32), ("run", c_uint32), ("device", c_uint32), ("number", c_uint32)]
 
 
 class ToldStand(ctypes.Structure):
@@ -47,7 +69,7 @@ class ToldCounts(ctypes.Structure):
 BYTES = [c_char_p, c_size_t]
 ROOM = [POINTER(c_uint8), c_size_t]
 
-# The arguments behind the handle.
+# The arguments behind the handle; the version alone is asked for without one.
 EXPORTS: dict[str, list[Any]] = {
     "open": [*BYTES, c_uint32, c_uint32, POINTER(ToldFault)],
     "end": [],
@@ -56,6 +78,10 @@ EXPORTS: dict[str, list[Any]] = {
     "give": [c_uint32, c_uint64, c_uint32, c_uint32, c_uint64, POINTER(ToldMade)],
     "probe": [c_uint32, POINTER(ToldTurn)],
     "blocked": [c_uint32, POINTER(c_uint32)],
+    "blocked_runs": [POINTER(c_uint64)],
+    "out": [c_uint32, POINTER(ToldTurn)],
+    "sealed": [POINTER(c_uint32)],
+    "final_item": [c_uint32, POINTER(ToldItem)],
     "quiet": [POINTER(ToldLeft)],
     "close_window": [],
     "record": [c_uint32, POINTER(c_size_t)],
@@ -67,25 +93,33 @@ EXPORTS: dict[str, list[Any]] = {
     "begin_window": [*BYTES, c_uint32, POINTER(c_uint32)],
     "add_run": [c_uint32, c_uint32, POINTER(c_uint32)],
     "restand": [c_uint32, c_uint32],
+    "lose": [c_uint32],
     "stand": [c_uint32, POINTER(ToldStand)],
     "counts": [POINTER(ToldCounts)],
     "run_count": [c_uint32, POINTER(c_uint64)],
     "device_name": [c_uint32, *ROOM, POINTER(c_size_t)],
     "routine_name": [c_uint32, *ROOM, POINTER(c_size_t)],
     "value_name": [c_uint32, c_uint32, *ROOM, POINTER(c_size_t)],
+    "version": [],
 }
 
 
 def load() -> ctypes.CDLL:
-    """The shared object that library/build.sh makes: that of LAZBENDIX_LIBRARY, or beside this file, or in library/out."""
+    """The shared object that library/build.sh makes: that of LAZBENDIX_LIBRARY, or beside this
+    file, or in library/out.
+    """
     named = os.environ.get("LAZBENDIX_LIBRARY")
     found = next((place for place in ([named] if named else PLACES) if os.path.exists(place)), None)
     if found is None:
-        raise ImportError("liblazbendix.so is not there: library/build.sh makes it, and LAZBENDIX_LIBRARY may name it")
+        raise ImportError(
+            "liblazbendix.so is not there: library/build.sh makes it, and LAZBENDIX_LIBRARY may "
+            "name it"
+        )
     library = ctypes.CDLL(found)
     for name, arguments in EXPORTS.items():
         export = getattr(library, f"lazbendix_{name}")
-        export.argtypes, export.restype = [POINTER(Handle), *arguments], c_int32
+        handle: list[Any] = [] if name == "version" else [POINTER(Handle)]
+        export.argtypes, export.restype = [*handle, *arguments], c_int32
     return library
 
 

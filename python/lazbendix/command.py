@@ -19,9 +19,9 @@ from lazbendix.next_day import NoNext, next_day
 from lazbendix.picture import picture_of
 from lazbendix.plain import NoYaml, joined, plain_check
 from lazbendix.program import (
+    NO_PROGRAM,
     WRITE,
     Ended,
-    NO_PROGRAM,
     NoProgram,
     call,
     found_program,

@@ -11,9 +11,9 @@ from collections.abc import Callable
 from dataclasses import dataclass, field
 from typing import Any
 
-from lazbendix.json_places import Node, read_places
 from lazbendix.moments import Overlapping
 from lazbendix.records import Day, Retelling, read_day, stands_before
+from lazbendix.reference.json_text import Node, read_places
 from lazbendix.reference.record import WindowPrinter
 from lazbendix.reference.script import Script
 

@@ -14,7 +14,7 @@ format, docs/HOW-TO-WRITE.md advice.
 """
 from typing import Any
 
-from lazbendix.json_places import position
+from lazbendix.reference.json_text import position
 from lazbendix.reference.script import Refusal, Script, read_script
 from lazbendix.script_hints import Hint, Hints, doubled_members, once_each
 from lazbendix.script_mistakes import Mistake, mistakes_of

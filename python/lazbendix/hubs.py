@@ -1,14 +1,52 @@
 """A home behind the library's handle."""
-import ctypes
 import threading
 from ctypes import byref, c_size_t, c_uint8, c_uint32, c_uint64
 from types import TracebackType
 from typing import Any, Iterator
 
-from lazbendix._calls import LIBRARY, Handle, ToldCounts, ToldEntry, ToldFault, ToldLeft, ToldMade, ToldStand, ToldTurn
-from lazbendix.told import (Answer, Cause, Counts, Dead, Entry, EntryKind, Fault, FaultKind, Found, Given, Go, Left, Model,
-                            Moved, NoRun, Over, Part, Refused, Scheduler, ScriptRefused, Stand, Status, Task, Turn, Waits, Why,
-                            Worked)
+from lazbendix._calls import (
+    LIBRARY,
+    Handle,
+    ToldCounts,
+    ToldEntry,
+    ToldFault,
+    ToldItem,
+    ToldLeft,
+    ToldMade,
+    ToldStand,
+    ToldTurn,
+)
+from lazbendix.told import (
+    Answer,
+    Cause,
+    Counts,
+    Dead,
+    Entry,
+    EntryKind,
+    Fault,
+    FaultKind,
+    Found,
+    Given,
+    Go,
+    Item,
+    ItemKind,
+    Left,
+    Model,
+    Moved,
+    NoRun,
+    Over,
+    Part,
+    Refused,
+    Scheduler,
+    ScriptRefused,
+    Stand,
+    Status,
+    Task,
+    Turn,
+    Waits,
+    Why,
+    Worked,
+)
 
 LONGEST_NAME = 32
 MOVED, WAITS, GO, OVER = 1, 2, 3, 4
@@ -16,35 +54,61 @@ RUN_LEFT, DEVICE_LEFT = 1, 2
 
 
 class Hub:
-    """A home, opened from the text of a script. All calls but these raise `Refused` with a status where they do nothing:
+    """A home, opened from the text of a script. All calls but these raise `Refused` with a status
+    where they do nothing:
 
     `close` and the end of a `with` free all that is behind it, whatever is open or out.
 
-    Numbers are at least 0 and fit in 32 bits, tickets and moments in 64. One call at a time is made on it, under a lock of
-    its own, so it may be used by several threads.
+    Numbers are at least 0 and fit in 32 bits, tickets and moments in 64. One call at a time is made
+    on it, under a lock of its own, so it may be used by several threads.
     """
 
-    def __init__(self, script: bytes | str, model: Model = Model.EVENTUAL, scheduler: Scheduler = Scheduler.FCFS) -> None:
-        """Opens the home: every device up at its start, and no window open. Raises `ScriptRefused`, or `Refused` with MODE
-        or NO_MEMORY."""
+    def __init__(
+        self,
+        script: bytes | str,
+        model: Model = Model.EVENTUAL,
+        scheduler: Scheduler = Scheduler.FCFS,
+    ) -> None:
+        """Opens the home: every device up at its start, and no window open. Raises `ScriptRefused`,
+        or `Refused` with MODE or NO_MEMORY."""
         self._handle = Handle(0, None)
         self._lock = threading.RLock()
         data, fault = script.encode() if isinstance(script, str) else bytes(script), ToldFault()
-        status = Status(LIBRARY.lazbendix_open(byref(self._handle), data, len(data), model, scheduler, byref(fault)))
+        status = Status(
+            LIBRARY.lazbendix_open(
+                byref(self._handle), data, len(data), model, scheduler, byref(fault)
+            )
+        )
         if status is Status.REFUSED:
-            raise ScriptRefused(Fault(FaultKind(fault.kind), Part(fault.part), fault.outer, fault.inner, fault.count, fault.limit))
+            raise ScriptRefused(
+                Fault(
+                    FaultKind(fault.kind),
+                    Part(fault.part),
+                    fault.outer,
+                    fault.inner,
+                    fault.count,
+                    fault.limit,
+                )
+            )
         if status is not Status.DONE:
             raise Refused(status, "open")
 
     def close(self) -> None:
-        """Frees the home. One that is closed stays closed, and its other calls raise `Refused` with CLOSED."""
+        """Frees the home. One that is closed stays closed, and its other calls raise `Refused` with
+        CLOSED.
+        """
         with self._lock:
             LIBRARY.lazbendix_end(byref(self._handle))
 
     def __enter__(self) -> "Hub":
         return self
 
-    def __exit__(self, kind: type[BaseException] | None, value: BaseException | None, trace: TracebackType | None) -> None:
+    def __exit__(
+        self,
+        kind: type[BaseException] | None,
+        value: BaseException | None,
+        trace: TracebackType | None,
+    ) -> None:
         self.close()
 
     def __del__(self) -> None:
@@ -60,7 +124,9 @@ class Hub:
     # A window.
 
     def window(self, number: int) -> None:
-        """Opens the script's window of this number, from 0. IN_WINDOW, ABSENT, TOO_MANY, NO_MEMORY."""
+        """Opens the script's window of this number, from 0. IN_WINDOW, ABSENT, TOO_MANY,
+        NO_MEMORY.
+        """
         self._call("window", _u32(number))
 
     def take(self, run: int, now: int) -> Turn:
@@ -70,8 +136,8 @@ class Hub:
         return _turn(turn)
 
     def give(self, device: int, ticket: int, answer: Answer, now: int) -> tuple[Entry, ...]:
-        """Hands in what the device told to the call with this ticket, and answers the entries that it makes. NO_WINDOW,
-        NOT_OUT, WRONG, DIFFERS: the device stays out."""
+        """Hands in what the device told to the call with this ticket, and answers the entries that
+        it makes. NO_WINDOW, NOT_OUT, WRONG, DIFFERS: the device stays out."""
         made = ToldMade()
         told, value = _told(answer)
         self._call("give", _u32(device), _u64(ticket), told, _u32(value), _u64(now), byref(made))
@@ -84,10 +150,44 @@ class Hub:
         return _go(turn)
 
     def is_blocked(self, run: int) -> bool:
-        """Whether the run need not be taken: it waits, at every moment, until another step. NO_WINDOW."""
+        """Whether the run need not be taken: it waits, at every moment, until another step.
+        NO_WINDOW.
+        """
         yes = c_uint32()
         self._call("blocked", _u32(run), byref(yes))
         return yes.value == 1
+
+    def blocked_runs(self) -> int:
+        """The runs that need not be taken, as `is_blocked` tells it, the run r as the bit r - 1.
+        NO_WINDOW."""
+        runs = c_uint64()
+        self._call("blocked_runs", byref(runs))
+        return runs.value
+
+    def out(self, device: int) -> Go:
+        """With what the device is out, as `take` or `probe` told it. NO_WINDOW, ABSENT, NOT_OUT."""
+        turn = ToldTurn()
+        self._call("out", _u32(device), byref(turn))
+        return _go(turn)
+
+    def sealed(self) -> int:
+        """How many items of the window's order are final: those before the first run that is live,
+        all where none is. They stay in their order, whatever comes, and but under the weak model
+        the order of the record begins with them. NO_WINDOW."""
+        count = c_uint32()
+        self._call("sealed", byref(count))
+        return count.value
+
+    def final_item(self, at: int) -> Item:
+        """The final item at this place of the order, from 0. NO_WINDOW, ABSENT from `sealed` on."""
+        item = ToldItem()
+        self._call("final_item", _u32(at), byref(item))
+        return Item(ItemKind(item.kind), item.run, item.device, item.number)
+
+    def final_items(self) -> Iterator[Item]:
+        """The items of the window's order that are final. NO_WINDOW."""
+        for at in range(self.sealed()):
+            yield self.final_item(at)
 
     def left(self) -> Left | None:
         """What is left to do in the window. NO_WINDOW."""
@@ -112,8 +212,8 @@ class Hub:
         return self._text("head")
 
     def entry_text(self, at: int) -> str:
-        """The line of the entry at this place, as a trace has it: of the open window, or of the one closed last. ABSENT,
-        NO_MEMORY."""
+        """The line of the entry at this place, as a trace has it: of the open window, or of the one
+        closed last. ABSENT, NO_MEMORY."""
         return self._text("entry_text", _u64(at))
 
     def _text(self, name: str, *words: int) -> str:
@@ -131,7 +231,9 @@ class Hub:
         return count.value
 
     def entry(self, at: int) -> tuple[Entry, int]:
-        """The entry at this place, and its maker: the run that made the step, 0 for a probe. ABSENT."""
+        """The entry at this place, and its maker: the run that made the step, 0 for a probe.
+        ABSENT.
+        """
         entry, maker = ToldEntry(), c_uint32()
         self._call("entry_at", _u64(at), byref(entry), byref(maker))
         return _entry(entry), maker.value
@@ -144,23 +246,32 @@ class Hub:
     # Windows of the moment.
 
     def begin_window(self, at: str, probes: int = 0) -> int:
-        """Appends a window without runs at this time, `2021-04-26T07:00:00`, later than that of the window before, and
-        answers its number. Where the script has the 288 windows of a day, they are dropped, and this one is number 0.
-        IN_WINDOW, BAD_TIME, TOO_MANY, NO_MEMORY."""
+        """Appends a window without runs at this time, `2021-04-26T07:00:00`, later than that of the
+        window before, and answers its number. Where the script has the 288 windows of a day, they
+        are dropped, and this one is number 0. IN_WINDOW, BAD_TIME, TOO_MANY, NO_MEMORY."""
         number, data = c_uint32(), at.encode()
         self._call("begin_window", data, len(data), _u32(probes), byref(number))
         return number.value
 
     def add_run(self, routine: int, follows: int = 0) -> int:
-        """Appends a run of the routine to the window that was begun, and answers its number; it waits for the end of the
-        run that it follows, 0 for none. NO_WINDOW, ABSENT, BAD_FOLLOW, TOO_MANY, NO_MEMORY."""
+        """Appends a run of the routine to the window that was begun, and answers its number; it
+        waits for the end of the run that it follows, 0 for none. NO_WINDOW, ABSENT, BAD_FOLLOW,
+        TOO_MANY, NO_MEMORY."""
         run = c_uint32()
         self._call("add_run", _u32(routine), _u32(follows), byref(run))
         return run.value
 
     def restand(self, device: int, value: int) -> None:
-        """Tells the home, between two windows, that the device was found up at this value. IN_WINDOW, ABSENT, NO_VALUE."""
+        """Tells the home, between two windows, that the device was found up at this value.
+        IN_WINDOW, ABSENT, NO_VALUE.
+        """
         self._call("restand", _u32(device), _u32(value))
+
+    def lose(self, device: int) -> None:
+        """Tells the home, between two windows, that the device is lost: the next window begins
+        with it down, and a probe finds it. Its value stays. IN_WINDOW, ABSENT.
+        """
+        self._call("lose", _u32(device))
 
     # The home and its script.
 
@@ -200,6 +311,12 @@ class Hub:
         return bytes(room[: size.value]).decode()
 
 
+def library_version() -> str:
+    """The version of the library, as its file VERSION has it."""
+    number = LIBRARY.lazbendix_version()
+    return f"{number // 1000000}.{number // 1000 % 1000}.{number % 1000}"
+
+
 def _u32(number: int) -> int:
     """ctypes would cut it down to 32 bits without a word."""
     if not 0 <= number < 2**32:
@@ -225,8 +342,20 @@ def _told(answer: Answer) -> tuple[int, int]:
 
 
 def _entry(told: ToldEntry) -> Entry:
-    return Entry(EntryKind(told.kind), told.run, told.command, told.device, told.place, Given(told.answer), told.value,
-                 told.drove == 1, Cause(told.cause), told.lender, told.moment, told.deadline)
+    return Entry(
+        EntryKind(told.kind),
+        told.run,
+        told.command,
+        told.device,
+        told.place,
+        Given(told.answer),
+        told.value,
+        told.drove == 1,
+        Cause(told.cause),
+        told.lender,
+        told.moment,
+        told.deadline,
+    )
 
 
 def _made(made: ToldMade) -> tuple[Entry, ...]:

@@ -21,12 +21,12 @@ record tells what its runs had done, and its devices may stand otherwise than th
 """
 from collections.abc import Iterator
 
+from lazbendix.records import Day, WindowLines, read_day
 from lazbendix.reference.check import Differs, check_record
+from lazbendix.reference.json_text import Node, read_places
 from lazbendix.reference.record import time_text
 from lazbendix.reference.script import Refusal, Script, read_script
 from lazbendix.reference.times import days_in
-from lazbendix.json_places import Node, read_places
-from lazbendix.records import Day, WindowLines, read_day
 
 Time = tuple[int, ...]  # year, month, day, hour, minute, second
 Edit = tuple[

@@ -12,11 +12,11 @@ from collections import Counter
 from collections.abc import Callable, Iterator
 
 from lazbendix.choice import Choice
+from lazbendix.records import Day, Item, Unread, read_day
 from lazbendix.reference.history import Fell
 from lazbendix.reference.record import WindowPrinter
 from lazbendix.reference.script import Script
 from lazbendix.reference.serial import Ran
-from lazbendix.records import Day, Item, Unread, read_day
 from lazbendix.summary import ordinal
 from lazbendix.svg import HALF_TAG, LETTER, MARGIN, Picture, width_of
 from lazbendix.told_windows import Facts, told_history

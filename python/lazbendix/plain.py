@@ -90,7 +90,8 @@ def yaml_script(data: bytes) -> bytes:
         ]
         for letter, resolvers in yaml.SafeLoader.yaml_implicit_resolvers.items()
     }
-    Loader.add_implicit_resolver("tag:yaml.org,2002:bool", re.compile("true|false"), list("tf"))
+    add: Any = Loader.add_implicit_resolver  # of which no types are told
+    add("tag:yaml.org,2002:bool", re.compile("true|false"), list("tf"))
     try:
         value: Any = yaml.load(data, Loader)
         return json.dumps(value, indent=2, allow_nan=False).encode() + b"\n"

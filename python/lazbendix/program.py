@@ -2,14 +2,16 @@
 
 Words, statuses and bytes are those of docs/FORMATS.md. Nothing here changes what is written.
 """
+import contextlib
 import functools
 import os
 import select
 import shutil
 import subprocess
 import sys
+import threading
 from collections.abc import Mapping
-from typing import NamedTuple
+from typing import IO, NamedTuple
 
 from lazbendix.reference.calls import BytesSink, BytesSource, Call
 from lazbendix.reference.disks import FileDisk
@@ -24,6 +26,7 @@ PLACES = (
     os.path.join(HERE, "..", "..", "crates", NAME, "out", NAME),
 )
 NO_PROGRAM = 127  # the status where the variable names no program, as a shell has it
+PROGRESS = "LAZBENDIX_PROGRESS"  # where it is set `watch` shows how far it is, line by line
 WRITE = 4  # the status of a write that fails
 
 
@@ -61,17 +64,50 @@ class StandardSink:
 
 
 def call(words: list[str], data: bytes = b"") -> Ended:
-    """Makes a call that writes to standard output as it goes. Of `watch` the progress goes to
-    standard error itself."""
+    """Makes a call that writes to standard output as it goes."""
     program = found_program()
     if program is None:
         tell_reference()
         made = Call(words, BytesSource(data), StandardSink(), FileDisk())
         return Ended(made.status, made.line or "")
     sys.stdout.flush()
-    shows = words[:1] == ["watch"]
-    ended = subprocess.run([program, *words], input=data, stderr=None if shows else subprocess.PIPE)
-    return Ended(ended.returncode, "" if shows else ended.stderr.decode("utf-8", "replace").strip())
+    if words[:1] == ["watch"]:
+        return watched([program, *words], data)
+    ended = subprocess.run([program, *words], input=data, stderr=subprocess.PIPE)
+    return Ended(ended.returncode, ended.stderr.decode("utf-8", "replace").strip())
+
+
+def watched(called: list[str], data: bytes) -> Ended:
+    """Makes a call of `watch`. Its progress goes to standard error as it comes, in the form that
+    the program has for a terminal; its line of a fault is kept, as that of any call."""
+    variables = dict(os.environ)
+    is_terminal = os.isatty(2)
+    if is_terminal:
+        variables[PROGRESS] = "1"
+    begin, end = (b"\r", b"\x1b[K") if is_terminal and not os.isatty(1) else (b"", b"\n")
+    others, shown = list[bytes](), b""
+    with subprocess.Popen(
+        called, stdin=subprocess.PIPE, stderr=subprocess.PIPE, env=variables
+    ) as made:
+        assert made.stdin is not None and made.stderr is not None
+        feeder = threading.Thread(target=feed, args=(made.stdin, data))
+        feeder.start()
+        for line in made.stderr:
+            if line.startswith(b"window "):
+                shown = begin + line.rstrip(b"\n") + end
+                os.write(2, shown)
+            else:
+                others.append(line)
+        feeder.join()
+    if shown and begin:
+        os.write(2, b"\n")
+    return Ended(made.returncode, b"".join(others).decode("utf-8", "replace").strip())
+
+
+def feed(given: IO[bytes], data: bytes) -> None:
+    """Writes all, for as long as there is who reads."""
+    with contextlib.suppress(BrokenPipeError), given:
+        given.write(data)
 
 
 def kept_call(words: list[str], data: bytes = b"") -> Ended:

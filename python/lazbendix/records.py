@@ -76,6 +76,14 @@ class Day:
     lines: int = 0  # how many are whole
 
 
+def some_value(device: DeviceText, word: str) -> int:
+    """The value that a word is for the device. Raises `ValueError` where it is none."""
+    value = value_in(device, word)
+    if value is None:
+        raise ValueError(word)
+    return value
+
+
 class WindowReader:
     """Reads the lines of one window of a record."""
 
@@ -88,7 +96,7 @@ class WindowReader:
         return self.script.routines[self.window.runs[run - 1].routine].commands[c]
 
     def value(self, device: int, word: str) -> int:
-        return value_in(self.script.devices[device], word)
+        return some_value(self.script.devices[device], word)
 
     def answer(self, command: Command, word: str) -> Answer:
         return word if word in (FINE, DOWN, SKIPPED) else self.value(command.device, word)
@@ -138,7 +146,7 @@ class WindowReader:
 
     def stand(self, device: DeviceText, word: str) -> Stand:
         value, down = word.removesuffix("!").partition("=")[2], word.endswith("!")
-        return Stand(value_in(device, value), not down)
+        return Stand(some_value(device, value), not down)
 
 
 class DayReader:
@@ -288,61 +296,104 @@ class Wait:
 
 class QuickHub:
     """Answers what a hub with no grip out is asked most often as its own calls do, and looks only
-    at runs that matter. It takes their place in the hub."""
+    at runs that matter. It takes their place in the hub, and is told each entry by `follow`."""
 
     def __init__(self, hub: Hub) -> None:
         self.hub, self.history = hub, hub.history
-        self.is_stale = (
-            True  # whether the line or the ends have changed since the places were found
-        )
-        self.order, self.lives, self.places = list[int](), dict[int, int](), dict[int, int]()
+        self.order = list[int]()  # the live runs, in the order of the line
+        self.places = dict[int, int]()  # of each run in the line a number that grows along it
+        self.lives = dict[int, int]()  # the same of each live run
         self.found: dict[int, list[int]] = {}  # of each device its live users
+        self.first: dict[int, tuple[int, Behind] | None] = {}  # what `first_holder` found
+        self.behinds: dict[tuple[int, int], Behind] = {}  # the waits that it found so far
+        self.writers: dict[int, int | None] = {}  # what `effective_writer` found
         self.users: dict[int, list[int]] = {}  # of each device the runs that have a command there
         for run in hub.runs:
             for device in hub.runs[run].footprint:
                 self.users.setdefault(device, []).append(run)
+        self.find_places()
         setattr(self.history, "live_before", self.live_before)
         for name in ("effective_writer", "wait_in_line"):
             setattr(hub, name, getattr(self, name))
         if self.history.mode.scheduler == "fcfs":  # nobody stands before who came later
             setattr(hub, "overdue", lambda run, device, moment: None)
 
+    def follow(self, entry: Entry) -> None:
+        """The entry has been added to the history."""
+        self.first.clear()
+        self.writers.clear()
+        kind = type(entry)
+        if kind is Placed:
+            self.put(entry.run)  # type: ignore[union-attr]
+        elif kind is Ended:
+            self.leave(entry.run)  # type: ignore[union-attr]
+
+    def put(self, run: int) -> None:
+        """The run has come into the line: behind all others, or these are found anew."""
+        if self.history.line[-1] != Ran(run):
+            self.find_places()
+            return
+        self.places[run] = self.lives[run] = max(self.places.values(), default=-1) + 1
+        self.order.append(run)
+        for device in self.hub.runs[run].footprint:
+            if device in self.found:
+                self.found[device].append(run)
+
+    def leave(self, run: int) -> None:
+        """The run has ended; where it was aborted, it is in the line no more."""
+        if run not in self.lives:
+            return
+        self.order.remove(run)
+        del self.lives[run]
+        if self.history.ends[run] is not None:
+            del self.places[run]
+        for device in self.hub.runs[run].footprint:
+            if device in self.found:
+                self.found[device].remove(run)
+
     def find_places(self) -> None:
-        """Finds where the runs stand in the line, where that has changed."""
-        if self.is_stale:
-            history, self.is_stale = self.history, False
-            self.places = {
-                item.run: place for place, item in enumerate(history.line) if isinstance(item, Ran)
-            }
-            self.order = [run for run in self.places if run not in history.ends]
-            self.lives = {run: place for place, run in enumerate(self.order)}
-            self.found = {}
+        """Finds where the runs stand in the line."""
+        history = self.history
+        self.places = {
+            item.run: place for place, item in enumerate(history.line) if isinstance(item, Ran)
+        }
+        self.order = [run for run in self.places if run not in history.ends]
+        self.lives = {run: self.places[run] for run in self.order}
+        self.found = {}
 
     def live_before(self, run: int) -> list[int]:
         """The live runs before a run in the line."""
-        self.find_places()
-        place = self.lives.get(run)
-        return History.live_before(self.history, run) if place is None else self.order[:place]
+        if run not in self.lives:
+            return History.live_before(self.history, run)
+        return self.order[: self.order.index(run)]
 
     def live_users(self, device: int) -> list[int]:
         """The live runs that have a command on the device, in the order of the line."""
-        if self.is_stale:
-            self.find_places()
-        if device not in self.found:
+        found = self.found.get(device)
+        if found is None:
             users = [run for run in self.users.get(device, ()) if run in self.lives]
-            self.found[device] = sorted(users, key=self.lives.__getitem__)
-        return self.found[device]
+            found = self.found[device] = sorted(users, key=self.lives.__getitem__)
+        return found
+
+    def first_holder(self, device: int) -> tuple[int, Behind] | None:
+        """The place of the first run in the line that has the device, and the wait for it."""
+        if device in self.first:
+            return self.first[device]
+        self.first[device] = None
+        for run in self.live_users(device):
+            if self.hub.holds(run, device):
+                why = self.behinds.setdefault((device, run), Behind(device, run))
+                self.first[device] = self.lives[run], why
+                break
+        return self.first[device]
 
     def wait_in_line(self, run: int, command: Command, sees_down: bool) -> Why | None:
         """For which run before it in the line a run waits at this command: one that has the device
         names it."""
-        device, users = command.device, self.live_users(command.device)
-        place = self.lives[run]
-        for x in users:
-            if self.lives[x] >= place:
-                break
-            if self.hub.holds(x, device):
-                return Behind(device, x)
+        device, place = command.device, self.lives[run]
+        first = self.first_holder(device)
+        if first is not None and first[0] < place:
+            return first[1]
         if command.reads and not sees_down and device not in self.history.wrote[run]:
             writer = self.effective_writer(device)
             if writer is not None and self.lives.get(writer, place) < place:
@@ -352,15 +403,18 @@ class QuickHub:
 
     def effective_writer(self, device: int, without: int | None = None) -> int | None:
         """The last run along the line with a write there that is not undone."""
+        if without is None and device in self.writers:
+            return self.writers[device]
         wrote, undone = self.history.wrote, self.history.undone
-        writers = [
-            run
-            for run in self.users.get(device, ())
-            if device in wrote[run] and device not in undone[run] and run != without
-        ]
-        self.find_places()
-        places = {run: self.places[run] for run in writers if run in self.places}
-        return max(places, key=places.__getitem__) if places else None
+        last, found = -1, None
+        for run in self.users.get(device, ()):
+            if device in wrote[run] and device not in undone[run] and run != without:
+                place = self.places.get(run, -1)
+                if place > last:
+                    last, found = place, run
+        if without is None:
+            self.writers[device] = found
+        return found
 
 
 class Retelling:
@@ -377,6 +431,7 @@ class Retelling:
         self.quick = QuickHub(self.hub)
         self.printer = WindowPrinter(script, number)
         self.waits, self.waiting = list[Wait](), dict[int, Wait]()
+        self.is_fcfs = mode.scheduler == "fcfs"
         self.at_device: dict[int, set[int]] = {
             d: set() for d in self.quick.users
         }  # by next commands
@@ -395,6 +450,7 @@ class Retelling:
             try:
                 before = self.moment
                 self.history.add(entry)
+                self.quick.follow(entry)
                 moment = getattr(entry.cause if isinstance(entry, Doomed) else entry, "moment", 0)
                 self.moment = max(before, moment)
                 self.touch(entry)
@@ -411,25 +467,22 @@ class Retelling:
         device = self.device_of(entry)
         if device is not None:
             devices.add(device)
-        match entry:
-            case Arrived(run, _):
-                self.unplaced.add(run)
-                runs.add(run)
-            case Placed(run, _, _):
-                self.unplaced.discard(run)
-                self.go_on(run, -1)
-            case Did(run, c, _):
-                runs.add(run)
-                self.go_on(run, c)
-            case Undid(run, _, _):
-                runs.add(run)
-        if isinstance(entry, Placed | Ended | Fell | Rose):
-            self.quick.is_stale = True
-        if isinstance(entry, Placed | Doomed | Ended):
+        if isinstance(entry, Did):
+            runs.add(entry.run)
+            self.go_on(entry.run, entry.command)
+        elif isinstance(entry, Arrived):
+            self.unplaced.add(entry.run)
+            runs.add(entry.run)
+        elif isinstance(entry, Placed | Doomed | Ended):
+            if isinstance(entry, Placed):
+                self.unplaced.discard(entry.run)
+                self.go_on(entry.run, -1)
             runs.add(entry.run)
             devices.update(self.hub.runs[entry.run].footprint)
             if self.hub.is_strict:
                 runs.update(self.history.placed)
+        elif isinstance(entry, Undid):
+            runs.add(entry.run)
         if isinstance(entry, Ended) or self.history.mode.scheduler == "jit":
             runs.update(self.unplaced)
 
@@ -445,12 +498,22 @@ class Retelling:
         """Notes which waits begin and end behind the entry."""
         runs, devices = self.touched
         self.touched = set[int](), set[int]()
-        if has_moved and self.history.mode.scheduler != "fcfs":
+        if has_moved and not self.is_fcfs:
             runs = set(self.history.arrived)
         for device in devices:
-            runs |= self.at_device.get(device, set())
+            runs |= self.unsure_at(device)
         for run in sorted(runs):
             self.note(k, run)
+
+    def unsure_at(self, device: int) -> set[int]:
+        """The runs at the device whose wait may be another one now. First come first served a run
+        waits behind the first one that has the device for as long as that is the first."""
+        runs = self.at_device.get(device, set())
+        first = self.quick.first_holder(device) if runs and self.is_fcfs else None
+        if first is None:
+            return runs
+        why, waiting = first[1], self.waiting
+        return {run for run in runs if run not in waiting or waiting[run].why is not why}
 
     def is_placed_next(self, run: int) -> bool:
         """Whether the run's next step is sure to place it: but just in time nobody is denied."""
@@ -482,16 +545,19 @@ class Retelling:
         if not command.is_done(history.registers[run]):
             strict: Why | None = hub.strict_wait(run)
             return strict
-        if hub.is_weak or hub.overdue(run, command.device, self.moment) is not None:
+        if hub.is_weak:
+            return None
+        if not self.is_fcfs and hub.overdue(run, command.device, self.moment) is not None:
             return None
         sees_down = not history.sees_up[run].get(command.device, True)
         return self.quick.wait_in_line(run, command, sees_down)
 
     def note(self, k: int, run: int) -> None:
-        wait = self.wait_of(run)
-        if run in self.waiting and self.waiting[run].why != wait:
+        wait, before = self.wait_of(run), self.waiting.get(run)
+        if before is not None and before.why is not wait and before.why != wait:
             self.waiting.pop(run).until = k
-        if wait and run not in self.waiting:
+            before = None
+        if wait is not None and before is None:
             self.waiting[run] = Wait(run, wait, k)
             self.waits.append(self.waiting[run])
 

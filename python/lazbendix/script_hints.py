@@ -8,9 +8,9 @@ from collections.abc import Iterator
 from typing import NamedTuple
 
 from lazbendix.reference.hub import PATIENCE
+from lazbendix.reference.json_text import Node
 from lazbendix.reference.script import RoutineText, Script, WindowText
 from lazbendix.reference.serial import Command
-from lazbendix.json_places import Node
 
 
 class Hint(NamedTuple):

@@ -12,10 +12,10 @@ from collections.abc import Callable, Container, Iterable, Mapping
 from typing import Any, NamedTuple
 
 from lazbendix.reference import script
+from lazbendix.reference.json_text import Node, NotJson, read_places
 from lazbendix.reference.record import time_text
 from lazbendix.reference.script import LIMITS, NAME, VERSIONS
 from lazbendix.reference.times import read_time
-from lazbendix.json_places import Broken, Node, read_places
 
 Span = tuple[int, int]  # a first byte, and the one behind the last
 Time = tuple[int, ...]  # year, month, day, hour, minute, second
@@ -685,7 +685,7 @@ def mistakes_of(data: bytes) -> tuple[list[Mistake], Node | None]:
         ], None
     try:
         top = read_places(data)
-    except Broken as broken:
+    except NotJson as broken:
         return [Mistake("not json", broken.at, broken.at + 1, "the script", broken.why)], None
     walk = Walk(data)
     walk.day(top)

@@ -11,6 +11,7 @@ from collections.abc import Iterator
 from typing import Any, NamedTuple
 
 from lazbendix.choice import Choice
+from lazbendix.records import Answer, Day, Retelling, Wait, read_day, stands_before
 from lazbendix.reference.check import Differs, check_record
 from lazbendix.reference.history import (
     Arrived,
@@ -33,7 +34,6 @@ from lazbendix.reference.hub import Behind, Denied, Dirty, Follow, Strict
 from lazbendix.reference.record import time_text
 from lazbendix.reference.script import Script
 from lazbendix.reference.serial import DOWN, FINE, SKIPPED, Command, Failed, Guard, Ran
-from lazbendix.records import Answer, Day, Retelling, Wait, read_day, stands_before
 from lazbendix.terminal import Colours
 
 MODELS = {
@@ -76,21 +76,25 @@ def guard_words(when: Guard | None) -> str:
 
 
 class WindowTeller:
-    """Tells a window of a day."""
+    """Tells a window of a day; with `undos_alone` it notes of the entries what was undone, and no
+    more."""
 
-    def __init__(self, script: Script, day: Day, number: int) -> None:
+    def __init__(self, script: Script, day: Day, number: int, undos_alone: bool = False) -> None:
         self.script, self.mode, self.number = script, day.mode, number
         self.window, self.told = script.windows[number], day.windows[number]
         self.first = stands_before(script, day, number)
         self.again = Retelling(script, number, day.mode, self.first, self.told)
         self.hub, self.history = self.again.hub, self.again.history
         self.traced = bool(self.told.entries)
+        self.asked: dict[tuple[int, int], str] = {}  # what `command` has said so far
+        self.done: dict[int, str] = {}  # what `happened` has said so far of entries
         self.of_run: dict[int, list[tuple[int, Entry, str]]] = {
             run: [] for run in range(1, len(self.window.runs) + 1)
         }
         self.of_devices: list[tuple[int, str]] = []  # with the number of the line, as of a run
         for k, entry in self.again.steps():
-            self.note(k, entry)
+            if not undos_alone or isinstance(entry, Undid):
+                self.note(k, entry)
         self.waits: dict[int, list[Wait]] = {run: [] for run in self.of_run}
         for wait in self.again.waits:
             self.waits[wait.run].append(wait)
@@ -110,11 +114,16 @@ class WindowTeller:
         return self.script.routines[self.window.runs[run - 1].routine].commands
 
     def value(self, d: int, value: int | None) -> str:
-        return self.script.devices[d].word(value)
+        return "" if value is None else self.script.devices[d].word(value)
 
     def command(self, run: int, c: int) -> str:
         """The command as it is asked for."""
-        command = self.commands(run)[c]
+        key = self.window.runs[run - 1].routine, c
+        if key not in self.asked:
+            self.asked[key] = self.command_words(self.commands(run)[c])
+        return self.asked[key]
+
+    def command_words(self, command: Command) -> str:
         name, best = self.device(command.device), guard_words(command.when) + (
             "" if command.must else ", best effort"
         )
@@ -314,7 +323,9 @@ class WindowTeller:
                 why = f"It waited for the end of {self.called(x)}, as {self.mode.model} asks"
         if wait.until is None:
             return f"{why}, to the end of the record"
-        return f"{why}, until {self.happened(self.told.entries[wait.until])}"
+        if wait.until not in self.done:
+            self.done[wait.until] = self.happened(self.told.entries[wait.until])
+        return f"{why}, until {self.done[wait.until]}"
 
     def happened(self, entry: Entry) -> str:
         """An entry in a few words."""

@@ -136,8 +136,8 @@ class Cause(IntEnum):
 
 @dataclass(frozen=True)
 class Entry:
-    """An entry of a window's history. A number of which its kind does not speak is 0; commands, devices and places count
-    from 0, runs from 1, and moments are ms from the window's beginning."""
+    """An entry of a window's history. A number of which its kind does not speak is 0; commands,
+    devices and places count from 0, runs from 1, and moments are ms from the window's beginning."""
 
     kind: EntryKind
     run: int
@@ -165,7 +165,9 @@ class Why(IntEnum):
 
 
 class Task(IntEnum):
-    """What a device is to do: be driven to a value, be sensed, be probed, or be probed and then driven."""
+    """What a device is to do: be driven to a value, be sensed, be probed, or be probed and then
+    driven.
+    """
 
     DRIVE = 1
     SENSE = 2
@@ -191,8 +193,9 @@ class Waits:
 
 @dataclass(frozen=True)
 class Go:
-    """A device is out: make its call, and give the answer with the ticket, which no other call of the hub has, in whatever
-    window. `run` is 0 for a probe; `stood` is the value at which the device stands for the hub."""
+    """A device is out: make its call, and give the answer with the ticket, which no other call of
+    the hub has, in whatever window. `run` is 0 for a probe; `stood` is the value at which the
+    device stands for the hub."""
 
     device: int
     ticket: int
@@ -240,10 +243,29 @@ Answer = Union[Worked, Found, Dead]
 
 @dataclass(frozen=True)
 class Left:
-    """What is left to do in a window: the smallest run that has not ended, or else the smallest device that is out."""
+    """What is left to do in a window: the smallest run that has not ended, or else the smallest
+    device that is out.
+    """
 
     run: int | None
     device: int | None
+
+
+class ItemKind(IntEnum):
+    RAN = 1
+    FAILED = 2
+    BACK = 3
+
+
+@dataclass(frozen=True)
+class Item:
+    """An item of a window's order: a run, done whole, or the failure or restart of this number of a
+    device in the window, from 1. A number that its kind does not speak of is 0."""
+
+    kind: ItemKind
+    run: int
+    device: int
+    number: int
 
 
 @dataclass(frozen=True)

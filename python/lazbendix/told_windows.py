@@ -10,6 +10,9 @@ import operator
 from collections.abc import Iterable
 from typing import Any, Generic, TypeVar
 
+from lazbendix.holdings import holders, leases_on
+from lazbendix.moments import moments_of
+from lazbendix.records import Answer, Day, Item, Retelling, Wait, Why, is_whole_step, stands_before
 from lazbendix.reference.history import (
     Arrived,
     Cause,
@@ -30,18 +33,6 @@ from lazbendix.reference.history import (
 from lazbendix.reference.record import WindowPrinter
 from lazbendix.reference.script import Script
 from lazbendix.reference.serial import DOWN, SKIPPED, Command
-from lazbendix.holdings import holders, leases_on
-from lazbendix.moments import moments_of
-from lazbendix.records import (
-    Answer,
-    Day,
-    Item,
-    Retelling,
-    Wait,
-    Why,
-    is_whole_step,
-    stands_before,
-)
 
 Facts = dict[str, Any]  # as JSON has them
 Key = TypeVar("Key")
@@ -221,7 +212,8 @@ class HistoryTeller:
             return {"device": command.device, "down": True}
         if answer == SKIPPED:
             return {"device": command.device, "skipped": True}
-        value = answer if command.reads else self.history.wrote[run][command.device]
+        wrote = self.history.wrote[run]
+        value = answer if isinstance(answer, int) else wrote[command.device]
         return {"device": command.device, "value": self.script.devices[command.device].word(value)}
 
     def stand(self, device: int) -> str:

@@ -13,12 +13,14 @@ down. An arrow leads from the entry that ended a wait to the run's next entry.
 """
 import bisect
 import json
-from collections.abc import Iterator
+import operator
+from collections.abc import Callable, Iterator
 from typing import Any
 
 from lazbendix.choice import Choice
 from lazbendix.moments import moments_of
 from lazbendix.next_day import day_number
+from lazbendix.records import Day, Unread, Wait, read_day
 from lazbendix.reference.history import (
     Arrived,
     Did,
@@ -33,28 +35,29 @@ from lazbendix.reference.history import (
 from lazbendix.reference.hub import Busy
 from lazbendix.reference.script import Script
 from lazbendix.reference.serial import DOWN, SKIPPED
-from lazbendix.records import Day, Unread, Wait, read_day
 from lazbendix.summary import WindowTeller
 
-Event = dict[str, Any]
-
+quoted: Callable[[str], str] = getattr(json.encoder, "encode_basestring_ascii")  # the quick one
 STEP = 1000  # microseconds, the unit of timestamps
 DEVICES = 1000  # the lane of the first device; those of the runs have their numbers
 
 
 class WindowTracer:
-    """The events of a window, which begins behind so many steps."""
+    """The events of a window, which begins behind so many steps. Each is made as the text that is
+    written of it."""
 
     def __init__(
         self, script: Script, day: Day, number: int, begin: int, axis: str, runs: list[int]
     ) -> None:
-        self.teller = WindowTeller(script, day, number)
+        self.teller = WindowTeller(script, day, number, undos_alone=True)
         self.entries, self.lines = self.teller.told.entries, self.teller.told.entry_lines
-        self.pid, self.begin, self.events = number + 1, begin, list[Event]()
+        self.pid, self.begin = number + 1, begin
+        self.labels = list[str]()
+        self.events = list[tuple[int, int, str]]()  # each behind its time and its negative duration
         self.devices = [device.name for device in script.devices]
         self.runs = set(runs)
         self.words = {
-            line: words for told in self.teller.of_run.values() for line, _, words in told if words
+            line: words for undos in self.teller.of_run.values() for line, _, words in undos
         }
         self.ats = self.steps() if axis == "step" else self.times(script, number)
         self.end = -(-self.ats[-1] // STEP) + 1
@@ -78,49 +81,39 @@ class WindowTracer:
             ats.append(max((self.begin + 1 + moment) * STEP, ats[-1] + 1))
         return ats
 
-    def at(self, k: int) -> int:
-        return self.ats[k]
-
-    def add(self, kind: str, lane: int, name: str, at: int, **more: Any) -> None:
-        self.events.append(
-            {"ph": kind, "pid": self.pid, "tid": lane, "name": name, "ts": at, **more}
-        )
-
-    def slice(self, lane: int, name: str, at: int, until: int, kind: str, **args: Any) -> None:
-        """A slice, but on the lane of a run that is not shown."""
+    def slice(self, lane: int, name: str, at: int, until: int, kind: str, args: str) -> None:
+        """A slice, but on the lane of a run that is not shown. Its arguments are members of
+        JSON.
+        """
         if lane >= DEVICES or lane in self.runs:
-            self.add("X", lane, name, at, dur=until - at, cat=kind, args=args)
+            text = (
+                f'{{"ph":"X","pid":{self.pid},"tid":{lane},"name":{quoted(name)},"ts":{at},'
+                f'"dur":{until - at},"cat":"{kind}","args":{{{args}}}}}'
+            )
+            self.events.append((at, at - until, text))
 
-    def label(self, lane: int, what: str, name: str) -> None:
-        self.events.append(
-            {"ph": "M", "pid": self.pid, "tid": lane, "name": what, "args": {"name": name}}
-        )
+    def label(self, lane: int, what: str, **args: str | int) -> None:
+        event = {"ph": "M", "pid": self.pid, "tid": lane, "name": what, "args": args}
+        self.labels.append(json.dumps(event, separators=(",", ":")))
 
-    def all(self) -> list[Event]:
+    def all(self) -> list[str]:
         teller = self.teller
-        self.label(0, "process_name", teller.told.title)
-        self.events.append(
-            {
-                "ph": "M",
-                "pid": self.pid,
-                "tid": 0,
-                "name": "process_sort_index",
-                "args": {"sort_index": self.pid},
-            }
-        )
+        self.label(0, "process_name", name=teller.told.title)
+        self.label(0, "process_sort_index", sort_index=self.pid)
         for run in teller.of_run:
             if run in self.runs:
-                self.label(run, "thread_name", f"run {run} {teller.name(run)}")
+                self.label(run, "thread_name", name=f"run {run} {teller.name(run)}")
                 self.run(run)
         for d, name in enumerate(self.devices):
-            self.label(DEVICES + d, "thread_name", f"device {name}")
+            self.label(DEVICES + d, "thread_name", name=f"device {name}")
             self.down(d)
         for k, entry in enumerate(self.entries):
             self.entry(k, entry)
         for wait in teller.again.waits:
             if wait.run in self.runs:
                 self.wait(wait)
-        return sorted(self.events, key=lambda event: (event.get("ts", -1), -event.get("dur", 0)))
+        self.events.sort(key=operator.itemgetter(0, 1))
+        return self.labels + [text for _, _, text in self.events]
 
     def next_of(self, run: int, k: int) -> int:
         """The number of the run's first entry behind an entry, or that of the end."""
@@ -134,15 +127,10 @@ class WindowTracer:
         mine = self.steps_of.get(run, [])
         if mine:
             ended = isinstance(self.entries[mine[-1]], Ended)
-            until = self.at(mine[-1] + 1 if ended else len(self.entries))
-            self.slice(
-                run,
-                f"run {run} {self.teller.name(run)}",
-                self.at(mine[0]),
-                until,
-                "run",
-                end=self.end_of(run),
-            )
+            until = self.ats[mine[-1] + 1 if ended else len(self.entries)]
+            name = f"run {run} {self.teller.name(run)}"
+            end = f'"end":{quoted(self.end_of(run))}'
+            self.slice(run, name, self.ats[mine[0]], until, "run", end)
 
     def end_of(self, run: int) -> str:
         ends = self.teller.told.ends
@@ -160,107 +148,75 @@ class WindowTracer:
         for k in [*self.turns_of.get(d, []), len(self.entries)]:
             is_end = k == len(self.entries)
             if not is_end and isinstance(self.entries[k], Fell):
-                since = self.at(k)
+                since = self.ats[k]
             elif since is not None:
                 begin = since or self.ats[0] - STEP
-                self.slice(DEVICES + d, "down", begin, self.at(k), "down")
+                self.slice(DEVICES + d, "down", begin, self.ats[k], "down", "")
                 since = None
 
     def wait(self, wait: Wait) -> None:
         """The wait up to the entry that ended it, and an arrow to what the run did next."""
-        until = len(self.entries) if wait.until is None else wait.until
-        begin, end = self.at(wait.since + 1), self.at(
-            until + 1 if wait.until is not None else until
-        )
-        end = min(end, self.at(self.next_of(wait.run, wait.since)))
+        run, since, count = wait.run, wait.since, len(self.entries)
+        until = count if wait.until is None else wait.until
+        begin, end = self.ats[since + 1], self.ats[until if wait.until is None else until + 1]
+        end = min(end, self.ats[self.next_of(run, since)])
         why = type(wait.why).__name__.lower()
         if end > begin and not isinstance(wait.why, Busy):  # of which no history tells
-            self.slice(
-                wait.run,
-                f"waits: {why} {wait.why.run}",
-                begin,
-                end,
-                "wait",
-                why=self.teller.waited(wait),
-            )
-        after = self.next_of(wait.run, until)
-        if after < len(self.entries) and getattr(self.entries[until], "run", None) != wait.run:
+            told = f'"why":{quoted(self.teller.waited(wait))}'
+            self.slice(run, f"waits: {why} {wait.why.run}", begin, end, "wait", told)
+        after = self.next_of(run, until)
+        if after < count:
             self.arrow(wait, until, after, why)
 
     def arrow(self, wait: Wait, until: int, after: int, why: str) -> None:
-        """From the entry that ended a wait to what the run did next."""
-        ender = self.entries[until]
-        if not isinstance(ender, Fell | Rose) and ender.run not in self.runs:
+        """From the entry that ended a wait to what the run did next, where another one ended it."""
+        ender, run = self.entries[until], wait.run
+        if isinstance(ender, Fell | Rose):
+            lane = DEVICES + ender.device
+        elif ender.run != run and ender.run in self.runs:
+            lane = ender.run
+        else:
             return
-        lane = DEVICES + ender.device if isinstance(ender, Fell | Rose) else ender.run
-        flow = {"cat": "wait", "id": f"{self.pid}.{wait.run}.{wait.since}.{why}"}
-        self.add("s", lane, f"run {wait.run} goes on", self.at(until), **flow)
-        self.add("f", wait.run, f"run {wait.run} goes on", self.at(after), bp="e", **flow)
+        pid, name = self.pid, f'"name":"run {run} goes on"'
+        flow = f'"cat":"wait","id":"{pid}.{run}.{wait.since}.{why}"'
+        begin, end = self.ats[until], self.ats[after]
+        self.events += [
+            (begin, 0, f'{{"ph":"s","pid":{pid},"tid":{lane},{name},"ts":{begin},{flow}}}'),
+            (end, 0, f'{{"ph":"f","pid":{pid},"tid":{run},{name},"ts":{end},"bp":"e",{flow}}}'),
+        ]
 
     # Entries.
 
     def entry(self, k: int, entry: Entry) -> None:
-        at, until, line = self.at(k), self.at(k + 1), self.lines[k]
+        at, until, line = self.ats[k], self.ats[k + 1], f'"line":{self.lines[k]}'
         match entry:
-            case Arrived(run, moment):
-                self.slice(run, "arrived", at, until, "step", moment=moment, line=line)
-            case Placed(run, place, moment):
-                self.slice(
-                    run,
-                    f"placed at {place}",
-                    at,
-                    until,
-                    "step",
-                    place=place,
-                    moment=moment,
-                    line=line,
-                )
             case Did(run, c, answer):
-                command = self.teller.commands(run)[c]
-                told = self.teller.answered(run, c, answer)
-                self.slice(
-                    run,
-                    self.teller.command(run, c),
-                    at,
-                    until,
-                    "command",
-                    answer=told,
-                    command=c + 1,
-                    line=line,
-                )
-                name = f"run {run}: {'down' if answer == DOWN else self.teller.command(run, c)}"
+                command, asked = self.teller.commands(run)[c], self.teller.command(run, c)
+                told = f'"answer":{quoted(self.teller.answered(run, c, answer))}'
+                args = f'{told},"command":{c + 1},{line}'
+                self.slice(run, asked, at, until, "command", args)
                 if answer != SKIPPED:
-                    self.slice(
-                        DEVICES + command.device, name, at, until, "command", answer=told, line=line
-                    )
-            case Undid(run, d, _):
-                words = self.words[line]
-                self.slice(run, f"undo {self.devices[d]}", at, until, "undo", told=words, line=line)
-                self.slice(
-                    DEVICES + d, f"run {run}: undo", at, until, "undo", told=words, line=line
-                )
-            case Doomed(run, cause):
-                self.slice(
-                    run, "doomed", at, until, "step", cause=self.teller.cause(run, cause), line=line
-                )
+                    name = f"run {run}: {'down' if answer == DOWN else asked}"
+                    lane = DEVICES + command.device
+                    self.slice(lane, name, at, until, "command", f"{told},{line}")
+            case Arrived(run, moment):
+                self.slice(run, "arrived", at, until, "step", f'"moment":{moment},{line}')
+            case Placed(run, place, moment):
+                args = f'"place":{place},"moment":{moment},{line}'
+                self.slice(run, f"placed at {place}", at, until, "step", args)
             case Ended(run, cause):
-                self.slice(
-                    run,
-                    "committed" if cause is None else "ended, taken back",
-                    at,
-                    until,
-                    "step",
-                    line=line,
-                )
+                name = "committed" if cause is None else "ended, taken back"
+                self.slice(run, name, at, until, "step", line)
+            case Undid(run, d, _):
+                args = f'"told":{quoted(self.words[self.lines[k]])},{line}'
+                self.slice(run, f"undo {self.devices[d]}", at, until, "undo", args)
+                self.slice(DEVICES + d, f"run {run}: undo", at, until, "undo", args)
+            case Doomed(run, cause):
+                args = f'"cause":{quoted(self.teller.cause(run, cause))},{line}'
+                self.slice(run, "doomed", at, until, "step", args)
             case Fell(d) | Rose(d):
-                self.slice(
-                    DEVICES + d,
-                    "fails" if isinstance(entry, Fell) else "is back",
-                    at,
-                    until,
-                    "device",
-                    line=line,
-                )
+                name = "fails" if isinstance(entry, Fell) else "is back"
+                self.slice(DEVICES + d, name, at, until, "device", line)
 
 
 def begin_of(script: Script, number: int) -> int:
@@ -274,7 +230,7 @@ def begin_of(script: Script, number: int) -> int:
 
 def windows_of(
     script: Script, text: str, axis: str = "step", choice: Choice = Choice()
-) -> tuple[Event, Iterator[list[Event]]]:
+) -> tuple[dict[str, str], Iterator[list[str]]]:
     """What is said of all events, and the events of each window of a traced record that is chosen.
     Raises `Unread`."""
     day = read_day(script, text)
@@ -282,7 +238,7 @@ def windows_of(
         raise Unread("no trace in the record: make it with --trace")
     numbers = choice.numbers(script, day)
 
-    def events() -> Iterator[list[Event]]:
+    def events() -> Iterator[list[str]]:
         begin = 0
         for number in numbers:
             begin = max(begin, begin_of(script, number) if axis == "ms" else 0)
@@ -299,20 +255,17 @@ def windows_of(
     }, events()
 
 
+def trace_text(script: Script, text: str, axis: str = "step", choice: Choice = Choice()) -> str:
+    """The events of a traced record as they are written, a window on a line. Raises `Unread`."""
+    about, windows = windows_of(script, text, axis, choice)
+    told = json.dumps(about, separators=(",", ":"))
+    events = ",\n".join(",".join(window) for window in windows)
+    return f'{{"displayTimeUnit":"ms","otherData":{told},"traceEvents":[\n{events}\n]}}\n'
+
+
 def trace_of(
     script: Script, text: str, axis: str = "step", choice: Choice = Choice()
 ) -> dict[str, Any]:
-    """The events of a traced record. Raises `Unread`."""
-    about, windows = windows_of(script, text, axis, choice)
-    events = [event for window in windows for event in window]
-    return {"traceEvents": events, "displayTimeUnit": "ms", "otherData": about}
-
-
-def trace_text(script: Script, text: str, axis: str = "step", choice: Choice = Choice()) -> str:
-    """The events as they are written, a window on a line. Raises `Unread`."""
-    about, windows = windows_of(script, text, axis, choice)
-    told = json.dumps(about, separators=(",", ":"))
-    events = ",\n".join(
-        json.dumps(window, separators=(",", ":"))[1:-1] for window in windows if window
-    )
-    return f'{{"displayTimeUnit":"ms","otherData":{told},"traceEvents":[\n{events}\n]}}\n'
+    """The same, read. Raises `Unread`."""
+    read: dict[str, Any] = json.loads(trace_text(script, text, axis, choice))
+    return read

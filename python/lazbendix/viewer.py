@@ -15,12 +15,12 @@ from collections.abc import Iterator
 
 from lazbendix.choice import Choice
 from lazbendix.explorer import Explorer, columns
+from lazbendix.records import Day, Item, read_day
 from lazbendix.reference.check import Differs, check_record
 from lazbendix.reference.record import WindowPrinter, window_text
 from lazbendix.reference.replay import Home
 from lazbendix.reference.script import DeviceText, RoutineText, RunText, Script
 from lazbendix.reference.serial import Command, Ran, Stand
-from lazbendix.records import Day, Item, read_day
 from lazbendix.told_windows import Facts, cause_facts, told_history
 
 PARTS = os.path.join(os.path.dirname(os.path.abspath(__file__)), "viewer_page")

@@ -104,7 +104,7 @@ back_on before hub next done m made was back window =
 -- Live homes
 
 -- what is kept of the window in which a live home is
-window_of : (s : LiveState) (k : ℕ) (hub : OpenHub HandedDevice) → IsLive s → s.phase ≡ InWindow k hub → WindowTickets s.tickets_before hub
+pub window_of : (s : LiveState) (k : ℕ) (hub : OpenHub HandedDevice) → IsLive s → s.phase ≡ InWindow k hub → WindowTickets s.tickets_before hub
 window_of s k hub live is = subst (λ p. TicketsAreLow s.tickets_before p) is live.tickets
 
 live_on : (s : LiveState) (k : ℕ) (hub next : OpenHub HandedDevice) → IsLive s → s.phase ≡ InWindow k hub → SameWindow hub next → WindowTickets s.tickets_before next → IsLive (record s { phase = InWindow k next })

@@ -2,6 +2,7 @@ pub mod DraftRefusals
 pub mod Drafts
 pub mod LiveHomes
 pub mod Openings
+pub mod Queries
 pub mod Readings
 pub mod Steps
 pub mod Texts

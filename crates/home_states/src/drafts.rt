@@ -1,11 +1,12 @@
-//! Windows of the moment: a window is begun, and runs are added to it, before it is opened.
+//! Windows of the moment: a window is begun, and runs are added to it, before it is opened. And
+//! devices that were found elsewhere, or are lost, between two windows.
 ghost use Rattle.std.specs.Prelude.{◌≡◌, IfErr, IfOk, IfSome, None, Some};
 ghost use Rattle.day_clock.specs.Times.{IsCivilTime};
 ghost use Rattle.home_states.specs.DraftRefusals.{MayNotAdd, MayNotBegin, added_why, begun_why, first_against_adding, first_against_beginning};
-ghost use Rattle.home_states.specs.Drafts.{HasAddedRun, HasBegunWindow, HasRestood, MayNotRestand, WasRestood, first_against_finding, first_against_restanding, time_told};
+ghost use Rattle.home_states.specs.Drafts.{HasAddedRun, HasBegunWindow, HasLost, HasRestood, MayNotLose, MayNotRestand, WasLost, WasRestood, first_against_finding, first_against_loss, first_against_losing, first_against_restanding, time_told};
 
 use crate::homes::{LiveHome, Phase, remember};
-use crate::refusals::{NotBegun, NotRestood};
+use crate::refusals::{NotBegun, NotLost, NotRestood};
 use day_clock::{When, read_time};
 use handed_devices::HandedDevice;
 use home_types::{DeviceNo, RunNo, Value};
@@ -91,6 +92,24 @@ impl LiveHome {
             Phase::Moving => unreachable!(),
         }
     }
+
+    /// Tells the home, between two windows, that the device is lost: it is counted down, so the
+    /// next window begins with it down, and a probe finds it. Nothing else changes. One that is
+    /// down already may be lost again.
+    ///
+    /// Refused in a window, and where the home has no such device.
+    pub fn lose(&mut self, d: DeviceNo) -> Result<(), NotLost>
+        ensures lost { IfOk result (λ _. HasLost self.old d.0 self.new) }
+        ensures free { IfOk result (λ _. first_against_losing self.old d.0 ≡ None) }
+        ensures refused { IfErr result (λ why. MayNotLose self.old d.0 why) }
+        ensures same { IfErr result (λ _. self.new ≡ self.old) }
+    {
+        match &mut self.phase {
+            Phase::Between(home) => lose_in(home, d),
+            Phase::InWindow(_, _) => Err(NotLost::InWindow),
+            Phase::Moving => unreachable!(),
+        }
+    }
 }
 
 /// The time that these bytes tell, `None` where they are none.
@@ -160,4 +179,19 @@ fn found_at(device: &HandedDevice, value: Value) -> HandedDevice
         probes: device.probes,
         faults: device.faults,
     }
+}
+
+/// Tells the home that the device is lost.
+fn lose_in(home: &mut Home<HandedDevice>, d: DeviceNo) -> Result<(), NotLost>
+    ensures lost { IfOk result (λ _. WasLost home.old d.0 home.new) }
+    ensures free { IfOk result (λ _. first_against_loss home.old d.0 ≡ None) }
+    ensures refused { IfErr result (λ why. first_against_loss home.old d.0 ≡ Some why) }
+    ensures same { IfErr result (λ _. home.new ≡ home.old) }
+{
+    home.kept();
+    if home.world().devices.len() <= d.0 as u64 {
+        return Err(NotLost::Absent);
+    }
+    home.lose(d);
+    Ok(())
 }

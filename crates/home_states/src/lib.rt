@@ -6,10 +6,14 @@ mod drafts;
 pub mod homes;
 mod numbers;
 mod openings;
+mod queries;
 mod readings;
 pub mod refusals;
 mod steps;
 mod texts;
 
 pub use homes::{ClosedWindow, LiveHome, Phase};
-pub use refusals::{NotAnswered, NotBegun, NotClosed, NotOpened, NotRestood, NotStanding, NotTold};
+pub use refusals::{
+    NotAnswered, NotBegun, NotClosed, NotFinal, NotLent, NotLost, NotOpened, NotRestood,
+    NotStanding, NotTold,
+};

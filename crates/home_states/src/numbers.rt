@@ -1,6 +1,7 @@
 //! The numbers of device calls, which go on over all windows of a home.
-ghost use Rattle.std.specs.Prelude.{◌≡◌, ◌+◌, ◌<◌, ◌≤◌, ◌^◌, Err, IfErr, IfOk, IfSome, Some, length, ℕ};
-ghost use Rattle.home_states.specs.Tickets.{CallsAreFew, IsOfNoNumber, TicketsAreGiven, call_told, count_after, numbered, numbered_call, numbered_turn, refusal_of_number, window_tickets};
+ghost use Rattle.std.specs.Prelude.{◌≡◌, ◌+◌, ◌<◌, ◌≤◌, ◌^◌, Err, IfErr, IfOk, IfSome, Some, length, slice_get, ℕ};
+ghost use Rattle.home_states.specs.Tickets.{CallsAreFew, IsOfNoNumber, TicketsAreGiven, WindowTickets, call_told, count_after, numbered, numbered_call, numbered_turn, refusal_of_number, window_tickets};
+ghost use Rattle.device_gate.specs.Places.{kept_of};
 ghost use Rattle.history_book.specs.Sealed.{StaysSealed};
 ghost use Rattle.hub_core.specs.HubCalls.{SameWindow};
 ghost use Rattle.hub_core.specs.OpenHubs.{configuration_of};
@@ -65,6 +66,26 @@ fn number(slip: Slip, before: u64, tickets: &mut u64) -> Slip
     Slip {
         ticket: *tickets,
         ..slip
+    }
+}
+
+/// With what the device is out of the window, before which so many calls went: with the home's
+/// number of the call.
+pub(crate) fn lent_numbered(
+    table: &Table<HandedDevice>,
+    before: u64,
+    d: DeviceNo,
+) -> Option<(Slip, Task)>
+    requires low { WindowTickets before table.now }
+    ensures { result ≡ numbered_call before (kept_of (slice_get table.now.places d.0)) }
+{
+    few(table);
+    match table.lent(d) {
+        Some((slip, task)) => {
+            let ticket = before + slip.ticket;
+            Some((Slip { ticket, ..slip }, task))
+        }
+        None => None,
     }
 }
 

@@ -62,6 +62,35 @@ pub enum NotRestood {
     NoValue,
 }
 
+/// Why the home is not told that a device is lost. It is as it was.
+#[derive(Clone, Copy, Debug, PartialEq, Eq)]
+pub enum NotLost {
+    /// A window is open.
+    InWindow,
+    /// The home has no such device.
+    Absent,
+}
+
+/// Why it is not told with what a device is out.
+#[derive(Clone, Copy, Debug, PartialEq, Eq)]
+pub enum NotLent {
+    /// No window is open.
+    NoWindow,
+    /// The home has no such device.
+    Absent,
+    /// The device is home.
+    IsHome,
+}
+
+/// Why it is not told which item of the order is final at a place.
+#[derive(Clone, Copy, Debug, PartialEq, Eq)]
+pub enum NotFinal {
+    /// No window is open.
+    NoWindow,
+    /// So many items are not final.
+    Absent,
+}
+
 /// Why no window is begun, or no run added to it. The script is as it was.
 #[derive(Clone, Copy, Debug, PartialEq, Eq)]
 pub enum NotBegun {

@@ -2,6 +2,7 @@ pub mod Calls
 pub mod Faults
 pub mod Numbers
 pub mod Owned
+pub mod Queries
 pub mod Readings
 pub mod Refusals
 pub mod Steps

@@ -1,8 +1,9 @@
 -- Why a call of a C program does nothing, and the status that tells it.
 use Rattle.home_states.specs.DraftRefusals.{MayNotAdd, MayNotBegin}
-use Rattle.home_states.specs.Drafts.{MayNotRestand}
+use Rattle.home_states.specs.Drafts.{MayNotLose, MayNotRestand}
 use Rattle.home_states.specs.LiveHomes.{IsBetweenWindows, LiveState}
 use Rattle.home_states.specs.Openings.{MayNotClose, MayNotOpen}
+use Rattle.home_states.specs.Queries.{MayNotTellFinal, MayNotTellLent}
 use Rattle.home_states.specs.Readings.{MayNotStand}
 use Rattle.home_states.specs.Steps.{HasProbed, IsNoAnswer}
 use Rattle.home_states.specs.declared.refusals.NotAnswered.TheVariants.{NoWindow as NoWindowForAnswer, NotTaken as Refused}
@@ -11,6 +12,12 @@ use Rattle.home_states.specs.declared.refusals.NotBegun.TheVariants.{Absent as N
 use Rattle.home_states.specs.declared.refusals.NotBegun.{NotBegun}
 use Rattle.home_states.specs.declared.refusals.NotClosed.TheVariants.{NoWindow, NotQuiet}
 use Rattle.home_states.specs.declared.refusals.NotClosed.{NotClosed}
+use Rattle.home_states.specs.declared.refusals.NotFinal.TheVariants.{Absent as NoItem, NoWindow as NoneForItem}
+use Rattle.home_states.specs.declared.refusals.NotFinal.{NotFinal}
+use Rattle.home_states.specs.declared.refusals.NotLent.TheVariants.{Absent as NoneToLend, IsHome, NoWindow as NoneForLent}
+use Rattle.home_states.specs.declared.refusals.NotLent.{NotLent}
+use Rattle.home_states.specs.declared.refusals.NotLost.TheVariants.{Absent as NoneToLose, InWindow as LostInWindow}
+use Rattle.home_states.specs.declared.refusals.NotLost.{NotLost}
 use Rattle.home_states.specs.declared.refusals.NotOpened.TheVariants.{Absent, InWindow, NoMemory, TooMany}
 use Rattle.home_states.specs.declared.refusals.NotOpened.{NotOpened}
 use Rattle.home_states.specs.declared.refusals.NotRestood.TheVariants.{Absent as NoDevice, InWindow as RestoodInWindow, NoValue}
@@ -72,6 +79,19 @@ restanding_status RestoodInWindow = pos 6
 restanding_status NoDevice = pos 8
 restanding_status NoValue = pos 18
 
+abbrev pub losing_status : NotLost → ℤ
+losing_status LostInWindow = pos 6
+losing_status NoneToLose = pos 8
+
+abbrev pub lent_status : NotLent → ℤ
+lent_status NoneForLent = pos 7
+lent_status NoneToLend = pos 8
+lent_status IsHome = pos 10
+
+abbrev pub final_status : NotFinal → ℤ
+final_status NoneForItem = pos 7
+final_status NoItem = pos 8
+
 abbrev pub standing_status : NotStanding → ℤ
 standing_status StandsInWindow = pos 6
 standing_status NoStand = pos 8
@@ -119,6 +139,18 @@ IsNotAdded s routine follows status =
 abbrev pub IsNotRestood : LiveState → ℕ → ℕ → ℤ → Type 0
 IsNotRestood s d value status =
     TellsReason restanding_status (λ why. MayNotRestand s d value why) status
+
+-- the home is not told that the device is lost
+abbrev pub IsNotLost : LiveState → ℕ → ℤ → Type 0
+IsNotLost s d status = TellsReason losing_status (λ why. MayNotLose s d why) status
+
+-- it is not told with what the device is out
+abbrev pub IsNotLent : LiveState → ℕ → ℤ → Type 0
+IsNotLent s d status = TellsReason lent_status (λ why. MayNotTellLent s d why) status
+
+-- no final item is told
+abbrev pub IsNotFinal : LiveState → ℕ → ℤ → Type 0
+IsNotFinal s at status = TellsReason final_status (λ why. MayNotTellFinal s at why) status
 
 -- the text of the window closed last is not made
 abbrev pub IsNoRecord : LiveState → ℤ → Type 0

@@ -10,6 +10,8 @@ use Rattle.history_book.specs.declared.entries.Entry.TheVariants.{Arrived, Did, 
 use Rattle.history_book.specs.declared.entries.Entry.{Entry}
 use Rattle.home_types.specs.declared.commands.Answer.TheVariants.{Down, Fine, Found, Skipped}
 use Rattle.home_types.specs.declared.commands.Answer.{Answer}
+use Rattle.home_types.specs.declared.items.Item.TheVariants.{Back, Failed, Ran}
+use Rattle.home_types.specs.declared.items.Item.{Item}
 use Rattle.home_types.specs.declared.worlds.Stand.{Stand}
 use Rattle.hub_core.specs.declared.refusals.NotQuiet.TheVariants.{StillLive, StillOut}
 use Rattle.hub_core.specs.declared.refusals.NotQuiet.{NotQuiet}
@@ -19,6 +21,7 @@ use Rattle.hub_table.specs.declared.told.Taken.TheVariants.{Absent, Moved, Out, 
 use Rattle.hub_table.specs.declared.told.Taken.{Taken}
 use Rattle.lazbendix_c.specs.declared.told_entries.ToldEntry.{ToldEntry}
 use Rattle.lazbendix_c.specs.declared.told_entries.ToldMade.{ToldMade}
+use Rattle.lazbendix_c.specs.declared.told_turns.ToldItem.{ToldItem}
 use Rattle.lazbendix_c.specs.declared.told_turns.ToldLeft.{ToldLeft}
 use Rattle.lazbendix_c.specs.declared.told_turns.ToldStand.{ToldStand}
 use Rattle.lazbendix_c.specs.declared.told_turns.ToldTurn.{ToldTurn}
@@ -176,3 +179,9 @@ left_of (Some (StillOut d)) = record { kind = 2; number = d.0 }
 -- how a device stands
 abbrev pub stand_of : Stand → ToldStand
 stand_of stand = record { value = stand.value; up = (if stand.up then 1 else 0) }
+
+-- an item of an order
+abbrev pub item_of : Item → ToldItem
+item_of (Ran r) = record { kind = 1; run = r.0; device = 0; number = 0 }
+item_of (Failed d number) = record { kind = 2; run = 0; device = d.0; number = number }
+item_of (Back d number) = record { kind = 3; run = 0; device = d.0; number = number }

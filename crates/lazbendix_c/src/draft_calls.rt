@@ -1,14 +1,14 @@
-//! Windows of the moment, and devices that others turned.
+//! Windows of the moment, and devices that others turned or that are lost.
 ghost use Rattle.std.specs.Prelude.{◌≡◌, ◌≢◌, ◌↔◌, None, pos};
 ghost use Rattle.home_states.specs.DraftRefusals.{first_against_adding, first_against_beginning};
-ghost use Rattle.home_states.specs.Drafts.{HasAddedRun, HasBegunWindow, HasRestood, first_against_restanding};
+ghost use Rattle.home_states.specs.Drafts.{HasAddedRun, HasBegunWindow, HasLost, HasRestood, first_against_losing, first_against_restanding};
 ghost use Rattle.lazbendix_c.specs.Calls.{Changes, IsClosed, SameHome, Shows};
 ghost use Rattle.lazbendix_c.specs.Numbers.{device_number, followed};
-ghost use Rattle.lazbendix_c.specs.Refusals.{IsNotAdded, IsNotBegun, IsNotRestood};
+ghost use Rattle.lazbendix_c.specs.Refusals.{IsNotAdded, IsNotBegun, IsNotLost, IsNotRestood};
 
 use crate::handles::Handle;
 use crate::numbers::{device_number, followed};
-use crate::statuses::{CLOSED, DONE, draft_status, restanding_status};
+use crate::statuses::{CLOSED, DONE, draft_status, losing_status, restanding_status};
 use home_states::LiveHome;
 use std::alloc::Global;
 
@@ -128,6 +128,35 @@ pub extern "C" fn lazbendix_restand(alloc: Global, h: &mut Handle, device: u32, 
             let status = match state.restand(device_number(device), value) {
                 Ok(()) => DONE,
                 Err(why) => restanding_status(why),
+            };
+            h.put(state);
+            status
+        }
+        None => CLOSED,
+    }
+}
+
+/// Tells the home, between two windows, that the device is lost: the next window begins with it
+/// down, and a probe finds it.
+///
+/// Where the answer is not `DONE` nothing has changed.
+#[unsafe(no_mangle)]
+pub extern "C" fn lazbendix_lose(alloc: Global, h: &mut Handle, device: u32) -> i32
+    ensures done { result ≡ pos 0
+        → Changes (λ s t. HasLost s (device_number device) t) h.old h.new }
+    ensures free { result ≡ pos 0
+        → Shows (λ s. first_against_losing s (device_number device) ≡ None) h.old }
+    ensures refused { result ≢ pos 0 → result ≢ pos 1
+        → Shows (λ s. IsNotLost s (device_number device) result) h.old }
+    ensures same { result ≢ pos 0 → SameHome h.old h.new }
+    ensures closed { IsClosed h.old ↔ result ≡ pos 1 }
+    ensures untouched { result ≡ pos 1 → h.new ≡ h.old }
+{
+    match h.take(alloc) {
+        Some(mut state) => {
+            let status = match state.lose(device_number(device)) {
+                Ok(()) => DONE,
+                Err(why) => losing_status(why),
             };
             h.put(state);
             status

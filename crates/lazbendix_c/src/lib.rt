@@ -6,6 +6,7 @@ mod draft_calls;
 mod handles;
 mod numbers;
 mod open_calls;
+mod query_calls;
 mod read_calls;
 mod statuses;
 mod step_calls;
@@ -15,9 +16,15 @@ mod told_faults;
 mod told_turns;
 mod window_calls;
 
-pub use draft_calls::{lazbendix_add_run, lazbendix_begin_window, lazbendix_restand};
+pub use draft_calls::{
+    lazbendix_add_run, lazbendix_begin_window, lazbendix_lose, lazbendix_restand,
+};
 pub use handles::{Handle, HomeBlock};
 pub use open_calls::{lazbendix_end, lazbendix_open};
+pub use query_calls::{
+    lazbendix_blocked_runs, lazbendix_final_item, lazbendix_out, lazbendix_sealed,
+    lazbendix_version,
+};
 pub use read_calls::{
     lazbendix_counts, lazbendix_device_name, lazbendix_routine_name, lazbendix_run_count,
     lazbendix_stand, lazbendix_value_name,
@@ -31,5 +38,5 @@ pub use text_calls::{
 };
 pub use told_entries::{ToldEntry, ToldMade};
 pub use told_faults::ToldFault;
-pub use told_turns::{ToldCounts, ToldLeft, ToldStand, ToldTurn};
+pub use told_turns::{ToldCounts, ToldItem, ToldLeft, ToldStand, ToldTurn};
 pub use window_calls::{lazbendix_close_window, lazbendix_window};

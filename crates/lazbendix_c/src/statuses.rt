@@ -1,8 +1,11 @@
 //! What a call answers.
 ghost use Rattle.std.specs.Prelude.{◌≡◌, ◌≢◌, pos};
-ghost use Rattle.lazbendix_c.specs.Refusals.{answer_status, closing_status, draft_status, entry_status, opening_status, record_status, restanding_status, standing_status};
+ghost use Rattle.lazbendix_c.specs.Refusals.{answer_status, closing_status, draft_status, entry_status, final_status, lent_status, losing_status, opening_status, record_status, restanding_status, standing_status};
 
-use home_states::{NotAnswered, NotBegun, NotClosed, NotOpened, NotRestood, NotStanding, NotTold};
+use home_states::{
+    NotAnswered, NotBegun, NotClosed, NotFinal, NotLent, NotLost, NotOpened, NotRestood,
+    NotStanding, NotTold,
+};
 use hub_table::NotTaken;
 
 /// The call did what it says.
@@ -21,7 +24,7 @@ pub(crate) const NO_MEMORY: i32 = 5;
 pub(crate) const IN_WINDOW: i32 = 6;
 /// No window is open, or none was begun.
 pub(crate) const NO_WINDOW: i32 = 7;
-/// There is no such window, routine, device or entry.
+/// There is no such window, routine, device, entry or final item.
 pub(crate) const ABSENT: i32 = 8;
 /// More than there may be.
 pub(crate) const TOO_MANY: i32 = 9;
@@ -106,6 +109,40 @@ pub(crate) fn restanding_status(why: NotRestood) -> i32
         NotRestood::InWindow => IN_WINDOW,
         NotRestood::Absent => ABSENT,
         NotRestood::NoValue => NO_VALUE,
+    }
+}
+
+/// Why the home is not told that a device is lost.
+pub(crate) fn losing_status(why: NotLost) -> i32
+    ensures status { result ≡ losing_status why }
+    ensures refused { (result ≢ pos 0) × (result ≢ pos 1) }
+{
+    match why {
+        NotLost::InWindow => IN_WINDOW,
+        NotLost::Absent => ABSENT,
+    }
+}
+
+/// Why it is not told with what a device is out.
+pub(crate) fn lent_status(why: NotLent) -> i32
+    ensures status { result ≡ lent_status why }
+    ensures refused { (result ≢ pos 0) × (result ≢ pos 1) }
+{
+    match why {
+        NotLent::NoWindow => NO_WINDOW,
+        NotLent::Absent => ABSENT,
+        NotLent::IsHome => NOT_OUT,
+    }
+}
+
+/// Why no final item is told.
+pub(crate) fn final_status(why: NotFinal) -> i32
+    ensures status { result ≡ final_status why }
+    ensures refused { (result ≢ pos 0) × (result ≢ pos 1) }
+{
+    match why {
+        NotFinal::NoWindow => NO_WINDOW,
+        NotFinal::Absent => ABSENT,
     }
 }
 

@@ -1,10 +1,11 @@
-//! What a step of a run did, what is left to do, and how a device stands, as C sees it.
+//! What a step of a run did, what is left to do, how a device stands, and an item of an order, as C
+//! sees it.
 ghost use Rattle.std.specs.Prelude.{◌≡◌, ◌≤◌};
-ghost use Rattle.lazbendix_c.specs.Told.{left_of, of_kind, out_turn, stand_of, turn_of, waiting_turn};
+ghost use Rattle.lazbendix_c.specs.Told.{item_of, left_of, of_kind, out_turn, stand_of, turn_of, waiting_turn};
 
 use crate::told_entries::{NO_ENTRY, NOTHING_MADE, ToldEntry, ToldMade, tell_end, tell_made};
 use device_gate::{Slip, Task};
-use home_types::Stand;
+use home_types::{Item, Stand};
 use hub_core::{NotQuiet, Why};
 use hub_table::Taken;
 
@@ -50,6 +51,17 @@ pub struct ToldLeft {
 pub struct ToldStand {
     pub value: u32,
     pub up: u32,
+}
+
+/// An item of an order. A number that its kind does not speak of is 0.
+#[repr(C)]
+#[derive(Clone, Copy, Debug, PartialEq, Eq)]
+pub struct ToldItem {
+    pub kind: u32,
+    pub run: u32,
+    pub device: u32,
+    /// Of the failures, or of the restarts, of the device in the window, from 1.
+    pub number: u32,
 }
 
 /// How many devices, routines and windows a script has.
@@ -184,5 +196,31 @@ pub(crate) fn stand_of(stand: Stand) -> ToldStand
     ToldStand {
         value: stand.value,
         up: if stand.up { 1 } else { 0 },
+    }
+}
+
+/// An item of an order, as C sees it: 1 a run, 2 a failure of a device, 3 a restart.
+pub(crate) fn item_of(item: Item) -> ToldItem
+    ensures { result ≡ item_of item }
+{
+    match item {
+        Item::Ran(run) => ToldItem {
+            kind: 1,
+            run: run.0,
+            device: 0,
+            number: 0,
+        },
+        Item::Failed(device, number) => ToldItem {
+            kind: 2,
+            run: 0,
+            device: u32::from(device.0),
+            number,
+        },
+        Item::Back(device, number) => ToldItem {
+            kind: 3,
+            run: 0,
+            device: u32::from(device.0),
+            number,
+        },
     }
 }

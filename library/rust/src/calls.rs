@@ -88,6 +88,15 @@ pub(crate) struct ToldLeft {
 
 #[repr(C)]
 #[derive(Clone, Copy, Default)]
+pub(crate) struct ToldItem {
+    pub(crate) kind: u32,
+    pub(crate) run: u32,
+    pub(crate) device: u32,
+    pub(crate) number: u32,
+}
+
+#[repr(C)]
+#[derive(Clone, Copy, Default)]
 pub(crate) struct ToldStand {
     pub(crate) value: u32,
     pub(crate) up: u32,
@@ -104,7 +113,7 @@ pub(crate) struct ToldCounts {
 // As large as in C.
 const _: () = assert!(size_of::<Handle>() == 16 && size_of::<ToldFault>() == 40 && size_of::<ToldEntry>() == 56);
 const _: () = assert!(size_of::<ToldMade>() == 176 && size_of::<ToldTurn>() == 272 && size_of::<ToldLeft>() == 8);
-const _: () = assert!(size_of::<ToldStand>() == 8 && size_of::<ToldCounts>() == 24);
+const _: () = assert!(size_of::<ToldStand>() == 8 && size_of::<ToldCounts>() == 24 && size_of::<ToldItem>() == 16);
 
 const fn size_of<T>() -> usize {
     std::mem::size_of::<T>()
@@ -130,6 +139,10 @@ exports! {
     lazbendix_give as give(device: u32, ticket: u64, answer: u32, value: u32, now: u64, made: &mut ToldMade);
     lazbendix_probe as probe(device: u32, turn: &mut ToldTurn);
     lazbendix_blocked as blocked(run: u32, yes: &mut u32);
+    lazbendix_blocked_runs as blocked_runs(runs: &mut u64);
+    lazbendix_out as out(device: u32, turn: &mut ToldTurn);
+    lazbendix_sealed as sealed(count: &mut u32);
+    lazbendix_final_item as final_item(at: u32, item: &mut ToldItem);
     lazbendix_quiet as quiet(left: &mut ToldLeft);
     lazbendix_close_window as close_window();
     lazbendix_record as record(trace: u32, len: &mut usize);
@@ -139,6 +152,7 @@ exports! {
     lazbendix_entry_at as entry_at(at: u64, entry: &mut ToldEntry, maker: &mut u32);
     lazbendix_add_run as add_run(routine: u32, follows: u32, run: &mut u32);
     lazbendix_restand as restand(device: u32, value: u32);
+    lazbendix_lose as lose(device: u32);
     lazbendix_stand as stand(device: u32, stand: &mut ToldStand);
     lazbendix_counts as counts(counts: &mut ToldCounts);
     lazbendix_run_count as run_count(window: u32, count: &mut u64);
@@ -159,6 +173,13 @@ extern "C" {
     fn lazbendix_routine_name(h: *mut Handle, routine: u32, room: *mut u8, room_len: usize, len: *mut usize) -> i32;
     fn lazbendix_value_name(h: *mut Handle, device: u32, value: u32, room: *mut u8, room_len: usize, len: *mut usize)
         -> i32;
+    fn lazbendix_version() -> i32;
+}
+
+/// The number of the version of the library.
+pub(crate) fn version() -> i32 {
+    // SAFETY: it asks for nothing.
+    unsafe { lazbendix_version() }
 }
 
 pub(crate) fn open(h: &mut Handle, script: &[u8], model: u32, scheduler: u32, fault: &mut ToldFault) -> i32 {

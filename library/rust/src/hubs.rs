@@ -1,8 +1,8 @@
 //! A home behind the library's handle.
 #![forbid(unsafe_code)]
 
-use crate::calls::{self, Handle, ToldCounts, ToldEntry, ToldFault, ToldLeft, ToldMade, ToldStand, ToldTurn};
-use crate::told::{done, Answer, Counts, Entry, Go, Left, Made, Mode, Refused, Stand, Status, Turn};
+use crate::calls::{self, Handle, ToldCounts, ToldEntry, ToldFault, ToldItem, ToldLeft, ToldMade, ToldStand, ToldTurn};
+use crate::told::{done, Answer, Counts, Entry, Go, Item, Left, Made, Mode, Refused, Stand, Status, Turn};
 use std::fmt;
 
 const LONGEST_NAME: usize = 32;
@@ -79,6 +79,38 @@ impl Hub {
         let mut yes = 0;
         done(calls::blocked(&mut self.handle, run, &mut yes))?;
         Ok(yes == 1)
+    }
+
+    /// The runs that need not be taken, as [`Hub::is_blocked`] tells it, the run `r` as the bit `r - 1`. [`Status::NoWindow`].
+    pub fn blocked_runs(&mut self) -> Result<u64, Refused> {
+        let mut runs = 0;
+        done(calls::blocked_runs(&mut self.handle, &mut runs))?;
+        Ok(runs)
+    }
+
+    /// With what the device is out, as [`Hub::take`] or [`Hub::probe`] told it.
+    ///
+    /// [`Status::NoWindow`], [`Status::Absent`], [`Status::NotOut`].
+    pub fn out(&mut self, device: u32) -> Result<Go, Refused> {
+        let mut turn = ToldTurn::default();
+        done(calls::out(&mut self.handle, device, &mut turn))?;
+        Ok((&turn).into())
+    }
+
+    /// How many items of the window's order are final: those before the first run that is live, all where none is. They
+    /// stay in their order, whatever comes, and but under the weak model the order of the record begins with them.
+    /// [`Status::NoWindow`].
+    pub fn sealed(&mut self) -> Result<u32, Refused> {
+        let mut count = 0;
+        done(calls::sealed(&mut self.handle, &mut count))?;
+        Ok(count)
+    }
+
+    /// The final item at this place of the order, from 0. [`Status::NoWindow`], [`Status::Absent`] from [`Hub::sealed`] on.
+    pub fn final_item(&mut self, at: u32) -> Result<Item, Refused> {
+        let mut item = ToldItem::default();
+        done(calls::final_item(&mut self.handle, at, &mut item))?;
+        Ok(item.into())
     }
 
     /// What is left to do in the window. [`Status::NoWindow`].
@@ -176,6 +208,14 @@ impl Hub {
         done(calls::restand(&mut self.handle, device, value))
     }
 
+    /// Tells the home, between two windows, that the device is lost: the next window begins with it down, and a probe
+    /// finds it. Its value stays, and so does one that is down.
+    ///
+    /// [`Status::InWindow`], [`Status::Absent`].
+    pub fn lose(&mut self, device: u32) -> Result<(), Refused> {
+        done(calls::lose(&mut self.handle, device))
+    }
+
     // The home and its script.
 
     /// How the device stands between two windows. [`Status::InWindow`], [`Status::Absent`].
@@ -219,4 +259,10 @@ impl Hub {
         done(call(&mut self.handle, &mut room, &mut len))?;
         Ok(String::from_utf8_lossy(&room[..len.min(LONGEST_NAME)]).into_owned())
     }
+}
+
+/// The version of the library, as the three numbers of its file VERSION.
+pub fn version() -> (u32, u32, u32) {
+    let number = calls::version().unsigned_abs();
+    (number / 1_000_000, number / 1000 % 1000, number % 1000)
 }

@@ -32,8 +32,8 @@ mod calls;
 mod hubs;
 mod told;
 
-pub use hubs::Hub;
+pub use hubs::{version, Hub};
 pub use told::{
-    Answer, Cause, Counts, Entry, Fault, FaultKind, Given, Go, Left, Made, Mode, Part, Refused, Spot, Stand, Status, Task,
-    Turn, What, Why,
+    Answer, Cause, Counts, Entry, Fault, FaultKind, Given, Go, Item, Left, Made, Mode, Part, Refused, Spot, Stand, Status,
+    Task, Turn, What, Why,
 };

@@ -1,7 +1,7 @@
 //! What the calls of a hub tell, and what they take.
 #![forbid(unsafe_code)]
 
-use crate::calls::{ToldEntry, ToldFault, ToldMade, ToldTurn};
+use crate::calls::{ToldEntry, ToldFault, ToldItem, ToldMade, ToldTurn};
 use std::error::Error;
 use std::fmt;
 
@@ -16,7 +16,7 @@ pub enum Status {
     InWindow,
     /// No window is open, or none was begun that is still to be opened.
     NoWindow,
-    /// There is no such window, routine, device or entry.
+    /// There is no such window, routine, device, entry or final item.
     Absent,
     /// More runs, rounds of probes, or windows of a home than there may be.
     TooMany,
@@ -478,6 +478,40 @@ pub enum Left {
     Run(u32),
     /// All runs have ended, and this device is out.
     Device(u32),
+}
+
+/// An item of a window's order. Runs count from 1, devices from 0, failures and restarts of a device in the window from 1.
+#[derive(Clone, Copy, Debug, PartialEq, Eq, Hash)]
+pub enum Item {
+    /// The run, done whole.
+    Ran(u32),
+    /// A failure of the device.
+    Failed {
+        /** From 0. */
+        device: u32,
+        /** From 1. */
+        number: u32,
+    },
+    /// A restart of the device.
+    Back {
+        /** From 0. */
+        device: u32,
+        /** From 1. */
+        number: u32,
+    },
+    /// One that this crate does not know.
+    Unknown(u32),
+}
+
+impl From<ToldItem> for Item {
+    fn from(told: ToldItem) -> Item {
+        match told.kind {
+            1 => Item::Ran(told.run),
+            2 => Item::Failed { device: told.device, number: told.number },
+            3 => Item::Back { device: told.device, number: told.number },
+            other => Item::Unknown(other),
+        }
+    }
 }
 
 /// Where a device stands between two windows, and whether it is up.

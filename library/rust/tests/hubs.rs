@@ -1,8 +1,8 @@
 //! What the crate adds to the library: typed statuses, the end of a hub, and its way between threads.
 
 use lazbendix::{
-    Answer, Cause, Counts, Entry, Fault, FaultKind, Go, Hub, Left, Mode, Part, Refused, Spot, Stand, Status, Task, Turn,
-    What, Why,
+    version, Answer, Cause, Counts, Entry, Fault, FaultKind, Go, Hub, Item, Left, Mode, Part, Refused, Spot, Stand, Status,
+    Task, Turn, What, Why,
 };
 use std::sync::{Arc, Mutex};
 use std::thread;
@@ -118,6 +118,88 @@ fn a_window_of_the_moment() {
     assert_eq!(hub.begin_window("2021-04-27T08:10:00", 0), refused(Status::BadTime));
     assert_eq!(hub.add_run(LEAVE, None), refused(Status::NoWindow));
     assert_eq!(hub.restand(HEAT, 31), refused(Status::NoValue));
+}
+
+#[test]
+fn a_device_that_is_lost() {
+    let mut hub = open();
+    assert_eq!(hub.lose(4), refused(Status::Absent));
+    for _ in 0..2 {
+        hub.lose(HEAT).unwrap();
+        assert_eq!(hub.stand(HEAT), Ok(Stand { value: 21, up: false }));
+    }
+    let number = hub.begin_window("2021-04-27T08:10:00", 1).unwrap();
+    assert_eq!(hub.add_run(LEAVE, None), Ok(1));
+    hub.window(number).unwrap();
+    assert_eq!(hub.lose(HEAT), refused(Status::InWindow));
+    let cause = Cause::MustDown { command: 0 };
+    let end = loop {
+        match hub.take(1, 0).unwrap() {
+            Turn::Moved(_) => {}
+            other => break other,
+        }
+    };
+    assert!(matches!(end, Turn::Over(Entry::Ended { run: 1, end: What::Aborted(why) }, _) if why == cause));
+    let go = hub.probe(HEAT).unwrap();
+    assert_eq!(go.task, Task::Restore(21));
+    let made = hub.give(HEAT, go.ticket, Answer::Worked, 0).unwrap();
+    assert_eq!(made.entries(), [Entry::Rose { device: HEAT }]);
+}
+
+#[test]
+fn what_is_asked_of_a_window() {
+    let mut hub = open();
+    assert_eq!(hub.blocked_runs(), refused(Status::NoWindow));
+    assert_eq!(hub.out(HEAT), refused(Status::NoWindow));
+    assert_eq!(hub.sealed(), refused(Status::NoWindow));
+    assert_eq!(hub.final_item(0), refused(Status::NoWindow));
+    let number = hub.begin_window("2021-04-27T08:10:00", 0).unwrap();
+    for _ in 0..2 {
+        hub.add_run(LEAVE, None).unwrap();
+    }
+    hub.window(number).unwrap();
+    let go = loop {
+        if let Turn::Go(go) = hub.take(1, 0).unwrap() {
+            break go;
+        }
+    };
+    assert_eq!(hub.out(HEAT), Ok(go));
+    assert_eq!(hub.out(LAMP), refused(Status::NotOut));
+    assert_eq!(hub.out(4), refused(Status::Absent));
+    while !matches!(hub.take(2, 0), Ok(Turn::Waits(_))) {}
+    assert_eq!(hub.blocked_runs(), Ok(2));
+    assert_eq!((hub.is_blocked(1), hub.is_blocked(2)), (Ok(false), Ok(true)));
+    assert_eq!(hub.sealed(), Ok(0));
+    assert_eq!(hub.final_item(0), refused(Status::Absent));
+    hub.give(HEAT, go.ticket, Answer::Dead, 0).unwrap();
+    assert_eq!(hub.out(HEAT), refused(Status::NotOut));
+    for run in 1..=2 {
+        while !matches!(hub.take(run, 0), Ok(Turn::Over(_, _))) {}
+    }
+    assert_eq!(hub.sealed(), Ok(1));
+    assert_eq!(hub.final_item(0), Ok(Item::Failed { device: HEAT, number: 1 }));
+    assert_eq!(hub.final_item(1), refused(Status::Absent));
+    hub.close_window().unwrap();
+    assert!(hub.record(false).unwrap().contains("\norder fail(heat)\n"));
+    play(&mut hub, 0, SHUT);
+}
+
+#[test]
+fn a_final_run_is_told() {
+    let mut hub = open();
+    hub.window(0).unwrap();
+    while !matches!(hub.take(2, 0), Ok(Turn::Over(_, _))) {
+        if let Ok(go) = hub.out(LAMP) {
+            hub.give(LAMP, go.ticket, Answer::Worked, 0).unwrap();
+        }
+    }
+    assert_eq!((hub.sealed(), hub.final_item(0)), (Ok(1), Ok(Item::Ran(2))));
+}
+
+#[test]
+fn the_version_is_that_of_the_file() {
+    let (first, second, third) = version();
+    assert_eq!(format!("{first}.{second}.{third}"), include_str!("../../../VERSION").trim());
 }
 
 #[test]

@@ -8,8 +8,8 @@ import unittest
 HERE = os.path.dirname(os.path.abspath(__file__))
 sys.path.insert(0, os.path.join(HERE, "..", "..", "..", "python"))
 
-from lazbendix import (Counts, Dead, EntryKind, Found, Go, Hub, Left, Model, Moved, NoRun, Over, Refused, Scheduler,
-                       ScriptRefused, Stand, Status, Task, Waits, Why, Worked, _calls)
+from lazbendix import (Counts, Dead, EntryKind, Found, Go, Hub, Item, ItemKind, Left, Model, Moved, NoRun, Over, Refused,
+                       Scheduler, ScriptRefused, Stand, Status, Task, Waits, Why, Worked, _calls, library_version)
 from lazbendix.told import FaultKind, Part
 
 EXAMPLE = os.path.join(HERE, "..", "..", "..", "examples", "leaving.json")
@@ -50,7 +50,7 @@ class Hubs(unittest.TestCase):
 
     def test_the_structures_are_as_large_as_in_c(self) -> None:
         sizes = {"Handle": 16, "ToldFault": 40, "ToldEntry": 56, "ToldMade": 176, "ToldTurn": 272, "ToldLeft": 8, "ToldStand": 8,
-                 "ToldCounts": 24}
+                 "ToldCounts": 24, "ToldItem": 16}
         for name, size in sizes.items():
             self.assertEqual(ctypes.sizeof(getattr(_calls, name)), size)
 
@@ -113,6 +113,62 @@ class Hubs(unittest.TestCase):
         self.refuses(Status.NO_WINDOW, "add_run", LEAVE)
         self.refuses(Status.NO_VALUE, "restand", HEAT, 31)
 
+    def test_a_device_that_is_lost(self) -> None:
+        self.refuses(Status.ABSENT, "lose", 4)
+        for _ in range(2):
+            self.hub.lose(HEAT)
+            self.assertEqual(self.hub.stand(HEAT), Stand(21, False))
+        number = self.hub.begin_window("2021-04-27T08:10:00", probes=1)
+        self.hub.add_run(LEAVE)
+        self.hub.window(number)
+        self.refuses(Status.IN_WINDOW, "lose", HEAT)
+        while isinstance(turn := self.hub.take(1, 0), Moved):
+            pass
+        assert isinstance(turn, Over)
+        self.assertIs(turn.end.kind, EntryKind.ABORTED)
+        go = self.hub.probe(HEAT)
+        self.assertEqual((go.task, go.value), (Task.RESTORE, 21))
+        self.assertEqual([entry.kind for entry in self.hub.give(HEAT, go.ticket, Worked(), 0)], [EntryKind.ROSE])
+
+    def test_what_is_asked_of_a_window(self) -> None:
+        for call, words in [("blocked_runs", ()), ("out", (HEAT,)), ("sealed", ()), ("final_item", (0,))]:
+            self.refuses(Status.NO_WINDOW, call, *words)
+        self.hub.restand(WINDOW, SHUT)
+        number = self.hub.begin_window("2021-04-27T08:10:00")
+        for _ in range(2):
+            self.hub.add_run(LEAVE)
+        self.hub.window(number)
+        while not isinstance(go := self.hub.take(1, 0), Go):
+            pass
+        self.assertEqual(self.hub.out(HEAT), go)
+        self.refuses(Status.NOT_OUT, "out", LAMP)
+        self.refuses(Status.ABSENT, "out", 4)
+        while not isinstance(self.hub.take(2, 0), Waits):
+            pass
+        self.assertEqual(self.hub.blocked_runs(), 2)
+        self.assertEqual([self.hub.is_blocked(run) for run in (1, 2)], [False, True])
+        self.assertEqual((self.hub.sealed(), list(self.hub.final_items())), (0, []))
+        self.refuses(Status.ABSENT, "final_item", 0)
+        self.hub.give(HEAT, go.ticket, Dead(), 0)
+        self.refuses(Status.NOT_OUT, "out", HEAT)
+        for run in (1, 2):
+            while not isinstance(self.hub.take(run, 0), Over):
+                pass
+        self.assertEqual(list(self.hub.final_items()), [Item(ItemKind.FAILED, 0, HEAT, 1)])
+        self.hub.close_window()
+        self.assertIn("\norder fail(heat)\n", self.hub.record())
+
+    def test_a_final_run_is_told(self) -> None:
+        self.hub.window(0)
+        while not isinstance(turn := self.hub.take(2, 0), Over):
+            if isinstance(turn, Go):
+                self.hub.give(turn.device, turn.ticket, Worked(), 0)
+        self.assertEqual(list(self.hub.final_items()), [Item(ItemKind.RAN, 2, 0, 0)])
+
+    def test_the_version_is_that_of_the_file(self) -> None:
+        with open(os.path.join(HERE, "..", "..", "..", "VERSION"), encoding="utf-8") as file:
+            self.assertEqual(library_version(), file.read().strip())
+
     def test_an_answer_of_an_earlier_window_is_late(self) -> None:
         self.hub.window(0)
         while not isinstance(early := self.hub.take(1, 0), Go):
@@ -133,7 +189,8 @@ class Hubs(unittest.TestCase):
     def test_a_closed_hub(self) -> None:
         self.hub.close()
         self.hub.close()
-        for call, words in [("window", (0,)), ("take", (1, 0)), ("left", ()), ("record", ()), ("counts", ())]:
+        for call, words in [("window", (0,)), ("take", (1, 0)), ("left", ()), ("record", ()), ("counts", ()), ("lose", (0,)),
+                            ("blocked_runs", ()), ("out", (0,)), ("sealed", ()), ("final_item", (0,))]:
             self.refuses(Status.CLOSED, call, *words)
 
     def test_threads_step_one_hub(self) -> None:

@@ -1,0 +1,5 @@
+use Rattle.home_states.proofs.Living.{never_moving}
+use Rattle.home_states.proofs.homes.LiveHome.blocked_runs.Goals as goal
+
+pub unreachable-requires : goal.unreachable-requires
+unreachable-requires c = never_moving _ c.self.invariant.live c.in-Moving.is

@@ -1,0 +1,4 @@
+mod TimeDigits
+mod CallRecords
+mod RecordBytes
+mod CallLists

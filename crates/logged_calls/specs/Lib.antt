@@ -1,0 +1,4 @@
+pub mod Times
+pub mod Calls
+pub mod Records
+pub mod CallBytes
