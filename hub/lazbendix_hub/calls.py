@@ -1,0 +1,150 @@
+"""The one place through which every call of the library goes.
+
+A log of calls is put under the hub here: each call that changed something is handed to `CallLog`
+with its words and what it answered, and `sync` is called before a device is driven and before
+anything is told.
+"""
+from __future__ import annotations
+
+import json
+from typing import Any, Protocol
+
+from lazbendix import (Answer, Entry, Go, Hub, Left, Refused, Stand, Status, Turn, Waits)
+
+
+class CallLog(Protocol):
+    """What is told of the calls that changed something."""
+
+    def called(self, name: str, words: tuple[Any, ...], told: Any) -> None:
+        """A call was made, and answered so."""
+
+    def sync(self) -> None:
+        """What was told so far is on the disk when this returns."""
+
+
+class NoLog:
+    """Keeps nothing: the calls of a window are lost with the process."""
+
+    def called(self, name: str, words: tuple[Any, ...], told: Any) -> None:
+        """Keeps nothing."""
+
+    def sync(self) -> None:
+        """There is nothing to keep."""
+
+
+class Calls:
+    """The calls of a hub, by name. `can_join` says whether a run may join an open window, and
+    `can_lose` whether a device may be told to be down: both are asked of the library itself."""
+
+    def __init__(self, hub: Hub, log: CallLog) -> None:
+        self.hub, self.log = hub, log
+        self.can_join = _can_join()
+        self.can_lose = hasattr(hub, "lose")
+        self.made = 0
+
+    def _call(self, name: str, *words: Any) -> Any:
+        told = getattr(self.hub, name)(*words)
+        self.made += 1
+        if not isinstance(told, Waits):  # it changed nothing but the last moment
+            self.log.called(name, words, told)
+        return told
+
+    # -- What changes something
+
+    def begin_window(self, at: str, probes: int) -> int:
+        """Appends a window without runs; its number."""
+        return int(self._call("begin_window", at, probes))
+
+    def add_run(self, routine: int) -> int | None:
+        """A run of the routine in the window that was begun, or in the open one: its number; none
+        where the window takes no more, or none while it is open."""
+        try:
+            return int(self._call("add_run", routine))
+        except Refused as refused:
+            if refused.status in (Status.NO_WINDOW, Status.TOO_MANY):
+                return None
+            raise
+
+    def window(self, number: int) -> None:
+        """Opens the window."""
+        self._call("window", number)
+
+    def take(self, run: int, now: int) -> Turn:
+        """The run's step at this moment."""
+        turn: Turn = self._call("take", run, now)
+        return turn
+
+    def give(self, go: Go, answer: Answer, now: int) -> tuple[Entry, ...]:
+        """Hands an answer in, by the number of its call. Raises `Refused`: NOT_OUT where no such
+        call is out, DIFFERS where a sense found another value than the home has."""
+        made: tuple[Entry, ...] = self._call("give", go.device, go.ticket, answer, now)
+        return made
+
+    def probe(self, device: int) -> Go | None:
+        """A probe of the device, none where it is out or none is left."""
+        try:
+            go: Go = self._call("probe", device)
+        except Refused as refused:
+            if refused.status is Status.NO_PROBE:
+                return None
+            raise
+        return go
+
+    def close_window(self) -> None:
+        """Closes the window."""
+        self._call("close_window")
+
+    def restand(self, device: int, value: int) -> None:
+        """Tells the home, between two windows, where the device was found."""
+        self._call("restand", device, value)
+
+    def lose(self, device: int) -> bool:
+        """Tells the home, between two windows, that the device is down; no where the library has
+        no such call."""
+        if self.can_lose:
+            self._call("lose", device)
+        return self.can_lose
+
+    # -- What only asks
+
+    def is_blocked(self, run: int) -> bool:
+        """Whether the run need not be taken before another step."""
+        return self.hub.is_blocked(run)
+
+    def left(self) -> Left | None:
+        """What is left to do in the window."""
+        return self.hub.left()
+
+    def stand(self, device: int) -> Stand:
+        """How the device stands between two windows."""
+        return self.hub.stand(device)
+
+    def record(self) -> str:
+        """The text of the window closed last, with its trace."""
+        return self.hub.record(trace=True)
+
+    def head(self) -> str:
+        """The lines above the windows of a record."""
+        return self.hub.head()
+
+    def sync(self) -> None:
+        """What was decided is on the disk when this returns."""
+        self.log.sync()
+
+    def close(self) -> None:
+        """Frees the home."""
+        self.hub.close()
+
+
+def _can_join() -> bool:
+    """Whether the library takes a run on an open window: a small home is asked."""
+    command = {"on": "a", "do": "set", "to": 1, "must": True}
+    script = {"safehome": 1, "devices": [{"name": "a", "low": 0, "high": 1, "start": 0}],
+              "routines": [{"name": "r", "commands": [command]}], "windows": []}
+    with Hub(json.dumps(script)) as hub:
+        hub.window(hub.begin_window("2020-01-01T00:00:00"))
+        try:
+            hub.add_run(0)
+        except Refused:
+            return False
+        return True

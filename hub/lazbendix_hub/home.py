@@ -1,0 +1,606 @@
+"""home.yaml: what is in it, and how it is read; every mistake is told by its line."""
+from __future__ import annotations
+
+import json
+import re
+from dataclasses import dataclass, field
+from typing import Mapping, Union
+
+from croniter import croniter
+
+from lazbendix_hub import kinds
+from lazbendix_hub.kinds import BadWord, Kind
+from lazbendix_hub.yamls import Mistake, Mistakes, Node, Table, read_yaml, shown
+
+NAME = re.compile(r"[a-z][a-z0-9_-]{0,31}")
+MOST_DEVICES, MOST_ROUTINES, MOST_COMMANDS, MOST_STATES = 256, 1024, 64, 256
+LOOPBACK = ("127.0.0.1", "localhost", "::1")
+
+
+@dataclass(frozen=True)
+class BrokerPlace:
+    """Where the broker is, and how one speaks to it."""
+
+    host: str = "127.0.0.1"
+    port: int = 1883
+    user: str = ""
+    password: str = ""
+    ca: str = ""  # a file of certificates: then TLS
+
+
+@dataclass(frozen=True)
+class PagePlace:
+    """Where the page is served. Without a token nobody but this machine reaches it."""
+
+    host: str = "127.0.0.1"
+    port: int = 8099
+    token: str = ""
+
+    @property
+    def is_own(self) -> bool:
+        """Whether it is bound to this machine alone."""
+        return self.host in LOOPBACK
+
+
+@dataclass(frozen=True)
+class Device:
+    """A thing of the house. `limit` is the time in which it has to show a value, `age` that after
+    which a sensor that is silent counts as one that does not answer."""
+
+    name: str
+    label: str
+    maker: str
+    topic: str
+    kind: Kind
+    limit: float
+    age: float
+    is_sleepy: bool
+    relay: str = ""
+
+
+@dataclass(frozen=True)
+class Command:
+    """One step of a routine: to drive a device to a value, or to check that it stands there."""
+
+    device: int
+    value: int
+    is_check: bool
+    is_must: bool
+
+
+@dataclass(frozen=True)
+class TopicTrigger:
+    """A message, not a retained one, with this payload, or with this word in its JSON."""
+
+    topic: str
+    payload: str | None
+    prop: str | None
+
+
+@dataclass(frozen=True)
+class CronTrigger:
+    """A time in five fields of cron."""
+
+    cron: str
+
+
+@dataclass(frozen=True)
+class SunTrigger:
+    """Sunrise or sunset, and seconds after it, or before it where they are negative."""
+
+    is_rise: bool
+    offset: float
+
+
+@dataclass(frozen=True)
+class DeviceTrigger:
+    """A device comes to a value (`is`), or above or below it; or has stood so for `after` seconds,
+    without having left it meanwhile."""
+
+    device: int
+    how: str
+    value: int
+    after: float | None
+
+    def holds(self, value: int) -> bool:
+        """Whether a device at this value is meant."""
+        if self.how == "above":
+            return value > self.value
+        return value < self.value if self.how == "below" else value == self.value
+
+
+@dataclass(frozen=True)
+class RoutineTrigger:
+    """So many seconds after another routine has committed; begun anew by its next trigger."""
+
+    routine: str
+    after: float
+
+
+Trigger = Union[TopicTrigger, CronTrigger, SunTrigger, DeviceTrigger, RoutineTrigger]
+
+
+@dataclass(frozen=True)
+class Routine:
+    """What is done, and what begins it. A trigger that waited for `fresh` seconds is too old."""
+
+    name: str
+    label: str
+    commands: tuple[Command, ...]
+    triggers: tuple[Trigger, ...]
+    fresh: float
+
+    @property
+    def devices(self) -> frozenset[int]:
+        """The devices of its commands."""
+        return frozenset(command.device for command in self.commands)
+
+
+@dataclass(frozen=True)
+class Home:
+    """The whole file. The devices that routines use come first: these are those of the core."""
+
+    broker: BrokerPlace
+    page: PagePlace
+    base: str
+    zigbee2mqtt: str
+    discovery: str  # empty: none
+    place: tuple[float, float] | None
+    gather: float | None
+    devices: tuple[Device, ...]
+    core_count: int
+    routines: tuple[Routine, ...]
+    numbers: Mapping[str, int] = field(default_factory=dict)
+
+    def script(self, starts: Mapping[str, int]) -> bytes:
+        """The core's script, with each device at its start, or at its least value."""
+        core = self.devices[: self.core_count]
+        devices = [each.kind.core(each.name, starts.get(each.name, each.kind.low)) for each in core]
+        routines = [{"name": each.name, "commands": [self._command(it) for it in each.commands]}
+                    for each in self.routines]
+        return json.dumps({"safehome": 1, "devices": devices, "routines": routines,
+                           "windows": []}).encode()
+
+    def _command(self, command: Command) -> dict[str, object]:
+        device = self.devices[command.device]
+        to = device.kind.states[command.value] if device.kind.states else command.value
+        return {"on": device.name, "do": "check" if command.is_check else "set", "to": to,
+                "must": command.is_must}
+
+
+TOP = ("broker", "page", "base", "zigbee2mqtt", "discovery", "place", "limit", "gather", "devices",
+       "routines")
+KINDS = ("switch", "plug", "dimmer", "blinds", "lock", "valve", "climate", "colour-temperature",
+         "colour", "contact", "motion", "thermometer", "number", "choice")
+OTHER_NAMES = {"color": "colour", "color-temperature": "colour-temperature", "light": "dimmer",
+               "cover": "blinds", "onoff": "switch", "socket": "plug"}
+TASMOTA = ("switch", "plug", "valve", "dimmer", "blinds")
+DO = ("set", "check")
+
+
+def read_home(text: str) -> tuple[Home | None, list[Mistake]]:
+    """The home of the text, none where something is wrong, and all that is wrong."""
+    mistakes = Mistakes()
+    tree = read_yaml(text, mistakes)
+    home = _Reader(mistakes).home(tree) if tree is not None else None
+    found = sorted(set(mistakes.found))
+    return (None if found else home), found
+
+
+class _Reader:
+    def __init__(self, mistakes: Mistakes) -> None:
+        self.mistakes = mistakes
+        self.devices: dict[str, Device | None] = {}
+        self.lines: dict[str, int] = {}
+
+    def home(self, tree: Node) -> Home:
+        top = Table(tree, "the file", self.mistakes)
+        broker = self.broker(top.get("broker"))
+        page = self.page(top.get("page"))
+        base = self.topic(top, "base", "lazbendix")
+        zigbee = self.topic(top, "zigbee2mqtt", "zigbee2mqtt")
+        discovery = top.get("discovery")
+        prefix = "homeassistant"
+        if discovery is not None:
+            prefix = "" if discovery.raw in ("off", "no", "false") else \
+                self.topic(top, "discovery", prefix)
+        place = self.place(top.get("place"))
+        limit = top.seconds("limit", 5.0, 600) or 5.0
+        gather = top.number("gather", -1, 0, 1)
+        listed = top.get("devices", True)
+        if listed is not None:
+            self.read_devices(listed, limit)
+        routines, order = self.read_routines(top.get("routines", True), place)
+        top.end()
+        return self.arrange(Home(broker, page, base, zigbee, prefix, place,
+                                 None if gather < 0 else gather, (), 0, ()), routines, order)
+
+    def arrange(self, home: Home, routines: list[Routine], order: list[str]) -> Home:
+        """The home with the devices that routines use in front."""
+        used = {order[number] for routine in routines for number in routine.devices}
+        kept = [name for name in order if name in used] + [each for each in order
+                                                           if each not in used]
+        if len(used) > MOST_DEVICES:
+            self.mistakes.add(1, f"routines use {len(used)} devices, and may use {MOST_DEVICES}")
+        numbers = {name: at for at, name in enumerate(kept)}
+        at = {old: numbers[name] for old, name in enumerate(order)}
+        arranged = []
+        for routine in routines:
+            commands = tuple(Command(at[it.device], it.value, it.is_check, it.is_must)
+                             for it in routine.commands)
+            triggers = tuple(DeviceTrigger(at[it.device], it.how, it.value, it.after)
+                             if isinstance(it, DeviceTrigger) else it for it in routine.triggers)
+            arranged.append(Routine(routine.name, routine.label, commands, triggers,
+                                    routine.fresh))
+        devices = tuple(device for name in kept if (device := self.devices[name]) is not None)
+        return Home(home.broker, home.page, home.base, home.zigbee2mqtt, home.discovery,
+                    home.place, home.gather, devices, len(used), tuple(arranged), numbers)
+
+    def topic(self, table: Table, key: str, default: str) -> str:
+        text = table.text(key, default)
+        if any(each in text for each in "+#\0") or text.startswith(("/", "$")) \
+                or text.endswith("/"):
+            node = table.rows[key]
+            table.wrong(node, key, "a topic without `+`, `#`, or a slash at its ends")
+        return text
+
+    def secret(self, table: Table, key: str) -> str:
+        """A text, or the first line of the file that `KEY_file` names."""
+        text, path = table.text(key), table.text(f"{key}_file")
+        if not path:
+            return text
+        try:
+            with open(path, encoding="utf-8") as file:
+                return file.readline().strip()
+        except (OSError, UnicodeDecodeError) as error:
+            why = error.strerror if isinstance(error, OSError) else "is no text"
+            self.mistakes.add(table.rows[f"{key}_file"].line, f"{shown(path)}: {why}")
+            return text
+
+    def broker(self, node: Node | None) -> BrokerPlace:
+        if node is None:
+            return BrokerPlace()
+        table = Table(node, "`broker`", self.mistakes)
+        place = BrokerPlace(table.text("host", "127.0.0.1"),
+                            int(table.number("port", 1883, 1, 65535)), table.text("user"),
+                            self.secret(table, "password"), table.text("ca"))
+        table.end()
+        return place
+
+    def page(self, node: Node | None) -> PagePlace:
+        if node is None:
+            return PagePlace()
+        table = Table(node, "`page`", self.mistakes)
+        page = PagePlace(table.text("host", "127.0.0.1"),
+                         int(table.number("port", 8099, 0, 65535)), self.secret(table, "token"))
+        if not page.is_own and len(page.token) < 16:
+            self.mistakes.add(node.line, "a page that others reach wants a `token` of at least 16 "
+                                         "characters, or a `token_file`")
+        table.end()
+        return page
+
+    def place(self, node: Node | None) -> tuple[float, float] | None:
+        if node is None:
+            return None
+        table = Table(node, "`place`", self.mistakes)
+        for key in ("latitude", "longitude"):
+            table.get(key, True)
+        there = table.number("latitude", 0, -90, 90), table.number("longitude", 0, -180, 180)
+        table.end()
+        return there
+
+    def name(self, name: str, line: int, what: str) -> None:
+        if not NAME.fullmatch(name):
+            self.mistakes.add(line, f"`{shown(name)}` is no name of a {what}: it begins with a "
+                                    "letter, has at most 32 of a-z, 0-9, _ and -; any text may "
+                                    "stand in its `label`")
+
+    # -- Devices
+
+    def read_devices(self, node: Node, limit: float) -> None:
+        table = Table(node, "`devices`", self.mistakes)
+        topics: dict[tuple[str, str, str], str] = {}
+        if table.node.table is not None and not table.rows:
+            self.mistakes.add(node.line, "there is no device")
+        for name, row in table.rows.items():
+            self.lines[name] = node.keys[name]
+            self.name(name, node.keys[name], "device")
+            before = len(self.mistakes.found)
+            device = self.device(name, row, limit)
+            self.devices[name] = device if len(self.mistakes.found) == before else None
+            if device is not None:
+                prop = next(iter(device.kind.asked()))
+                key = (device.maker, device.topic, f"{device.relay}{prop}")
+                if key in topics:
+                    self.mistakes.add(node.keys[name], f"`{name}` is the same thing as "
+                                                       f"`{topics[key]}`: topic and property")
+                topics[key] = name
+
+    def device(self, name: str, node: Node, limit: float) -> Device | None:
+        table = Table(node, f"device `{shown(name)}`", self.mistakes)
+        word = table.text("kind", is_wanted=True)
+        kind_word = OTHER_NAMES.get(word, word)
+        maker = table.text("maker", "zigbee2mqtt")
+        topic = self.topic(table, "topic", name)
+        label = table.text("label", name)
+        if maker not in ("zigbee2mqtt", "tasmota"):
+            self.mistakes.unknown(table.rows["maker"].line, "maker", maker,
+                                  ("zigbee2mqtt", "tasmota"))
+        relay = ""
+        if maker == "tasmota":
+            relay = str(int(table.number("relay", 0, 0, 32)) or "")
+            if kind_word in KINDS and kind_word not in TASMOTA:
+                self.mistakes.add(node.line, f"over Tasmota a device is one of "
+                                             f"{', '.join(TASMOTA)}, not {kind_word}")
+        if word and kind_word not in KINDS:
+            self.mistakes.unknown(table.rows["kind"].line, "kind", word, KINDS)
+        kind = self.kind(kind_word, table, maker, relay) if kind_word in KINDS else None
+        is_sleepy = table.flag("sleepy", kind is not None and kind.is_sensor)
+        own = table.seconds("limit", (kind.limit if kind else None) or limit, 3600)
+        age = table.seconds("age", 86400.0, 30 * 86400)
+        if kind is not None:
+            table.end()
+        if kind is None or own is None or age is None:
+            return None
+        return Device(name, label, maker, topic, kind, own, age, is_sleepy, relay)
+
+    def kind(self, word: str, table: Table, maker: str, relay: str) -> Kind | None:
+        power = f"POWER{relay}" if maker == "tasmota" else table.text("property", "state") \
+            if word in ("switch", "plug", "valve", "lock") else "state"
+        if word in ("switch", "plug"):
+            return kinds.Named(power, kinds.SWITCHES)
+        if word == "valve":
+            return kinds.Named(power, {"shut": ["OFF", "CLOSE"], "open": ["ON", "OPEN"]},
+                               {"off": "shut", "on": "open", "closed": "shut"})
+        if word == "lock":
+            return kinds.Named(power, {"unlocked": ["UNLOCK", "UNLOCKED"],
+                                       "locked": ["LOCK", "LOCKED"]})
+        if word == "dimmer" and maker == "tasmota":
+            return kinds.Dimmer(table.number("tolerance", 1, 0, 20), "Dimmer", power, 100, False)
+        if word == "dimmer":
+            return kinds.Dimmer(table.number("tolerance", 1, 0, 50))
+        if word == "contact":
+            return kinds.Named(table.text("property", "contact"),
+                               {"open": [False], "shut": [True]}, {"closed": "shut"}, True)
+        if word == "motion":
+            return kinds.Named(table.text("property", "occupancy"),
+                               {"clear": [False], "motion": [True]}, {"none": "clear"}, True)
+        if word == "choice":
+            return self.choice(table)
+        if word == "colour":
+            return self.palette(table)
+        return self.steps(word, table, maker)
+
+    def steps(self, word: str, table: Table, maker: str) -> Kind | None:
+        shutter = "ShutterPosition1" if maker == "tasmota" else "position"
+        given: dict[str, tuple[str, float, float, float, float]] = {
+            "blinds": (shutter, 0, 100, 1, 2),
+            "climate": ("occupied_heating_setpoint", 5, 30, 0.5, 0),
+            "colour-temperature": ("color_temp", 153, 500, 1, 3),
+            "thermometer": ("temperature", -40, 80, 0.1, 0),
+            "number": ("", 0, 100, 1, 0)}
+        prop, low, high, step, tolerance = given[word]
+        prop = table.text("property", prop, word == "number")
+        low = table.number("low", low, -1e6, 1e6)
+        high = table.number("high", high, -1e6, 1e6)
+        step = table.number("step", step, 0.001, 1e6)
+        tolerance = table.number("tolerance", tolerance, 0, 1e6)
+        if not low < high or (high - low) / step > 1e9 \
+                or abs((high - low) / step - round((high - low) / step)) > 1e-6:
+            self.mistakes.add(table.node.line, f"{table.what}: from {low:g} to {high:g} there are "
+                                               f"no whole steps of {step:g}")
+            return None
+        is_sensor = word == "thermometer" or (word == "number" and table.flag("sensor"))
+        words = {"open": high, "shut": low, "closed": low} if word == "blinds" else {}
+        return kinds.Steps(prop, low, high, step, tolerance, words, is_sensor,
+                           40.0 if word == "blinds" else None)
+
+    def choice(self, table: Table) -> Kind | None:
+        prop, is_sensor = table.text("property", is_wanted=True), table.flag("sensor")
+        node = table.get("values", True)
+        if node is None:
+            return None
+        rows = Table(node, f"`values` of {table.what}", self.mistakes)
+        words = {"true": True, "false": False}
+        states: dict[str, list[object]] = {}
+        for name, row in rows.rows.items():
+            self.name(name, node.keys[name], "value")
+            if row.raw is None:
+                self.mistakes.add(row.line, f"`{name}` is to be a word, and is {row.what}")
+                continue
+            number = row.number
+            plain: object = row.raw if row.is_quoted else words.get(row.raw, row.raw)
+            if number is not None:
+                plain = int(number) if number == int(number) else number
+            states[name] = [plain]
+        return kinds.Named(prop, states, None, is_sensor) if self.are_states(states, node) else None
+
+    def palette(self, table: Table) -> Kind | None:
+        node = table.get("values")
+        if node is None:
+            return kinds.Palette(kinds.COLOURS)
+        rows = Table(node, f"`values` of {table.what}", self.mistakes)
+        points: dict[str, tuple[float, float]] = {}
+        for name, row in rows.rows.items():
+            self.name(name, node.keys[name], "value")
+            point = [each.number for each in row.items or []]
+            if len(point) != 2 or any(each is None or not 0 <= each <= 1 for each in point):
+                self.mistakes.add(row.line, f"`{name}` is to be a point of colour as [0.46, 0.41]")
+                continue
+            points[name] = (point[0] or 0.0, point[1] or 0.0)
+        return kinds.Palette(points) if self.are_states(points, node) else None
+
+    def are_states(self, states: Mapping[str, object], node: Node) -> bool:
+        if not 2 <= len(states) <= MOST_STATES:
+            self.mistakes.add(node.line, f"there are {len(states)} values, and have to be "
+                                         f"2 to {MOST_STATES}")
+            return False
+        return True
+
+    # -- Routines
+
+    def read_routines(self, node: Node | None, place: tuple[float, float] | None
+                      ) -> tuple[list[Routine], list[str]]:
+        order = list(self.devices)
+        routines: list[Routine] = []
+        if node is None:
+            return routines, order
+        table = Table(node, "`routines`", self.mistakes)
+        if len(table.rows) > MOST_ROUTINES:
+            self.mistakes.add(node.line, f"there are {len(table.rows)} routines, and may be "
+                                         f"{MOST_ROUTINES}")
+        if node.table is not None and not table.rows:
+            self.mistakes.add(node.line, "there is no routine")
+        for name, row in table.rows.items():
+            self.name(name, node.keys[name], "routine")
+            own = Table(row, f"routine `{shown(name)}`", self.mistakes)
+            label, fresh = own.text("label", name), own.seconds("fresh", 600.0)
+            commands = self.commands(own, order)
+            triggers = self.triggers(own, order, list(table.rows), place)
+            own.end()
+            routines.append(Routine(name, label, tuple(commands), tuple(triggers), fresh or 600.0))
+        return routines, order
+
+    def commands(self, own: Table, order: list[str]) -> list[Command]:
+        node = own.get("do", True)
+        found: list[Command] = []
+        if node is None:
+            return found
+        if not node.items or len(node.items) > MOST_COMMANDS:
+            own.wrong(node, "do", f"a list of 1 to {MOST_COMMANDS} commands")
+            return found
+        for item in node.items:
+            command = self.command(item, order)
+            if command is not None:
+                found.append(command)
+        return found
+
+    def command(self, item: Node, order: list[str]) -> Command | None:
+        table = Table(item, "a command", self.mistakes)
+        if item.table is None:
+            return None
+        jobs = [job for job in DO if table.has(job)]
+        if len(jobs) != 1:
+            for job in DO:
+                table.get(job)
+            for key in ("to", "optional"):
+                table.get(key)
+            self.mistakes.add(item.line, "a command has one of `set: DEVICE` and `check: DEVICE`")
+            table.end()
+            return None
+        name = table.text(jobs[0])
+        device = self.known(table, jobs[0], name)
+        value = self.value(table, "to", device)
+        is_must = not table.flag("optional")
+        table.end()
+        if device is None:
+            return None
+        if jobs[0] == "set" and device.kind.is_sensor:
+            self.mistakes.add(item.line, f"`{name}` only tells, and is never set")
+        return Command(order.index(name), value or 0, jobs[0] == "check", is_must)
+
+    def known(self, table: Table, key: str, name: str) -> Device | None:
+        if name and name not in self.devices:
+            self.mistakes.unknown(table.rows[key].line, "device", name, self.devices)
+        return self.devices.get(name)
+
+    def value(self, table: Table, key: str, device: Device | None, is_wanted: bool = True
+              ) -> int | None:
+        node = table.get(key, is_wanted)
+        if node is None or device is None:
+            return None
+        try:
+            return device.kind.of_word(node.raw or "")
+        except BadWord as bad:
+            self.mistakes.add(node.line, f"`{device.name}` has no value {shown(node.what)}: "
+                                         f"it has {bad}")
+            return None
+
+    # -- Triggers
+
+    def triggers(self, own: Table, order: list[str], routines: list[str],
+                 place: tuple[float, float] | None) -> list[Trigger]:
+        node = own.get("when")
+        if node is None:
+            return []
+        if node.items is None:
+            own.wrong(node, "when", "a list of triggers")
+            return []
+        found = [self.trigger(item, order, routines, place) for item in node.items]
+        return [each for each in found if each is not None]
+
+    def trigger(self, item: Node, order: list[str], routines: list[str],
+                place: tuple[float, float] | None) -> Trigger | None:
+        table = Table(item, "a trigger", self.mistakes)
+        if item.table is None:
+            return None
+        forms = {"topic": self.by_topic, "cron": self.by_cron, "sun": self.by_sun,
+                 "device": self.by_device, "routine": self.by_routine}
+        named = [form for form in forms if table.has(form)]
+        if len(named) != 1:
+            self.mistakes.add(item.line, f"a trigger has one of {', '.join(forms)}")
+            return None
+        if named[0] == "sun" and place is None:
+            self.mistakes.add(item.line, "sunrise and sunset want `place: {latitude: .., "
+                                         "longitude: ..}`")
+        self.order, self.names = order, routines
+        found = forms[named[0]](table)
+        table.end()
+        return found
+
+    def by_topic(self, table: Table) -> Trigger:
+        topic = self.topic(table, "topic", "")
+        payload, prop = table.text("payload"), table.text("property")
+        return TopicTrigger(topic, payload or None, prop or None)
+
+    def by_cron(self, table: Table) -> Trigger | None:
+        cron = table.text("cron")
+        if cron and (len(cron.split()) != 5 or not croniter.is_valid(cron)):
+            table.wrong(table.rows["cron"], "cron", "a time of five fields as `30 6 * * 1-5`")
+        return CronTrigger(cron)
+
+    def by_sun(self, table: Table) -> Trigger | None:
+        sun = table.text("sun")
+        if sun and sun not in ("sunrise", "sunset"):
+            table.wrong(table.rows["sun"], "sun", "sunrise or sunset")
+        node = table.get("offset")
+        offset = seconds_signed(node.raw or "") if node is not None else 0.0
+        if node is not None and (offset is None or abs(offset) > 6 * 3600):
+            table.wrong(node, "offset", "a time as `-30m`, at most six hours")
+        return SunTrigger(sun == "sunrise", offset or 0.0)
+
+    def by_device(self, table: Table) -> Trigger | None:
+        device = self.known(table, "device", table.text("device"))
+        after = table.seconds("after", None, 7 * 86400)
+        hows = [how for how in ("to", "above", "below") if table.has(how)]
+        for how in ("to", "above", "below"):
+            if how not in hows:
+                table.get(how)
+        if len(hows) != 1:
+            self.mistakes.add(table.node.line, "a trigger of a device has one of `to`, `above` and "
+                                               "`below`")
+            return None
+        value = self.value(table, hows[0], device)
+        if device is None:
+            return None
+        if hows[0] != "to" and device.kind.states:
+            self.mistakes.add(table.node.line, f"`{device.name}` has named values: it comes `to` "
+                                               "one, and is never above or below it")
+        return DeviceTrigger(self.order.index(device.name), hows[0], value or 0, after)
+
+    def by_routine(self, table: Table) -> Trigger | None:
+        name = table.text("routine")
+        if name and name not in self.names:
+            self.mistakes.unknown(table.rows["routine"].line, "routine", name, self.names)
+        if not table.has("after"):
+            self.mistakes.add(table.node.line, "a trigger by a routine has `after`, a time")
+        return RoutineTrigger(name, table.seconds("after", 1.0, 7 * 86400) or 1.0)
+
+
+def seconds_signed(text: str) -> float | None:
+    """The seconds of a time that may be negative."""
+    from lazbendix_hub.yamls import seconds_of
+
+    text = text.strip()
+    found = seconds_of(text.lstrip("+-"))
+    return -found if found is not None and text.startswith("-") else found

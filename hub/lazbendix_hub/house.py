@@ -1,0 +1,186 @@
+"""What is made of one home.yaml: drivers, core, triggers, and what is told of them; it is made anew
+where the file is reloaded."""
+from __future__ import annotations
+
+import asyncio
+import logging
+from functools import partial
+from typing import Callable, Sequence
+
+from lazbendix import Hub, ScriptRefused
+
+from lazbendix_hub.broker import Broker, Link
+from lazbendix_hub.calls import CallLog, Calls, NoLog
+from lazbendix_hub.drivers import MqttDriver, make_driver
+from lazbendix_hub.home import Home
+from lazbendix_hub.kinds import BadWord
+from lazbendix_hub.ledger import Accepted, Ledger, Records
+from lazbendix_hub.live import LiveHub, Watcher
+from lazbendix_hub.triggers import Triggers
+
+LOG = logging.getLogger("lazbendix.house")
+SETTLING = 0.6  # s: so long the devices have at the start to show themselves
+BACKWARDS = 10.0  # s: the longest time for taking back what a killed hub left
+
+
+class House:
+    """A home that lives: `open` begins it, `close` ends it."""
+
+    calls_of: Callable[[Hub, CallLog], Calls] = Calls
+
+    def __init__(self, home: Home, broker: Broker, ledger: Ledger, records: Records,
+                 log: CallLog | None = None) -> None:
+        self.home, self.broker, self.ledger = home, broker, ledger
+        self.records, self.log = records, log or NoLog()
+        self.links = {"zigbee2mqtt": Link(broker), "tasmota": Link(broker)}
+        self.links["zigbee2mqtt"].bridge(f"{home.zigbee2mqtt}/bridge/state")
+        self.drivers = [make_driver(device, broker, self.links, home.zigbee2mqtt)
+                        for device in home.devices]
+        self.live: LiveHub
+        self.triggers: Triggers
+        self.task: asyncio.Task[None] | None = None
+        self.down: set[int] = set()  # of a former house
+
+    def inherit(self, former: House) -> None:
+        """Takes over what a former house has seen of the devices that are the same here, and which
+        of them were down."""
+        for number, device in enumerate(self.home.devices):
+            at = former.home.numbers.get(device.name)
+            if at is None:
+                continue
+            other, driver = former.home.devices[at], self.drivers[number]
+            if (other.maker, other.topic, other.relay) == (device.maker, device.topic,
+                                                           device.relay):
+                driver.is_away = former.drivers[at].is_away
+                if other.kind.core("", 0) == device.kind.core("", 0):
+                    driver.value, driver.seen_at = former.drivers[at].value, \
+                        former.drivers[at].seen_at
+                    if at in former.live.down:
+                        self.down.add(number)
+
+    async def open(self, waiting: Sequence[Accepted], half_done: Sequence[str],
+                   watchers: Sequence[Watcher] = ()) -> None:
+        """Looks where the devices are, takes back what a killed hub left half done, opens the home
+        there, and begins the triggers that wait."""
+        kept = self._kept()
+        await self._settle(kept)
+        starts = await self._starts(kept, half_done)
+        script = self.home.script(starts)
+        hub = Hub(script)
+        calls = self.calls_of(hub, self.log)
+        self.records.begin(script, calls.head())
+        for number in range(self.home.core_count):
+            driver = self.drivers[number]
+            if driver.is_away or (driver.value is None and driver.link.is_up) \
+                    or (number in self.down and not driver.is_confirmed):
+                if calls.lose(number):
+                    self.records.lost(self.home.devices[number].name)
+        self.live = LiveHub(self.home, list(self.drivers), calls, self.ledger, self.records)
+        self.ledger.closed({device.name: self._word(number, starts[device.name]) for number, device
+                            in enumerate(self.home.devices[:self.home.core_count])
+                            if device.name in starts})
+        self.live.watchers += watchers
+        self._wire()
+        self.triggers = Triggers(self.home, self.broker, self.drivers, self.live)
+        self.live.watchers.append(self.triggers)
+        numbers = {routine.name: at for at, routine in enumerate(self.home.routines)}
+        for each in waiting:
+            if each.routine in numbers:
+                self.live.begin_again(each, numbers[each.routine])
+            else:
+                self.ledger.ended([each.number])
+        self.task = asyncio.get_running_loop().create_task(self.live.live())
+
+    def _word(self, number: int, value: int) -> str:
+        kind = self.home.devices[number].kind
+        return kind.states[value] if kind.states else str(value)
+
+    def _kept(self) -> dict[str, int]:
+        """Where the devices stood when the last window was closed, as far as they are the same."""
+        words, found = self.ledger.stands, {}
+        for device in self.home.devices[: self.home.core_count]:
+            word = words.get(device.name, "")
+            if device.kind.states:
+                if word in device.kind.states:
+                    found[device.name] = device.kind.states.index(word)
+            elif word.isascii() and word.isdigit() and len(word) < 12 \
+                    and int(word) <= device.kind.high:
+                found[device.name] = int(word)
+        return found
+
+    async def _settle(self, kept: dict[str, int]) -> None:
+        """Waits for the broker, and asks each device where it is."""
+        await self.broker.up.wait()
+        loop = asyncio.get_running_loop()
+        for driver in self.drivers:
+            driver.ask()
+        end = loop.time() + SETTLING
+        while loop.time() < end and not all(driver.is_confirmed for driver in self.drivers):
+            await asyncio.sleep(0.02)
+
+    async def _starts(self, kept: dict[str, int], half_done: Sequence[str]) -> dict[str, int]:
+        """Where each device is taken to stand: where it was seen, or else where it stood; but for
+        those of a window that was open when a hub was killed: these are driven back."""
+        starts, back = dict(kept), []
+        for device, driver in zip(self.home.devices[: self.home.core_count], self.drivers):
+            before = kept.get(device.name)
+            if driver.value is None:
+                continue
+            is_other = before is not None and not driver.kind.is_near(driver.value, before)
+            if before is not None and is_other and device.name in half_done:
+                back.append((device.name, driver, before))
+            elif before is None or is_other:
+                starts[device.name] = driver.value
+        if back:
+            LOG.warning("a hub was killed: %s are driven back",
+                        ", ".join(name for name, _, _ in back))
+            await asyncio.gather(*(self._drive_back(name, driver, value, starts)
+                                   for name, driver, value in back))
+        return starts
+
+    async def _drive_back(self, name: str, driver: MqttDriver, value: int, starts: dict[str, int]
+                          ) -> None:
+        try:
+            has_worked = await asyncio.wait_for(driver.drive(value), min(driver.limit, BACKWARDS))
+        except asyncio.TimeoutError:
+            has_worked = False
+        if not has_worked and driver.value is not None:
+            LOG.error("%s could not be driven back, and stays where it is", name)
+            starts[name] = driver.value
+
+    def _wire(self) -> None:
+        """Has the hub hear what the devices show of themselves."""
+        live = self.live
+        for link in self.links.values():
+            link.on_up.append(live.linked)
+        for number, driver in enumerate(self.drivers):
+            driver.on_shown.append(partial(live.show, number))
+            driver.on_value.append(lambda value, before: live.seen())
+            driver.on_away.append(partial(self._went, number))
+
+    def _went(self, number: int, is_away: bool) -> None:
+        self.live.seen()
+        if not is_away:
+            self.live.back(number)
+
+    async def close(self) -> None:
+        """Ends what lives here: the hub has stopped, or is paused."""
+        self.triggers.end()
+        if self.task is not None:
+            self.task.cancel()
+            await asyncio.gather(self.task, return_exceptions=True)
+        for link in self.links.values():
+            link.end()
+        self.broker.forget()
+        self.records.end()
+        self.live.calls.close()
+
+
+def refusal(home: Home) -> str:
+    """Why the core refuses the script of the home, empty where it takes it. It should take each
+    home that was read without a mistake."""
+    try:
+        with Hub(home.script({})):
+            return ""
+    except ScriptRefused as refused:
+        return str(refused)

@@ -1,0 +1,93 @@
+"""A home.yaml of what is announced."""
+import asyncio
+import json
+import random
+import tempfile
+import unittest
+
+from lazbendix_hub.broker import Broker
+from lazbendix_hub.home import BrokerPlace, read_home
+from lazbendix_hub.importing import imported, listened
+from lazbendix_hub.mosquitto import Mosquitto
+
+
+def thing(name: str, *exposes: object) -> dict[str, object]:
+    """A device as bridge/devices has it."""
+    return {"friendly_name": name, "type": "Router", "definition": {"exposes": list(exposes)}}
+
+
+STATE = {"name": "state", "property": "state"}
+ZIGBEE = [
+    {"friendly_name": "Coordinator", "type": "Coordinator", "definition": None},
+    thing("Hall/Lamp", {"type": "light", "features": [
+        STATE, {"name": "brightness"}, {"name": "color_temp", "value_min": 150, "value_max": 454},
+        {"name": "color_xy", "property": "color"}]}),
+    thing("0x00158d", {"type": "binary", "name": "contact"}, {"type": "numeric", "name": "battery"},
+          {"type": "numeric", "name": "temperature"}),
+    thing("Wall", {"type": "switch", "endpoint": "l1",
+                   "features": [{"name": "state", "property": "state_l1"}]},
+          {"type": "switch", "endpoint": "l2",
+           "features": [{"name": "state", "property": "state_l2"}]}),
+    thing("Blinds", {"type": "cover", "features": [{"name": "position"}]}),
+    thing("Bath", {"type": "climate", "features": [
+        {"name": "current_heating_setpoint", "value_min": 5, "value_max": 35, "value_step": 0.5}]}),
+    thing("Door", {"type": "lock", "features": [STATE]}),
+    thing('Odd "name" <b>/#', {"type": "lock"}),
+]
+TASMOTA: list[dict[str, object]] = [
+    {"t": "pump", "fn": ["Garden pump", None], "rl": [1, 0]},
+    {"t": "strip", "fn": ["Strip"], "rl": [1, 1, 2], "lt_st": 1}]
+
+
+class Imports(unittest.IsolatedAsyncioTestCase):
+    async def test_what_is_announced(self) -> None:
+        with tempfile.TemporaryDirectory() as folder:
+            mosquitto = Mosquitto(folder)
+            mosquitto.start()
+            seer = Broker("bridge", "")
+            seer.connect("127.0.0.1", mosquitto.port)
+            await seer.up.wait()
+            seer.publish("zigbee2mqtt/bridge/devices", json.dumps(ZIGBEE), True)
+            for told in TASMOTA:
+                seer.publish(f"tasmota/discovery/{told['t']}/config", json.dumps(told), True)
+            await asyncio.sleep(0.2)
+            place = BrokerPlace(port=mosquitto.port)
+            found = await listened(place, "zigbee2mqtt", 0.5)
+            seer.close()
+            mosquitto.stop()
+        assert found is not None
+        text = imported(place, "zigbee2mqtt", *found)
+        home, mistakes = read_home(text)
+        assert home is not None, (text, mistakes)
+        names = {device.name: device for device in home.devices}
+        self.assertEqual(sorted(names), [
+            "bath", "blinds", "d_0x00158d_contact", "d_0x00158d_temperature", "door",
+            "garden_pump", "hall_lamp", "hall_lamp_colour", "hall_lamp_white", "strip_1", "strip_2",
+            "strip_3", "wall_l1", "wall_l2"])
+        self.assertEqual(names["wall_l2"].kind.payload(1), {"state_l2": "ON"})
+        self.assertEqual(names["strip_2"].kind.payload(1), {"POWER2": "ON"})
+        self.assertEqual(names["bath"].kind.of_word("35"), 60)
+        self.assertIn("  # `topic` of device `odd_name_b`", text)
+
+    def test_any_announcement(self) -> None:
+        draw = random.Random(3)
+        parts: list[object] = [None, 1, "x", [], {}, True, 1e300, "state", [1], {"name": []}]
+
+        def spoil(value: object) -> object:
+            if draw.random() < 0.05:
+                return draw.choice(parts)
+            if isinstance(value, dict):
+                return {key: spoil(each) for key, each in value.items()}
+            return [spoil(each) for each in value] if isinstance(value, list) else value
+        for _ in range(40):
+            zigbee, tasmota = spoil(ZIGBEE), spoil(TASMOTA)
+            text = imported(BrokerPlace(), "zigbee2mqtt",
+                            zigbee if isinstance(zigbee, list) else [],
+                            tasmota if isinstance(tasmota, list) else [])
+            _, mistakes = read_home(text.replace("DEVICE", "none"))
+            self.assertTrue(all("none" in each.text or "no device" in each.text
+                                or "same thing" in each.text for each in mistakes), mistakes)
+
+
+if __name__ == "__main__":
+    unittest.main()
