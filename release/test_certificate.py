@@ -1,0 +1,181 @@
+#!/usr/bin/env python3
+"""Shows what is refused: forged and partial logs of the gate, altered certificates and sources.
+
+    python3 release/test_certificate.py
+"""
+import os
+import subprocess
+import sys
+import tempfile
+import unittest
+
+HERE = os.path.dirname(os.path.realpath(__file__))
+ROOT = os.path.dirname(HERE)
+sys.path.insert(0, HERE)
+
+import certificate  # noqa: E402
+from certificate import Refused  # noqa: E402
+
+LOGIC = "dac8208d650f15bf" + "0" * 48
+OK = f"rt: ok; handles allowed: none; {certificate.ANEW}"
+VERDICT = "logic=proved functions=1 sum=dac8208d650f15bf native=nat"
+
+
+def log_of(
+    crates: list[str], verdict: str = VERDICT, ok: str = OK, last: str = "9 passed, 0 failed"
+) -> str:
+    """A log as the gate writes it, of crates of one function each."""
+    parts = [f"== {it}\nfn {it}::call: proved\n{verdict}\nrt: {it} proved\n" for it in crates]
+    return "".join(parts) + f"{ok}\n{last}\n"
+
+
+class Logs(unittest.TestCase):
+    """What read_log takes."""
+
+    def setUp(self) -> None:
+        self.room = tempfile.TemporaryDirectory()
+        self.addCleanup(self.room.cleanup)
+
+    def read(self, text: str, crates: list[str]) -> dict[str, certificate.Proof]:
+        path = f"{self.room.name}/log"
+        with open(path, "w", encoding="utf-8") as file:
+            file.write(text)
+        return certificate.read_log(path, crates, LOGIC)
+
+    def refused(self, text: str, why: str) -> None:
+        with self.assertRaisesRegex(Refused, why):
+            self.read(text, ["one", "two"])
+
+    def test_a_whole_log_is_taken(self) -> None:
+        proofs = self.read(log_of(["one", "two"]), ["one", "two"])
+        self.assertEqual(
+            [(it, proof.functions) for it, proof in proofs.items()], [("one", 1), ("two", 1)]
+        )
+
+    def test_one_line_is_refused(self) -> None:
+        self.refused("99 passed, 0 failed\n", "rt ci --anew")
+
+    def test_an_empty_log_is_refused(self) -> None:
+        self.refused("", "not that of a gate that passed")
+
+    def test_a_failed_gate_is_refused(self) -> None:
+        self.refused(
+            log_of(["one", "two"], last="9 passed, 1 failed"), "not that of a gate that passed"
+        )
+
+    def test_two_lines_are_refused(self) -> None:
+        self.refused(f"{OK}\n99 passed, 0 failed\n", "no verdict of one, two")
+
+    def test_a_crate_that_lacks_is_refused(self) -> None:
+        self.refused(log_of(["one"]), "no verdict of two")
+
+    def test_a_kept_crate_is_refused(self) -> None:
+        self.refused(log_of(["one", "two"], ok="rt: ok; one was kept"), "rt ci --anew")
+
+    def test_a_crate_that_is_not_proved_is_refused(self) -> None:
+        self.refused(
+            log_of(["one", "two"], "logic=not-proved functions=1 sum=dac8208d650f15bf x"),
+            "0 verdicts of one",
+        )
+
+    def test_another_logic_is_refused(self) -> None:
+        self.refused(
+            log_of(["one", "two"], VERDICT.replace("dac8", "0000")), "logic 0000208d650f15bf"
+        )
+
+    def test_a_count_without_names_is_refused(self) -> None:
+        self.refused(
+            log_of(["one", "two"]).replace("fn two::call: proved\n", ""), "names no function of two"
+        )
+
+    def test_too_few_that_passed_is_refused(self) -> None:
+        self.refused(log_of(["one", "two"], last="1 passed, 0 failed"), "there are 2 crates")
+
+
+class Releases(unittest.TestCase):
+    """What make.py and verify.sh refuse, in a clone."""
+
+    def setUp(self) -> None:
+        self.room = tempfile.TemporaryDirectory()
+        self.addCleanup(self.room.cleanup)
+        self.tree = f"{self.room.name}/tree"
+        subprocess.run(["git", "clone", "-q", ROOT, self.tree], check=True)
+
+    def refused(self, why: str, *words: str) -> None:
+        made = f"{self.room.name}/made"
+        ran = subprocess.run(
+            [sys.executable, f"{self.tree}/release/make.py", made, *words],
+            capture_output=True,
+            text=True,
+        )
+        self.assertEqual(ran.returncode, 1, ran.stdout)
+        self.assertIn(why, ran.stderr)
+        self.assertFalse(os.path.exists(made))
+
+    def test_forged_logs_are_refused(self) -> None:
+        log = f"{self.room.name}/log"
+        crates = certificate.crates_of(self.tree)
+        with open(log, "w", encoding="utf-8") as file:
+            file.write("99 passed, 0 failed\n")
+        self.refused("rt ci --anew", "--log", log, "--trial")
+        with open(log, "w", encoding="utf-8") as file:
+            file.write(log_of(crates, last="99 passed, 0 failed"))
+        self.refused("the gate left no library of", "--log", log, "--trial")
+        if not any(
+            os.path.exists(f"{self.tree}/{it}")
+            for it in ("LICENSE", "LICENCE", "LICENSE.md", "COPYING")
+        ):
+            self.refused("no licence is chosen", "--log", log)
+        self.refused("or say --unproved", "--trial")
+
+    def test_an_altered_tree_is_refused(self) -> None:
+        log = f"{self.room.name}/log"
+        with open(f"{self.tree}/HANDLES", "a", encoding="utf-8") as file:
+            file.write("\n")
+        with open(log, "w", encoding="utf-8") as file:
+            file.write("99 passed, 0 failed\n")
+        self.refused("files are changed or new", "--log", log, "--trial")
+
+    def test_altered_certificates_are_refused(self) -> None:
+        path = f"{self.room.name}/certificate"
+        crates = certificate.crates_of(self.tree)
+        lines = ["lazbendix-certificate 1", "version 1.2.3", "commit x", "state proved"]
+        lines += [f"logic {LOGIC}", f"handles {certificate.handles_of(self.tree)}"]
+        lines += [f"tree crates.txt {certificate.sum_of(f'{self.tree}/crates.txt')}"]
+        for it in crates:
+            lines += [
+                f"crate {it} sources={certificate.sources_sum(it, self.tree)} code=- functions=1",
+                f"verdict {it} {VERDICT}",
+            ]
+        whole = "\n".join(lines) + "\n"
+
+        def verified(text: str) -> int:
+            with open(path, "w", encoding="utf-8") as file:
+                file.write(text)
+            # (without the kit, which this certificate does not name)
+            how = {"PATH": "/usr/bin:/bin"}
+            return subprocess.run(
+                [f"{HERE}/verify.sh", path, self.tree], env=how, capture_output=True
+            ).returncode
+
+        self.assertEqual(verified(whole), 0)
+        self.assertEqual(verified(whole.replace("state proved", "state UNPROVED")), 2)
+        self.assertEqual(verified("99 passed, 0 failed\n"), 1)
+        first = crates[0]
+        self.assertEqual(verified(whole.replace(f"verdict {first} {VERDICT}\n", "")), 1)
+        self.assertEqual(
+            verified(
+                "".join(it for it in whole.splitlines(True) if not it.startswith(f"crate {first} "))
+            ),
+            1,
+        )
+        self.assertEqual(
+            verified(whole.replace(certificate.sources_sum(first, self.tree), "0" * 64)), 1
+        )
+        with open(f"{self.tree}/crates/{first}/src/lib.rt", "a", encoding="utf-8") as file:
+            file.write("// altered\n")
+        self.assertEqual(verified(whole), 1)
+
+
+if __name__ == "__main__":
+    unittest.main()
