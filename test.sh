@@ -11,7 +11,8 @@ set -u
 top=$(cd "$(dirname "$0")" && pwd) || exit 1
 cd "$top" || exit 1
 PYTHONDONTWRITEBYTECODE=1
-export PYTHONDONTWRITEBYTECODE
+PYTHONPATH=$top/python
+export PYTHONDONTWRITEBYTECODE PYTHONPATH
 if [ "${1:-}" = --here ]; then
     mkdir -p "$2" && room=$(cd "$2" && pwd) || exit 1
 else
@@ -41,24 +42,24 @@ tries() {
 # what needs nothing built, beside the builds
 pages_and_tools() {
     said=$room/said-of-pages
-    tries "what a page names" python3 tools/check_pages.py
-    tries "what crosses crates in proofs" python3 tools/check_cited.py
-    tries "what the tools tell of days" python3 tools/check_days.py 40
-    tries "what explain tells of mistakes" python3 tools/check_explain.py 20
+    tries "what a page names" python3 -m dev.check_pages
+    tries "what crosses crates in proofs" python3 -m dev.check_cited
+    tries "what the tools tell of days" python3 -m dev.check_days 40
+    tries "what explain tells of mistakes" python3 -m dev.check_explain 20
     if python3 -c 'import jsonschema' 2>/dev/null; then
-        tries "the schema of scripts" python3 tools/check_schema.py 200
+        tries "the schema of scripts" python3 -m dev.check_schema 200
     else
         say "jsonschema is not there: the schema of scripts is not tried"
     fi
-    tries "an example, by the reference" python3 reference/tables.py examples
-    tries "the command lazbendix" sh python/test.sh
+    tries "an example, by the reference" python3 -m dev.tables examples
+    tries "the command lazbendix" sh tests/run.sh
 }
 say "pages and tools, beside the rest"
 pages_and_tools &
 pages=$!
 
 say "building the library, the programs and the tests, unproved"
-python3 tools/unproved_build.py "$room" || fail "it was not built"
+python3 -m dev.unproved_build "$room" || fail "it was not built"
 
 say "tests"
 for made in "$room"/*_tests; do
@@ -91,9 +92,9 @@ done
 
 say "what the built program tells"
 tries "a call of crates/hub_main/edge.sh" sh crates/hub_main/edge.sh "$room/hub_main"
-if [ -f tools/check_syncs.py ]; then
+if [ -f dev/check_syncs.py ]; then
     if strace -o /dev/null true 2>/dev/null; then
-        tries "how often keep syncs its file" python3 tools/check_syncs.py "$room/hub_main"
+        tries "how often keep syncs its file" python3 -m dev.check_syncs "$room/hub_main"
     else
         say "strace is not there, or may not watch: how often keep syncs its file is not tried"
     fi

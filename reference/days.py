@@ -1,15 +1,22 @@
-"""Days that are drawn: small ones with much in them, some of them in rooms, the same with turns and times for a replay,
-with guards as scripts of version 2, spoiled ones, and trials.
+"""Days that are drawn: small ones with much in them, some of them in rooms, the same with turns and
+times for a replay, with guards as scripts of version 2, spoiled ones, and trials.
 
 What draws the first three is a `random.Random`, so that a seed gives the same days again.
 """
+from __future__ import annotations
+
 import copy
 import json
+import random
+from collections.abc import Iterator
+from typing import Any
 
 from .history import Mode
 from .replay import Draws
 from .script import DeviceText, RoutineText, RunText, Script, WindowText
 from .serial import Command, Kind
+
+Json = dict[str, Any]
 
 TRIAL_MODE = Mode("ev", "fcfs")
 TRIAL_DEVICES, TRIAL_ROUTINES, TRIAL_COMMANDS, TRIAL_VALUES = 32, 64, 4, 1000
@@ -18,8 +25,9 @@ TRIAL_DAY, TRIAL_MINUTES = (2021, 4, 26), 5
 
 # Small days
 
-def device(draw, d):
-    made = {"name": f"d{d}"}
+
+def device(draw: random.Random, d: int) -> Json:
+    made: Json = {"name": f"d{d}"}
     if draw.random() < 0.5:
         states = [f"s{v}" for v in range(draw.randint(1, 3))]
         made.update(states=states, start=draw.choice(states))
@@ -37,13 +45,17 @@ def device(draw, d):
     return made
 
 
-def values(device):
-    return device["states"] if "states" in device else list(range(device["low"], device["high"] + 1))
+def values(device: Json) -> list[Any]:
+    states: list[Any] = device.get("states") or list(range(device["low"], device["high"] + 1))
+    return states
 
 
-def command(draw, devices):
+def command(draw: random.Random, devices: list[Json]) -> Json:
     on = draw.choice(devices)
-    made = {"on": on["name"], "do": draw.choice(["set", "set", "set", "check", "load", "store"])}
+    made: Json = {
+        "on": on["name"],
+        "do": draw.choice(["set", "set", "set", "check", "load", "store"]),
+    }
     if made["do"] in ("set", "check"):
         made["to"] = draw.choice(values(on))
     if draw.random() < 0.4:
@@ -53,14 +65,14 @@ def command(draw, devices):
     return made
 
 
-def run(draw, routines, before):
-    made = {"routine": draw.choice(routines)["name"]}
+def run(draw: random.Random, routines: list[Json], before: int) -> Json:
+    made: Json = {"routine": draw.choice(routines)["name"]}
     if before and draw.random() < 0.2:
         made["follows"] = draw.randint(1, before)
     return made
 
 
-def day(draw):
+def day(draw: random.Random) -> Json:
     devices = [device(draw, d) for d in range(draw.randint(1, 4))]
     routines = [
         {"name": f"r{r}", "commands": [command(draw, devices) for _ in range(draw.randint(1, 5))]}
@@ -77,15 +89,24 @@ def day(draw):
     return {"safehome": 1, "devices": devices, "routines": routines, "windows": windows}
 
 
-def day_for(draw, scheduler, version=1):
-    """A small day with turns and times; half of those for the timeline are such as it rearranges its line for."""
-    made = gap_day(draw) if scheduler == "timeline" and draw.random() < 0.5 else with_picks(draw, day(draw))
+def day_for(draw: random.Random, scheduler: str, version: int = 1) -> Json:
+    """A small day with turns and times; half of those for the timeline are such as it rearranges
+    its line for.
+    """
+    made = (
+        gap_day(draw)
+        if scheduler == "timeline" and draw.random() < 0.5
+        else with_picks(draw, day(draw))
+    )
     return made if version == 1 else guarded(draw, made)
 
 
-def gap_command(draw, device):
+def gap_command(draw: random.Random, device: Json) -> Json:
     """A command with an estimate, which it does not keep as a rule."""
-    made = {"on": device["name"], "do": draw.choice(["set", "set", "set", "store", "load", "check"])}
+    made: Json = {
+        "on": device["name"],
+        "do": draw.choice(["set", "set", "set", "store", "load", "check"]),
+    }
     if made["do"] in ("set", "check"):
         made["to"] = draw.choice(values(device))
     if draw.random() < 0.3:
@@ -96,7 +117,7 @@ def gap_command(draw, device):
     return made
 
 
-def gap_turns(draw, actors):
+def gap_turns(draw: random.Random, actors: int) -> list[int]:
     """Most runs come before the others have gone far."""
     turns = []
     for actor in range(1, actors + 1):
@@ -106,12 +127,14 @@ def gap_turns(draw, actors):
     return turns + [draw.randint(0, actors) for _ in range(draw.choice([0, 10, 40]))]
 
 
-def gap_day(draw, windows=1):
-    """A day of many small runs with estimates of all lengths, so that the timeline often rearranges its line for one."""
+def gap_day(draw: random.Random, windows: int = 1) -> Json:
+    """A day of many small runs with estimates of all lengths, so that the timeline often rearranges
+    its line for one.
+    """
     devices = [device(draw, d) for d in range(draw.randint(3, 6))]
-    for made in devices:
+    for one in devices:
         if draw.random() < 0.5:
-            made.pop("down", None)
+            one.pop("down", None)
     routines = []
     for r in range(draw.randint(4, 7)):
         used = draw.sample(devices, draw.choice([1, 2, 2, 2, 3]))
@@ -120,24 +143,44 @@ def gap_day(draw, windows=1):
     made = []
     for k in range(windows):
         runs = [run(draw, routines, before) for before in range(draw.randint(4, 8))]
-        made.append({"at": f"2021-04-26T07:0{k}:00", "seed": draw.getrandbits(32), "probes": draw.choice([0, 1, 2]),
-                     "turns": gap_turns(draw, len(runs)), "runs": runs})
+        made.append(
+            {
+                "at": f"2021-04-26T07:0{k}:00",
+                "seed": draw.getrandbits(32),
+                "probes": draw.choice([0, 1, 2]),
+                "turns": gap_turns(draw, len(runs)),
+                "runs": runs,
+            }
+        )
     return {"safehome": 1, "devices": devices, "routines": routines, "windows": made}
 
 
-def room_run(draw, routines, before):
+def room_run(
+    draw: random.Random,
+    routines: list[Json],
+    before: list[Json],
+) -> Json:
     """A run that follows, if any, one of its own room, but for few."""
     made = run(draw, routines, 0)
     room = made["routine"].partition("_")[0]
-    leaders = [r for r, earlier in enumerate(before, 1) if earlier["routine"].startswith(f"{room}_") or draw.random() < 0.01]
+    leaders = [
+        r
+        for r, earlier in enumerate(before, 1)
+        if earlier["routine"].startswith(f"{room}_") or draw.random() < 0.01
+    ]
     if leaders and draw.random() < 0.3:
         made["follows"] = draw.choice(leaders)
     return made
 
 
-def room_day(draw, most_rooms=8):
-    """A day of at least two rooms, each with routines of its own. In some days a run crosses rooms."""
-    homes = {f"r{r}": [device(draw, d) for d in range(draw.randint(1, 3))] for r in range(draw.randint(2, most_rooms))}
+def room_day(draw: random.Random, most_rooms: int = 8) -> Json:
+    """A day of at least two rooms, each with routines of its own. In some days a run crosses
+    rooms.
+    """
+    homes = {
+        f"r{r}": [device(draw, d) for d in range(draw.randint(1, 3))]
+        for r in range(draw.randint(2, most_rooms))
+    }
     for room, devices in homes.items():
         for made in devices:
             made["name"] = f"{room}_{made['name']}"
@@ -152,14 +195,16 @@ def room_day(draw, most_rooms=8):
             routines.append({"name": f"{room}_{r}", "commands": commands})
     windows = []
     for k in range(draw.randint(1, 4)):
-        runs = []
+        runs = list[Json]()
         for _ in range(draw.randint(1, 3 * len(homes))):
             runs.append(room_run(draw, routines, runs))
-        windows.append({"at": f"2021-04-26T07:0{k}:00", "probes": draw.choice([0, 1, 2, 5]), "runs": runs})
+        windows.append(
+            {"at": f"2021-04-26T07:0{k}:00", "probes": draw.choice([0, 1, 2, 5]), "runs": runs}
+        )
     return {"safehome": 1, "devices": devices, "routines": routines, "windows": windows}
 
 
-def with_picks(draw, script):
+def with_picks(draw: random.Random, script: Json) -> Json:
     """The script with turns, seeds, and commands that take another time than is estimated."""
     for routine in script["routines"]:
         for command in routine["commands"]:
@@ -174,13 +219,17 @@ def with_picks(draw, script):
     return script
 
 
-def guarded(draw, script):
-    """The script as one of version 2: many commands have guards, and before these often stands a load."""
+def guarded(draw: random.Random, script: Json) -> Json:
+    """The script as one of version 2: many commands have guards, and before these often stands a
+    load.
+    """
     script["safehome"] = 2
     for routine in script["routines"]:
         commands = routine["commands"]
         if draw.random() < 0.5:
-            commands.insert(0, {"on": draw.choice(commands)["on"], "do": "load", "must": draw.random() < 0.5})
+            commands.insert(
+                0, {"on": draw.choice(commands)["on"], "do": "load", "must": draw.random() < 0.5}
+            )
         for command in commands:
             if draw.random() < 0.4:
                 command["when"] = {draw.choice(["is", "below"]): draw.choice([0, 0, 1, 1, 2, 3])}
@@ -189,14 +238,64 @@ def guarded(draw, script):
 
 # Spoiled days
 
-ODD = [None, True, 0, 1, -1, 1.5, 2**32 - 1, 2**32, 2**64, "", "off", "d0", "D0", "2021-04-26T07:00:00Z", "2021-04-26", [], [[]],
-       [0], {}, [3, 3], 256, 101, 3_600_001]
-MEMBERS = ["safehome", "name", "low", "states", "down", "to", "must", "ms", "takes", "do", "on", "turns", "seed", "probes",
-           "follows", "runs", "routine", "at", "other"]
-ODD_GUARDS = [{"is": 2**32 - 1}, {"below": 2**32}, {"is": 0, "below": 1}, {"above": 1}, {"is": "s0"}, {"is": 1.0}, {"below": -1}]
+ODD: list[Any] = [
+    None,
+    True,
+    0,
+    1,
+    -1,
+    1.5,
+    2**32 - 1,
+    2**32,
+    2**64,
+    "",
+    "off",
+    "d0",
+    "D0",
+    "2021-04-26T07:00:00Z",
+    "2021-04-26",
+    [],
+    [[]],
+    [0],
+    {},
+    [3, 3],
+    256,
+    101,
+    3_600_001,
+]
+MEMBERS = [
+    "safehome",
+    "name",
+    "low",
+    "states",
+    "down",
+    "to",
+    "must",
+    "ms",
+    "takes",
+    "do",
+    "on",
+    "turns",
+    "seed",
+    "probes",
+    "follows",
+    "runs",
+    "routine",
+    "at",
+    "other",
+]
+ODD_GUARDS: list[Any] = [
+    {"is": 2**32 - 1},
+    {"below": 2**32},
+    {"is": 0, "below": 1},
+    {"above": 1},
+    {"is": "s0"},
+    {"is": 1.0},
+    {"below": -1},
+]
 
 
-def places_in(value):
+def places_in(value: Any) -> Iterator[Json | list[Any]]:
     """Each object and list in the value, itself too."""
     if isinstance(value, (dict, list)):
         yield value
@@ -204,7 +303,7 @@ def places_in(value):
             yield from places_in(part)
 
 
-def spoiled(draw, script):
+def spoiled(draw: random.Random, script: Json) -> str:
     """The text of the script with one thing changed, which is refused as a rule."""
     text = json.dumps(script)
     if draw.random() < 0.1:
@@ -215,16 +314,23 @@ def spoiled(draw, script):
     place = draw.choice(list(places_in(script)))
     odd = copy.deepcopy(draw.choice(ODD + ODD_GUARDS if has_guards else ODD))
     if isinstance(place, list):
-        place.insert(draw.randint(0, len(place)), odd if draw.random() < 0.5 or not place else copy.deepcopy(draw.choice(place)))
+        place.insert(
+            draw.randint(0, len(place)),
+            odd if draw.random() < 0.5 or not place else copy.deepcopy(draw.choice(place)),
+        )
     elif draw.random() < 0.3:
         del place[draw.choice(list(place))]
     else:
-        place[draw.choice(list(place) if draw.random() < 0.6 else MEMBERS + ["when"] * has_guards)] = odd
+        place[
+            draw.choice(list(place) if draw.random() < 0.6 else MEMBERS + ["when"] * has_guards)
+        ] = odd
     return json.dumps(script)
 
 
-def damaged(draw, record):
-    """The record with one word changed, taken out or put in, so that as a rule it does not agree."""
+def damaged(draw: random.Random, record: str) -> str:
+    """The record with one word changed, taken out or put in, so that as a rule it does not
+    agree.
+    """
     lines = [line.split(" ") for line in record.split("\n")]
     line = draw.choice(lines)
     at = draw.randrange(len(line))
@@ -240,7 +346,8 @@ def damaged(draw, record):
 
 # Trials
 
-def trial_command(draws):
+
+def trial_command(draws: Draws) -> Command:
     device, job = draws.below(TRIAL_DEVICES), draws.below(4)
     if job == 0:
         return Command(device, "set", draws.below(TRIAL_VALUES))
@@ -249,12 +356,17 @@ def trial_command(draws):
     return Command(device, "load" if job == 2 else "store", None)
 
 
-def trial(windows):
-    """The day of a trial of so many windows. It is drawn by the generator of picks, from their number."""
+def trial(windows: int) -> Script:
+    """The day of a trial of so many windows. It is drawn by the generator of picks, from their
+    number.
+    """
     draws = Draws(windows)
     kind = Kind(0, TRIAL_VALUES - 1)
     devices = [DeviceText(f"d{d:02}", kind, [], 0, []) for d in range(TRIAL_DEVICES)]
-    routines = [RoutineText(f"r{r:02}", [trial_command(draws) for _ in range(TRIAL_COMMANDS)]) for r in range(TRIAL_ROUTINES)]
+    routines = [
+        RoutineText(f"r{r:02}", [trial_command(draws) for _ in range(TRIAL_COMMANDS)])
+        for r in range(TRIAL_ROUTINES)
+    ]
     made = []
     for k in range(windows):
         hour, minute = divmod(TRIAL_MINUTES * k, 60)

@@ -1,21 +1,26 @@
 """Simulated devices, and the grip with which a run or the detector calls one."""
+from __future__ import annotations
+
+from collections.abc import Sequence
 from dataclasses import dataclass, field
 
 
 class Device:
-    """Does not answer its calls from a number on and before another one, for each such pair of `downs`."""
+    """Does not answer its calls from a number on and before another one, for each such pair of
+    `downs`.
+    """
 
-    def __init__(self, start, downs=()):
+    def __init__(self, start: int, downs: Sequence[tuple[int, int]] = ()) -> None:
         self.stands, self.downs = start, downs
         self.turns = self.drives = self.probes = self.faults = self.calls = 0
 
-    def answers(self):
+    def answers(self) -> bool:
         self.calls += 1
         dead = any(first <= self.calls < end for first, end in self.downs)
         self.faults += dead
         return not dead
 
-    def drive(self, value):
+    def drive(self, value: int) -> bool:
         if not self.answers():
             return False
         self.stands = value
@@ -23,14 +28,14 @@ class Device:
         self.drives += 1
         return True
 
-    def sense(self):
+    def sense(self) -> int | None:
         """The value at which it stands, or none."""
         if not self.answers():
             return None
         self.turns += 1
         return self.stands
 
-    def probe(self):
+    def probe(self) -> bool:
         self.probes += 1
         return self.answers()
 
@@ -64,17 +69,22 @@ class Probe:
     restores: int | None  # what a device that is counted down is driven to when it answers
 
 
+Task = Drive | Sense | Probe
+
+
 @dataclass
 class Grip:
     device: Device
     slip: Slip
-    task: object  # Drive, Sense or Probe
+    task: Task
     is_undo: bool = False
     worked: bool | None = field(default=None, init=False)
     found: int | None = field(default=None, init=False)
 
-    def act(self):
-        """Makes the one call, and behind a probe that brings a device back the drive that restores it."""
+    def act(self) -> Grip:
+        """Makes the one call, and behind a probe that brings a device back the drive that restores
+        it.
+        """
         match self.task:
             case Drive(value):
                 self.worked = self.device.drive(value)
@@ -82,5 +92,7 @@ class Grip:
                 self.found = self.device.sense()
                 self.worked = self.found is not None
             case Probe(restores):
-                self.worked = self.device.probe() and (restores is None or self.device.drive(restores))
+                self.worked = self.device.probe() and (
+                    restores is None or self.device.drive(restores)
+                )
         return self

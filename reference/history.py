@@ -1,13 +1,16 @@
 """The history of a window: its entries, and what follows from them by going along them once.
 
-In `History` a `run` and a `device` are numbers; runs count from 1, devices and commands from 0; moments are in ms.
+In `History` a `run` and a `device` are numbers; runs count from 1, devices and commands from 0;
+moments are in ms.
 """
+from __future__ import annotations
+
 from collections import Counter
 from dataclasses import dataclass
 from typing import NamedTuple
 
 from .gaps import Gap
-from .serial import DOWN, FINE, SKIPPED, Back, Failed, Ran
+from .serial import DOWN, FINE, SKIPPED, Answer, Back, Command, Failed, Item, Kind, Ran, Run, Stand
 
 MOST = 2**64 - 1  # the greatest moment; sums stay at it
 
@@ -34,7 +37,7 @@ class Placed:
 class Did:
     run: int
     command: int
-    answer: str | int  # `FINE`, `DOWN`, `SKIPPED`, or the value that a read found
+    answer: Answer  # `FINE`, `DOWN`, `SKIPPED`, or the value that a read found
 
 
 @dataclass(frozen=True)
@@ -57,13 +60,13 @@ class Rose:
 @dataclass(frozen=True)
 class Doomed:
     run: int
-    cause: "Cause"
+    cause: Cause
 
 
 @dataclass(frozen=True)
 class Ended:
     run: int
-    cause: "Cause | None"  # None where it committed
+    cause: Cause | None  # None where it committed
 
 
 @dataclass(frozen=True)
@@ -100,75 +103,97 @@ Cause = MustDown | Refuted | Lost | Revoked | DownAtEnd
 
 
 class History:
-    def __init__(self, runs, mode, first, kinds):
+    def __init__(
+        self, runs: dict[int, Run], mode: Mode, first: list[Stand], kinds: list[Kind]
+    ) -> None:
         self.runs, self.mode, self.first, self.kinds = runs, mode, first, kinds
-        self.entries = []
-        self.line = []  # of Ran, Failed and Back; when all runs have ended it is the serial order
-        self.arrived = {}  # the moment of each run
-        self.placed = {}  # how many runs were placed before each run
-        self.plans = {}  # of each placed run the planned start and end on each of its devices
-        self.answers = {run: [] for run in runs}
+        self.entries: list[Entry] = []
+        self.line: list[Item] = []  # when all runs have ended it is the serial order
+        self.arrived: dict[int, int] = {}  # the moment of each run
+        self.placed: dict[int, int] = {}  # how many runs were placed before each run
+        # of each placed run the planned start and end on each of its devices
+        self.plans: dict[int, dict[int, tuple[int, int]]] = {}
+        self.answers: dict[int, list[Answer]] = {run: [] for run in runs}
         self.registers = dict.fromkeys(runs, 0)
-        self.sees_up = {run: {} for run in runs}  # its view of each device, which its first access there fixes
-        self.wrote = {run: {} for run in runs}  # what it wrote last on each device
-        self.undone = {run: set() for run in runs}
-        self.dooms, self.ends = {}, {}  # causes; an end of None is a commit
+        # its view of each device, which its first access there fixes
+        self.sees_up: dict[int, dict[int, bool]] = {run: {} for run in runs}
+        # what it wrote last on each device
+        self.wrote: dict[int, dict[int, int]] = {run: {} for run in runs}
+        self.undone: dict[int, set[int]] = {run: set() for run in runs}
+        self.dooms: dict[int, Cause] = {}
+        self.ends: dict[int, Cause | None] = {}  # an end of None is a commit
         self.up = [stand.up for stand in first]
-        self.counts = Counter()  # of failures and restarts
+        self.counts = Counter[tuple[type, int]]()  # of failures and restarts
         self.last_write = [stand.value for stand in first]
 
     # What is said of a run.
 
-    def is_live(self, run):
+    def is_live(self, run: int) -> bool:
         return run in self.placed and run not in self.ends
 
-    def is_committed(self, run):
+    def is_committed(self, run: int) -> bool:
         return run in self.ends and self.ends[run] is None
 
-    def is_pending(self, run, device):
+    def is_pending(self, run: int, device: int) -> bool:
         """Whether a command of the run on the device has no answer."""
         return self.runs[run].last.get(device, -1) >= len(self.answers[run])
 
-    def is_open(self, run, device):
+    def is_open(self, run: int, device: int) -> bool:
         return self.is_live(run) and run not in self.dooms and self.is_pending(run, device)
 
-    def has_skipped(self, run, device):
+    def has_skipped(self, run: int, device: int) -> bool:
         """Whether all commands of the run on the device were skipped."""
         return not self.is_pending(run, device) and device not in self.sees_up[run]
 
-    def next_command(self, run):
+    def next_command(self, run: int) -> Command | None:
         done = len(self.answers[run])
         commands = self.runs[run].commands
         return commands[done] if done < len(commands) else None
 
     # The serialization line.
 
-    def runs_of(self, items):
+    def runs_of(self, items: list[Item]) -> list[int]:
         """The live runs among the items, in their order."""
         return [item.run for item in items if isinstance(item, Ran) and item.run not in self.ends]
 
-    def live_before(self, run):
+    def live_before(self, run: int) -> list[int]:
         return self.runs_of(self.line[: self.line.index(Ran(run))])
 
-    def event_place(self, device):
-        """Where a failure or a restart goes: before the first run that is open there and has no access there."""
+    def event_place(self, device: int) -> int:
+        """Where a failure or a restart goes: before the first run that is open there and has no
+        access there.
+        """
         if self.mode.model != "wv":
             for place, item in enumerate(self.line):
-                if isinstance(item, Ran) and device not in self.sees_up[item.run] and self.is_open(item.run, device):
+                if (
+                    isinstance(item, Ran)
+                    and device not in self.sees_up[item.run]
+                    and self.is_open(item.run, device)
+                ):
                     return place
         return len(self.line)
 
     # Planned times.
 
-    def whole_end(self, run):
-        """The latest planned end on a device that no committed run behind it has written, and where it has not skipped all."""
+    def whole_end(self, run: int) -> int:
+        """The latest planned end on a device that no committed run behind it has written, and where
+        it has not skipped all.
+        """
         behind = self.line[self.line.index(Ran(run)) + 1 :]
-        committed = [item.run for item in behind if isinstance(item, Ran) and self.is_committed(item.run)]
-        passed = {device for device in self.plans[run] if self.has_skipped(run, device)}.union(*(self.wrote[x] for x in committed))
-        return max((end for device, (_, end) in self.plans[run].items() if device not in passed), default=0)
+        committed = [
+            item.run for item in behind if isinstance(item, Ran) and self.is_committed(item.run)
+        ]
+        passed = {device for device in self.plans[run] if self.has_skipped(run, device)}.union(
+            *(self.wrote[x] for x in committed)
+        )
+        return max(
+            (end for device, (_, end) in self.plans[run].items() if device not in passed), default=0
+        )
 
-    def free(self, run, device, items):
-        """From when on the device is free for a run behind these items. Only the timeline heeds it."""
+    def free(self, run: int, device: int, items: list[Item]) -> int:
+        """From when on the device is free for a run behind these items. Only the timeline heeds
+        it.
+        """
         if self.mode.scheduler != "timeline":
             return 0
         times = [0]
@@ -179,10 +204,11 @@ class History:
                 times.append(self.whole_end(before))
         return max(times)
 
-    def planned_times(self, run, items, moment):
+    def planned_times(self, run: int, items: list[Item], moment: int) -> dict[int, tuple[int, int]]:
         """The planned start and end of the run on each of its devices, behind these items."""
         frees = {device: self.free(run, device, items) for device in self.runs[run].footprint}
-        plan, time = {}, moment
+        plan: dict[int, tuple[int, int]] = {}
+        time = moment
         for command in self.runs[run].commands:
             start = max(time, frees[command.device])
             time = min(start + command.ms, MOST)
@@ -191,7 +217,7 @@ class History:
 
     # One entry more.
 
-    def add(self, entry):
+    def add(self, entry: Entry) -> None:
         match entry:
             case Arrived(run, moment):
                 self.arrived[run] = moment
@@ -215,7 +241,7 @@ class History:
                     self.line.remove(Ran(run))
         self.entries.append(entry)
 
-    def add_run(self, run, place, moment):
+    def add_run(self, run: int, place: int, moment: int) -> None:
         """The timeline first divides the line: what stands before the run, and what behind it."""
         items, behind = self.line, []
         if self.mode.scheduler == "timeline":
@@ -226,7 +252,7 @@ class History:
         self.line = items + behind
         self.line.insert(place, Ran(run))
 
-    def add_answer(self, run, command, answer):
+    def add_answer(self, run: int, command: Command, answer: str | int) -> None:
         self.answers[run].append(answer)
         if answer != SKIPPED:
             self.sees_up[run].setdefault(command.device, answer != DOWN)
@@ -235,6 +261,6 @@ class History:
             self.wrote[run][command.device] = self.last_write[command.device] = driven
         self.registers[run] = command.register_after(self.registers[run], answer)
 
-    def add_event(self, event, device):
+    def add_event(self, event: type, device: int) -> None:
         self.counts[event, device] += 1
         self.line.insert(self.event_place(device), event(device, self.counts[event, device]))

@@ -1,29 +1,88 @@
-"""The text of a day: its head, its windows with or without their trace, its total, and the line of a board."""
-from .history import (Arrived, Did, Doomed, DownAtEnd, Ended, Fell, Lost, MustDown, Placed, Refuted, Revoked, Rose,
-                               Undid)
-from .serial import Failed, Ran
+"""The text of a day: its head, its windows with or without their trace, its total, and the line of
+a board.
+"""
+from __future__ import annotations
+
+from collections.abc import Mapping, Sequence
+from typing import Protocol
+
+from .history import (
+    Arrived,
+    Cause,
+    Did,
+    Doomed,
+    DownAtEnd,
+    Ended,
+    Entry,
+    Fell,
+    Lost,
+    Mode,
+    MustDown,
+    Placed,
+    Refuted,
+    Revoked,
+    Rose,
+    Undid,
+)
+from .script import DeviceText, Script
+from .serial import Answer, Command, Failed, Item, Ran, Stand
 
 
-def head_text(mode):
+class HasEnds(Protocol):
+    """A window's record as its total has it."""
+
+    @property
+    def ends(self) -> Mapping[int, Cause | None]:
+        """Of each run that has ended the cause, or none where it committed."""
+
+
+class HasAnswers(HasEnds, Protocol):
+    """A window's record as the lines of its runs have it."""
+
+    @property
+    def answers(self) -> Mapping[int, Sequence[Answer]]:
+        """Of each run what its commands were answered."""
+
+
+class Told(HasAnswers, Protocol):
+    """A window's record."""
+
+    @property
+    def entries(self) -> Sequence[Entry]:
+        """The history."""
+
+    @property
+    def order(self) -> Sequence[Item]:
+        """The serial order."""
+
+    @property
+    def last(self) -> Sequence[Stand]:
+        """Where the devices stand at the end."""
+
+
+def head_text(mode: Mode) -> str:
     return f"safehome day\nmodel {mode.model} {mode.scheduler}\n"
 
 
-def kept_text(count):
+def kept_text(count: int) -> str:
     """The line behind the head of a day that is kept."""
     return f"kept {count}\n"
 
 
-def time_text(at):
+def time_text(at: tuple[int, ...]) -> str:
     return "{:04}-{:02}-{:02}T{:02}:{:02}:{:02}".format(*at)
 
 
-def total_text(records):
+def total_text(records: Sequence[HasEnds]) -> str:
     runs = sum(len(record.ends) for record in records)
     committed = sum(cause is None for record in records for cause in record.ends.values())
-    return f"total windows {len(records)} runs {runs} committed {committed} aborted {runs - committed}\n"
+    return (
+        f"total windows {len(records)} runs {runs} committed {committed} aborted "
+        f"{runs - committed}\n"
+    )
 
 
-def board_text(records):
+def board_text(records: Sequence[HasEnds]) -> str:
     """The line of a watched day, behind its total and with its numbers."""
     return total_text(records).replace("total", "board", 1)
 
@@ -31,17 +90,19 @@ def board_text(records):
 class WindowPrinter:
     """Prints the record of a window, the first as number 0, with the names of its script."""
 
-    def __init__(self, script, number):
+    def __init__(self, script: Script, number: int) -> None:
         self.script, self.number, self.window = script, number, script.windows[number]
         self.names = [device.name for device in script.devices]
 
-    def commands(self, run):
+    def commands(self, run: int) -> list[Command]:
         return self.script.routines[self.window.runs[run - 1].routine].commands
 
-    def answer(self, command, answer):
-        return self.script.devices[command.device].word(answer) if isinstance(answer, int) else answer
+    def answer(self, command: Command, answer: Answer) -> str:
+        return (
+            self.script.devices[command.device].word(answer) if isinstance(answer, int) else answer
+        )
 
-    def cause(self, run, cause):
+    def cause(self, run: int, cause: Cause) -> str:
         match cause:
             case MustDown(c):
                 return f"must {c + 1}"
@@ -54,7 +115,7 @@ class WindowPrinter:
             case DownAtEnd(device):
                 return f"downatend {self.names[device]}"
 
-    def entry(self, entry):
+    def entry(self, entry: Entry) -> str:
         match entry:
             case Arrived(run, moment):
                 return f"# arrived {run} at {moment}"
@@ -73,31 +134,38 @@ class WindowPrinter:
             case Ended(run, cause):
                 return f"# ended {run} {'committed' if cause is None else 'aborted'}"
 
-    def run(self, run, record):
+    def run(self, run: int, record: HasAnswers) -> str:
         begin = f"run {run} {self.script.routines[self.window.runs[run - 1].routine].name}"
-        if record.ends[run] is not None:
-            return f"{begin} aborted {self.cause(run, record.ends[run])}"
+        cause = record.ends[run]
+        if cause is not None:
+            return f"{begin} aborted {self.cause(run, cause)}"
         answers = map(self.answer, self.commands(run), record.answers[run])
         return " ".join([begin, "committed", *answers])
 
-    def item(self, item):
+    def item(self, item: Item) -> str:
         if isinstance(item, Ran):
             return str(item.run)
         return f"{'fail' if isinstance(item, Failed) else 'back'}({self.names[item.device]})"
 
-    def stand(self, device, stand):
+    def stand(self, device: DeviceText, stand: Stand) -> str:
         return f"{device.name}={device.word(stand.value)}{'' if stand.up else '!'}"
 
-    def text(self, record, mode, trace):
+    def text(self, record: Told, mode: Mode, trace: bool) -> str:
         lines = [f"window {self.number + 1} {time_text(self.window.at)}"]
         if trace:
             lines += map(self.entry, record.entries)
         lines += [self.run(run, record) for run in record.ends and sorted(record.ends)]
-        order = ["unclaimed"] if mode.model == "wv" else list(map(self.item, record.order)) or ["none"]
+        order = (
+            ["unclaimed"] if mode.model == "wv" else list(map(self.item, record.order)) or ["none"]
+        )
         lines.append(" ".join(["order", *order]))
-        lines.append(" ".join(["home", *(list(map(self.stand, self.script.devices, record.last)) or ["none"])]))
+        lines.append(
+            " ".join(
+                ["home", *(list(map(self.stand, self.script.devices, record.last)) or ["none"])]
+            )
+        )
         return "\n".join(lines) + "\n"
 
 
-def window_text(script, number, record, mode, trace):
+def window_text(script: Script, number: int, record: Told, mode: Mode, trace: bool) -> str:
     return WindowPrinter(script, number).text(record, mode, trace)

@@ -1,4 +1,6 @@
 """The words of the command line."""
+from __future__ import annotations
+
 import re
 from typing import NamedTuple
 
@@ -15,13 +17,13 @@ class Words(NamedTuple):
     windows: int = 0  # of a trial
 
 
-def read_options(words):
+def read_options(words: list[str]) -> dict[str, str] | None:
     """The options by their names, or none. The words are used up."""
-    options = {}
+    options: dict[str, str] = {}
     while words:
         name, equals, value = words.pop(0).partition("=")
         if name == "--trace" and not equals:
-            value = True
+            value = "true"
         elif name not in ("--model", "--scheduler") or not (equals or words):
             return None
         elif not equals:
@@ -32,15 +34,17 @@ def read_options(words):
     return options
 
 
-def has_mode(asked):
-    """Whether there are such a model and such a scheduler, and the command takes both; `rooms` has no trace and no weak model."""
+def has_mode(asked: Words) -> bool:
+    """Whether there are such a model and such a scheduler, and the command takes both; `rooms` has
+    no trace and no weak model.
+    """
     model, scheduler = asked.mode
     if asked.command == "rooms" and (asked.trace or model == "wv"):
         return False
     return model in MODELS and scheduler in SCHEDULERS and (model == "ev" or scheduler == "fcfs")
 
 
-def read_words(words):
+def read_words(words: list[str]) -> Words | None:
     """What the words ask for, or none."""
     match words:
         case [("run" | "replay" | "watch" | "keep" | "rooms") as command, *rest]:
@@ -52,6 +56,6 @@ def read_words(words):
             return asked if has_mode(asked) else None
         case ["check"]:
             return Words("check")
-        case ["trial", number] if re.fullmatch("[1-9][0-9]{0,2}", number, re.ASCII) and int(number) <= MOST_WINDOWS:
-            return Words("trial", windows=int(number))
+        case ["trial", number] if re.fullmatch("[1-9][0-9]{0,2}", number, re.ASCII):
+            return Words("trial", windows=int(number)) if int(number) <= MOST_WINDOWS else None
     return None

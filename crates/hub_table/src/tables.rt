@@ -1,5 +1,6 @@
 //! An open window with the grips that are out.
-ghost use Rattle.std.specs.Prelude.{◌≡◌, IfErr, IfNone, IfOk, IfSome, None, Option, Some, false, slice_get};
+ghost use Rattle.std.specs.Prelude.{◌≡◌, IfErr, IfNone, IfOk, IfSome, None, Option, Some, false, length, slice_get};
+ghost use Rattle.command_rules.specs.Rosters.{plain_run};
 ghost use Rattle.device_gate.specs.Grips.{Gripped};
 ghost use Rattle.device_gate.specs.Places.{kept_of};
 ghost use Rattle.device_gate.specs.declared.grips.Done.{Done};
@@ -9,6 +10,7 @@ ghost use Rattle.history_book.specs.Settings.{is_weak};
 ghost use Rattle.hub_core.specs.Homes.{setting_for};
 ghost use Rattle.hub_core.specs.HubCalls.{IsOpened, IsProbed, IsTurn, PlansEarliest, SameWindow, WindowIsClosed};
 ghost use Rattle.legal_days.specs.LegalWindows.{history_of};
+ghost use Rattle.hub_core.specs.Joins.{MayJoin, joined};
 ghost use Rattle.hub_core.specs.OpenHubs.{configuration_of};
 ghost use Rattle.hub_core.specs.Openings.{MayOpen};
 ghost use Rattle.hub_core.specs.Steps.{not_quiet};
@@ -19,7 +21,7 @@ ghost use Rattle.lock_leasing.specs.Configurations.{read_of};
 use crate::hands::{drop_empty, empty_hands, lift, look, put};
 use crate::homecomings::bring_home;
 use crate::told::Taken;
-use command_rules::Roster;
+use command_rules::{Roster, RosterRun};
 use device_gate::{Grip, Ready, Slip, Task};
 use device_states::Device;
 use history_book::{Made, WindowRecord};
@@ -122,6 +124,20 @@ impl<D: Device> Table<D> {
             }
             Err((hub, why)) => Err((Table { hub, grips }, why)),
         }
+    }
+
+    /// The run joins the window as its last one, and its number is answered. It has not arrived.
+    /// The grips that are out stay here.
+    ///
+    /// Takes the memory that the window would have taken at its opening for one run more. Answers
+    /// `NoMemory` where there is none to be had: nothing has changed, and the run is dropped.
+    pub fn add_run(&mut self, run: RosterRun) -> Result<RunNo, NoMemory>
+        requires may { MayJoin self.old.setting (plain_run run) }
+        ensures joined { IfOk result (λ _. self.new ≡ joined self.old (plain_run run)) }
+        ensures number { IfOk result (λ r. r.0 ≡ length self.new.setting.runs) }
+        ensures refused { IfErr result (λ _. self.new ≡ self.old) }
+    {
+        self.hub.add_run(run)
     }
 
     /// The hub, for what it is asked without a step.

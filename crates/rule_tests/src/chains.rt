@@ -1,5 +1,5 @@
 //! Values are dropped once each, a list keeps its order, and a refused `reserve` leaves it as it
-//! was. Each `reserve` here may be refused: `tools/refused_memory.py --tests` refuses one request
+//! was. Each `reserve` here may be refused: `dev/refused_memory.py --tests` refuses one request
 //! for memory after the other.
 use chain_arena::{Chain, Knot};
 use std::alloc::Global;

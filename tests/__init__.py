@@ -1,0 +1,1 @@
+"""Tests of the command lazbendix: `sh tests/run.sh` runs them."""
