@@ -228,4 +228,5 @@ def main() -> None:
     sys.exit(bool(missing))
 
 
-main()
+if __name__ == "__main__":
+    main()
