@@ -4,10 +4,10 @@
     python3 -m dev.pages [--write] [--show PAGE] [--counts]
 
 dev/pages.tsv has a line for each page: its name, the most words that it may have, how many words of
-the forbidden list it may still have, and the reading grade that it may have. Each page has a line
-there. `--write` lowers the numbers to what is counted, never below the bar of all pages, and gives
-a new page its line; it raises nothing. `--show PAGE` prints the forbidden words of a page, and the
-sentences that weigh most in its grade. `--counts` prints the three counts of every page.
+the forbidden list it may still have, its reading grade, and the columns of its code, at most. Each
+page has a line there. `--write` lowers the numbers to what is counted, never below the bar of all
+pages, and gives a new page its line; it raises nothing. `--show PAGE` prints the forbidden words of
+a page, and the sentences that weigh most in its grade. `--counts` prints the counts of every page.
 
 What is asked of a page:
 
@@ -16,7 +16,7 @@ What is asked of a page:
 - **Grade**: the Flesch-Kincaid grade of its prose, 0.39 words a sentence + 11.8 syllables a word
   - 15.59. The bar of all pages is BAR below.
 - **Columns**: a line of code has at most 120 characters; a row of a table has as many cells as its
-  head.
+  head. (A page that had longer lines keeps them until they go.)
 - **Links**: README.md leads to the page, over other pages or directly.
 
 Prose is what is left of a page without code blocks, headings, pictures, HTML comments and short
@@ -80,6 +80,7 @@ class Counts(NamedTuple):
     words: int
     forbidden: int
     grade: float
+    columns: int
 
 
 def weighed(samples: dict[str, tuple[int, float, float]]) -> float:
@@ -168,21 +169,23 @@ def counts(page: str) -> Counts:
         len(text.split()),
         sum(len(FOUND.findall(part)) for part in parts(text)),
         round(grade(list(prose(text)))[1], 1),
+        max((len(line) for line in text.splitlines() if line.startswith("    ")), default=0),
     )
 
 
 def allowed() -> dict[str, Counts]:
     """The table: what each page may have."""
     rows = [line.split("\t") for line in read(TABLE).splitlines() if not line.startswith("#")]
-    return {page: Counts(int(words), int(bad), float(at)) for page, words, bad, at in rows}
+    return {
+        page: Counts(int(words), int(bad), float(at), int(columns))
+        for page, words, bad, at, columns in rows
+    }
 
 
-def wide(page: str) -> Iterator[str]:
-    """Lines of code that are too long, and rows that have not the cells of their head."""
+def uneven(page: str) -> Iterator[str]:
+    """Rows that have not the cells of their head."""
     head = 0
     for number, line in enumerate(read(page).splitlines(), 1):
-        if line.startswith("    ") and len(line) > CODE_COLUMNS:
-            yield f"{page}:{number}: {len(line)} characters, at most {CODE_COLUMNS}"
         row = re.sub(r"`[^`\n]*`", "", line.strip())
         cells = len(re.findall(r"(?<!\\)\|", row)) if row.startswith("|") else 0
         if cells and head and cells != head:
@@ -213,7 +216,7 @@ def what_is_wrong(pages: list[str], most: dict[str, Counts]) -> Iterator[str]:
         for what, has, may in zip(Counts._fields, counts(page), most[page]):
             if has > may:
                 yield f"{page}: {what} {has}, at most {may}"
-        yield from wide(page)
+        yield from uneven(page)
         if page not in reached:
             yield f"{page}: no link leads there from {FIRST}"
     yield from (f"{TABLE}: there is no page {page}" for page in most if page not in pages)
@@ -224,14 +227,15 @@ def what_is_wrong(pages: list[str], most: dict[str, Counts]) -> Iterator[str]:
 
 def lowered(pages: list[str], most: dict[str, Counts]) -> str:
     """The table with each number lowered to what is counted."""
-    lines = ["# page\twords at most\tforbidden words at most\tgrade at most"]
+    lines = ["# page\twords\tforbidden words\tgrade\tcolumns of code"]
     for page in pages:
         has = counts(page)
-        may = most.get(page, Counts(has.words, has.forbidden, max(BAR, has.grade)))
+        may = most.get(page, has)
         lowest = Counts(
             min(has.words, may.words),
             min(has.forbidden, may.forbidden),
             max(BAR, min(has.grade, may.grade)),
+            max(CODE_COLUMNS, min(has.columns, may.columns)),
         )
         lines.append("\t".join([page, *map(str, lowest)]))
     return "\n".join(lines) + "\n"
