@@ -43,6 +43,7 @@ tries() {
 pages_and_tools() {
     said=$room/said-of-pages
     tries "what a page names" python3 -m dev.check_pages
+    tries "the bars of the pages" python3 -m dev.pages
     tries "what crosses crates in proofs" python3 -m dev.check_cited
     tries "what the tools tell of days" python3 -m dev.check_days 40
     tries "what explain tells of mistakes" python3 -m dev.check_explain 20
