@@ -3,11 +3,14 @@
 
     python3 -m dev.pages [--write] [--show PAGE] [--counts]
 
-dev/pages.tsv has a line for each page: its name, the most words that it may have, how many words of
-the forbidden list it may still have, its reading grade, and the columns of its code, at most. Each
-page has a line there. `--write` lowers the numbers to what is counted, never below the bar of all
-pages, and gives a new page its line; it raises nothing. `--show PAGE` prints the forbidden words of
-a page, and the sentences that weigh most in its grade. `--counts` prints the counts of every page.
+dev/pages.tsv has a line for each page: its name, the most words that it may have, how many words
+of the forbidden list it may still have, its reading grade, and the columns of its code, at most;
+and a line for all pages of docs and crates with README.md together. `--write` lowers the numbers,
+of words to a tenth more than is counted, the others to what is counted but never below the bar of
+all pages; it gives a new page its line, drops that of a page that is gone, and raises nothing. (To
+raise a number, change it, or take the line out and write it anew; the commit says why.) `--show
+PAGE` prints the forbidden words of a page, and the sentences that weigh most in its grade.
+`--counts` prints the counts of every page.
 
 What is asked of a page:
 
@@ -38,6 +41,7 @@ from typing import NamedTuple
 from dev.check_pages import PAGES, files_of, read
 
 TABLE = "dev/pages.tsv"
+ALL = "docs and crates"
 FIRST = "README.md"
 CODE_COLUMNS = 120
 CELL = 10
@@ -182,6 +186,12 @@ def allowed() -> dict[str, Counts]:
     }
 
 
+def words_in_all(pages: list[str]) -> int:
+    """The words of docs and crates, and of README.md."""
+    counted = [page for page in pages if page == FIRST or page.startswith(("docs/", "crates/"))]
+    return sum(counts(page).words for page in counted)
+
+
 def uneven(page: str) -> Iterator[str]:
     """Rows that have not the cells of their head."""
     head = 0
@@ -208,7 +218,9 @@ def led_to(first: str) -> set[str]:
 
 
 def what_is_wrong(pages: list[str], most: dict[str, Counts]) -> Iterator[str]:
-    reached = led_to(FIRST)
+    reached, words = led_to(FIRST), words_in_all(pages)
+    if words > most[ALL].words:
+        yield f"{ALL}: words {words}, at most {most[ALL].words}"
     for page in pages:
         if page not in most:
             yield f"{page}: has no line in {TABLE} (python3 -m dev.pages --write)"
@@ -219,17 +231,23 @@ def what_is_wrong(pages: list[str], most: dict[str, Counts]) -> Iterator[str]:
         yield from uneven(page)
         if page not in reached:
             yield f"{page}: no link leads there from {FIRST}"
-    yield from (f"{TABLE}: there is no page {page}" for page in most if page not in pages)
+    yield from (f"{TABLE}: there is no page {page}" for page in most if page not in [*pages, ALL])
 
 
 # -- Writing
 
 
+def a_tenth_more(words: int) -> int:
+    return -(-words * 11 // 100) * 10
+
+
 def lowered(pages: list[str], most: dict[str, Counts]) -> str:
-    """The table with each number lowered to what is counted."""
+    """The table with its numbers lowered."""
+    words = words_in_all(pages)
     lines = ["# page\twords\tforbidden words\tgrade\tcolumns of code"]
+    lines.append(f"{ALL}\t{min(words, most[ALL].words if ALL in most else words)}\t0\t0\t0")
     for page in pages:
-        has = counts(page)
+        has = counts(page)._replace(words=a_tenth_more(counts(page).words))
         may = most.get(page, has)
         lowest = Counts(
             min(has.words, may.words),

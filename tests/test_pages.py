@@ -30,6 +30,15 @@ class Counting(unittest.TestCase):
         self.assertEqual(found, ["stands", "behind", "is no"])
 
 
+class Bars(unittest.TestCase):
+    def test_numbers_are_only_lowered(self) -> None:
+        self.assertEqual([pages.a_tenth_more(it) for it in (100, 101, 0)], [110, 120, 0])
+        page = "SECURITY.md"
+        low = pages.Counts(1, 0, pages.BAR, pages.CODE_COLUMNS)
+        row = pages.lowered([page], {pages.ALL: low, page: low}).splitlines()[-1]
+        self.assertEqual(row.split("\t")[:3], [page, "1", "0"])
+
+
 class Pages(unittest.TestCase):
     def test_links_and_rows(self) -> None:
         with tempfile.TemporaryDirectory() as room:
