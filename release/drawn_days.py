@@ -1,7 +1,6 @@
-#!/usr/bin/env python3
 """Plays drawn days on two machines, and compares what they write, byte for byte.
 
-    release/drawn_days.py N ARCHIVE OTHER [--seed S] [--jobs J]
+    python3 -m release.drawn_days N ARCHIVE OTHER [--seed S] [--jobs J]
 
 ARCHIVE is an unpacked archive for this machine, OTHER one for aarch64, whose programs
 qemu-aarch64-static runs. Each of N days is replayed by both static programs, with a trace, in one
@@ -18,10 +17,8 @@ import sys
 import tempfile
 from concurrent.futures import ThreadPoolExecutor
 
-ROOT = os.path.dirname(os.path.dirname(os.path.realpath(__file__)))
-sys.path.insert(0, ROOT)
-
-from reference import days  # noqa: E402
+from reference import days
+from release.machines import ROOT
 
 MODES = [
     ("ev", "fcfs"),

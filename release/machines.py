@@ -8,12 +8,14 @@ has for x86-64 alone (start files, C library) comes from Debian's packages of th
 which `apt-get download` fetches into a folder; nothing is installed.
 """
 import hashlib
-import importlib.util
 import os
 import re
 import shutil
 import subprocess
+from collections.abc import Callable
 from typing import Any, NamedTuple
+
+from dev import unproved_build
 
 HERE = os.path.dirname(os.path.realpath(__file__))
 ROOT = os.path.dirname(HERE)
@@ -133,17 +135,7 @@ class Debian:
         return found
 
 
-# -- The kit
-
-
-def unproved_build() -> Any:
-    """The module of the repository that builds without proving; it has the kit and rtlib too."""
-    path = f"{ROOT}/dev/unproved_build.py"
-    spec = importlib.util.spec_from_file_location("unproved_build", path)
-    assert spec and spec.loader
-    made = importlib.util.module_from_spec(spec)
-    spec.loader.exec_module(made)
-    return made
+# -- The parts
 
 
 class Parts:
@@ -151,8 +143,7 @@ class Parts:
 
     def __init__(self, room: str, debian: str, unproved: bool) -> None:
         self.room, self.debian, self.unproved = room, debian, unproved
-        self.build = unproved_build()
-        self.kit: str = self.build.KIT
+        self.kit: str = unproved_build.KIT
         self.verdicts: dict[str, str] = {}  # of each compilation, the last line of rattle
         os.makedirs(room, exist_ok=True)
 
@@ -275,7 +266,7 @@ class Parts:
 
     def proved(self, name: str, machine: Machine, tools: str, made: str, cpu: str) -> None:
         """Has rattle prove a crate over the libraries below it, and compile what it proved."""
-        crate = self.build.crate_of(name)
+        crate = unproved_build.crate_of(name)
         lacking = [it.name for it in crate.below() if not it.is_built()]
         if lacking:
             raise NotMade(
@@ -342,35 +333,35 @@ class Parts:
         """The module of the program, with checks, as text."""
         return self.caught(
             PROGRAM,
-            lambda own: self.build.catch_module(
-                self.build.crate_of(PROGRAM),
+            lambda own: unproved_build.catch_module(
+                unproved_build.crate_of(PROGRAM),
                 ["src/main.rt"],
-                self.build.crate_of(PROGRAM).folder,
+                unproved_build.crate_of(PROGRAM).folder,
                 own,
             ),
         )
 
     def module_of_library(self) -> str:
         """The module of the library, with checks, as text, its calls seen from outside."""
-        crate = self.build.crate_of(LIBRARY)
-        calls = self.build.calls_of(f"{crate.folder}/src")
+        crate = unproved_build.crate_of(LIBRARY)
+        calls = unproved_build.calls_of(f"{crate.folder}/src")
 
         def catch(own: str) -> None:
             shutil.copytree(f"{crate.folder}/src", f"{own}/src")
             with open(f"{own}/src/lib.rt", encoding="utf-8") as it:
-                text = it.read() + self.build.main_of(calls)
+                text = it.read() + unproved_build.main_of(calls)
             os.remove(f"{own}/src/lib.rt")
             with open(f"{own}/src/main.rt", "w", encoding="utf-8") as it:
                 it.write(text)
-            self.build.catch_module(crate, ["src/main.rt"], own, own)
+            unproved_build.catch_module(crate, ["src/main.rt"], own, own)
 
         module = self.caught(LIBRARY, catch)
         shown = module.replace(".ll", "-shown.ll")
         if not os.path.exists(shown):
-            self.build.show(calls, module, shown)
+            unproved_build.show(calls, module, shown)
         return shown
 
-    def caught(self, name: str, catch: Any) -> str:
+    def caught(self, name: str, catch: Callable[[str], None]) -> str:
         own = f"{self.room}/unproved-{name}"
         module = f"{own}/module.ll"
         if not os.path.exists(module):
@@ -378,7 +369,7 @@ class Parts:
             os.makedirs(own)
             catch(own)
             words = [
-                self.build.X64,
+                unproved_build.X64,
                 "-S",
                 "-emit-llvm",
                 "-Xclang",
@@ -396,7 +387,7 @@ class Parts:
             with open(module, encoding="utf-8") as lines, open(other, "w", encoding="utf-8") as out:
                 out.writelines(moved(line, machine) for line in lines)
             module = other
-        flags = [it for it in self.build.COMPILED if not it.startswith("-march=")]
+        flags = [it for it in unproved_build.COMPILED if not it.startswith("-march=")]
         words = [f"--target={machine.target}", f"--sysroot={tools}", *machine.clang, *flags]
         self.clang([*words, module, "-o", made, position])
 

@@ -1,8 +1,7 @@
-#!/usr/bin/env python3
 """Makes the packages of a release, from a proved tree, each twice: they have to be the same bytes.
 
-    release/make.py FOLDER --log LOG [--trial]
-    release/make.py FOLDER --unproved
+    python3 -m release.make FOLDER --log LOG [--trial]
+    python3 -m release.make FOLDER --unproved
 
 LOG is what `rt ci --anew` printed in this tree; `python3 -m dev.proved_libraries` then set the
 marks by which rattle takes what the gate left. Into FOLDER come, for x86-64 and aarch64,
@@ -33,10 +32,10 @@ import sys
 import tempfile
 from concurrent.futures import ThreadPoolExecutor
 
-import certificate
-from certificate import Refused
-from machines import MACHINES, ROOT, Debian, NotMade, Parts, sum_of, version
-from packages import Release, make_all
+from release import certificate
+from release.certificate import Refused
+from release.machines import MACHINES, ROOT, Debian, NotMade, Parts, sum_of, version
+from release.packages import Release, make_all
 
 LICENCES = ("LICENSE", "LICENCE", "LICENSE.md", "LICENSE.txt", "COPYING")
 

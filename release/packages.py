@@ -15,7 +15,7 @@ import tomllib
 import zipfile
 from dataclasses import dataclass, field
 
-from machines import HERE, MACHINES, PROGRAM, ROOT, Machine, NotMade, run
+from release.machines import HERE, MACHINES, PROGRAM, ROOT, Machine, NotMade, run
 
 SHORT = "Plays days of a smart home through a proved hub, and shows what came of them"
 WHEELS = "manylinux_2_17_{0}.manylinux2014_{0}.musllinux_1_1_{0}"

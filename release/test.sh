@@ -53,7 +53,7 @@ roots=$(cd "$roots" && pwd)
 if [ -z "$packages" ]; then
     say "packages of an unproved build"
     packages=$room/packages
-    tries "make.py" python3 "$here/make.py" "$packages" --unproved --debian "$roots/debian" --parts "$room/parts"
+    tries "make.py" env PYTHONPATH="$top" python3 -m release.make "$packages" --unproved --debian "$roots/debian" --parts "$room/parts"
 fi
 packages=$(cd "$packages" && pwd)
 one() { # PATTERN: the one package of that name
@@ -92,7 +92,7 @@ case $state:$got in
 proved:0 | UNPROVED:2) ;;
 *) cat "$said" >&2 && fail "verify.sh ended with $got, and the certificate says $state" ;;
 esac
-tries "what is refused of logs and certificates" python3 "$here/test_certificate.py"
+tries "what is refused of logs and certificates" env PYTHONPATH="$top" python3 -m unittest release.test_certificate
 
 for machine in x86_64 aarch64; do
     case $machine in
@@ -236,6 +236,6 @@ else
 fi
 
 say "$days drawn days, the two machines side by side"
-tries "drawn days" python3 "$here/drawn_days.py" "$days" "$room/x86_64"/lazbendix-* "$room/aarch64"/lazbendix-*
+tries "drawn days" env PYTHONPATH="$top" python3 -m release.drawn_days "$days" "$room/x86_64"/lazbendix-* "$room/aarch64"/lazbendix-*
 cat "$said"
 say "all as wanted"

@@ -1,7 +1,6 @@
-#!/usr/bin/env python3
 """Shows what is refused: forged and partial logs of the gate, altered certificates and sources.
 
-    python3 release/test_certificate.py
+    python3 -m unittest release.test_certificate
 """
 import os
 import subprocess
@@ -9,12 +8,9 @@ import sys
 import tempfile
 import unittest
 
-HERE = os.path.dirname(os.path.realpath(__file__))
-ROOT = os.path.dirname(HERE)
-sys.path.insert(0, HERE)
-
-import certificate  # noqa: E402
-from certificate import Refused  # noqa: E402
+from release import certificate
+from release.certificate import Refused
+from release.machines import HERE, ROOT, sum_of
 
 LOGIC = "dac8208d650f15bf" + "0" * 48
 OK = f"rt: ok; handles allowed: none; {certificate.ANEW}"
@@ -85,8 +81,15 @@ class Logs(unittest.TestCase):
 
     def test_a_count_without_names_is_refused(self) -> None:
         self.refused(
-            log_of(["one", "two"]).replace("fn two::call: proved\n", ""), "names no function of two"
+            log_of(["one", "two"]).replace("fn two::call: proved\n", ""), "names 0 functions of two"
         )
+
+    def test_links_of_long_names(self) -> None:
+        """As rattle has them: the path up to 64 letters, and else the name's checksum."""
+        self.assertEqual(certificate.link_of("a::fn::b+FnOnce::call"), "a-fn-b+FnOnce-call")
+        long = "lock_leasing::touches::fn::first_holder::first_before+FnOnce::call_once"
+        digest = "7ac29d1c9906f9af8cb0158d81840bffd42c6a88c0f7ed6c039e687fa98a583a"
+        self.assertEqual(certificate.link_of(long), f"fn-{digest}")
 
     def test_too_few_that_passed_is_refused(self) -> None:
         self.refused(log_of(["one", "two"], last="1 passed, 0 failed"), "there are 2 crates")
@@ -104,7 +107,8 @@ class Releases(unittest.TestCase):
     def refused(self, why: str, *words: str) -> None:
         made = f"{self.room.name}/made"
         ran = subprocess.run(
-            [sys.executable, f"{self.tree}/release/make.py", made, *words],
+            [sys.executable, "-m", "release.make", made, *words],
+            cwd=self.tree,
             capture_output=True,
             text=True,
         )
@@ -141,7 +145,7 @@ class Releases(unittest.TestCase):
         crates = certificate.crates_of(self.tree)
         lines = ["lazbendix-certificate 1", "version 1.2.3", "commit x", "state proved"]
         lines += [f"logic {LOGIC}", f"handles {certificate.handles_of(self.tree)}"]
-        lines += [f"tree crates.txt {certificate.sum_of(f'{self.tree}/crates.txt')}"]
+        lines += [f"tree crates.txt {sum_of(f'{self.tree}/crates.txt')}"]
         for it in crates:
             lines += [
                 f"crate {it} sources={certificate.sources_sum(it, self.tree)} code=- functions=1",
