@@ -308,6 +308,10 @@ class Parts:
         if os.path.exists(archive):
             os.remove(archive)
         run([f"{self.kit}/toolchain/bin/llvm-ar", "rcsD", archive, *objects], work)
+        self.link_shared(tools, at)
+
+    def link_shared(self, tools: str, at: str) -> None:
+        """Links the shared objects of the archive that is there."""
         major = version().split(".")[0]
         shown = f"{at}/work/shown.map"
         with open(shown, "w", encoding="utf-8") as out:
@@ -320,12 +324,28 @@ class Parts:
             "--strip-debug",
             *HARDENED,
         ]
-        whole = ["--whole-archive", archive, "--no-whole-archive"]
+        whole = ["--whole-archive", f"{at}/liblazbendix.a", "--no-whole-archive"]
         glibc = [f"{tools}/lib/libc.so.6", f"{tools}/lib/libc_nonshared.a"]
         self.linker(
             [*words, "--no-undefined", *whole, *glibc, "-o", f"{at}/liblazbendix.so.{major}"]
         )
         self.linker([*words, *whole, "-o", f"{at}/liblazbendix.so"])
+
+    # -- What the gate left
+
+    def take_built(self) -> str:
+        """Takes the program that the gate left, and the library of library/build.sh, for x86-64,
+        and returns their folder. There is no static program: the other stands in its place."""
+        at = f"{self.room}/x86_64"
+        os.makedirs(f"{at}/work", exist_ok=True)
+        left = f"{ROOT}/crates/{PROGRAM}/out/{PROGRAM}", f"{ROOT}/library/out/liblazbendix.a"
+        for path in left:
+            if not os.path.isfile(path):
+                raise NotMade(f"there is no {path} (rt ci, then library/build.sh)")
+        for path, name in zip((left[0], *left), (f"{PROGRAM}-static", PROGRAM, "liblazbendix.a")):
+            shutil.copy(path, f"{at}/{name}")
+        self.link_shared(f"{self.kit}/toolchain", at)
+        return at
 
     # -- What is not proved
 

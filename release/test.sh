@@ -2,22 +2,28 @@
 # Installs the packages of a folder into clean places, for x86-64 and aarch64, and uses them.
 #
 #     release/test.sh [PACKAGES] [--roots FOLDER] [--days N]
+#     release/test.sh --built
 #
 # With no PACKAGES it makes them of an unproved build, compiled once and packed twice. FOLDER keeps what debootstrap and
 # apt-get fetched. N drawn days, 60 where none is said, are played by both machines' programs and libraries. It wants
 # root, debootstrap, gcc for both machines, qemu-user-static, cmake, pkg-config and musl-gcc, and has apt-get install
-# what is not there; the crate is tried where cargo is. It ends with another status than 0 at the first thing that is not
-# as wanted.
+# what is not there; the crate is tried where cargo is.
+#
+# With --built the packages are those for x86-64 of what the gate and library/build.sh left, packed twice. They are
+# unpacked, and not installed; nothing is fetched; cmake and pkg-config are asked where they are there.
+#
+# It ends with another status than 0 at the first thing that is not as wanted.
 set -eu
 here=$(cd "$(dirname "$0")" && pwd)
 top=$(dirname "$here")
 LC_ALL=C PYTHONDONTWRITEBYTECODE=1
 export LC_ALL PYTHONDONTWRITEBYTECODE
-packages='' roots='' days=60
+packages='' roots='' days=60 built='' machines='x86_64 aarch64'
 while [ $# -gt 0 ]; do
     case $1 in
     --roots) roots=$2 && shift ;;
     --days) days=$2 && shift ;;
+    --built) built=1 machines=x86_64 ;;
     *) packages=$1 ;;
     esac
     shift
@@ -39,18 +45,24 @@ tries() {
     tail -n 20 "$said" >&2
     fail "$what is not as wanted"
 }
+has() { command -v "$1" >/dev/null || { say "$1 is not there" && return 1; }; }
 wanted=''
-for pair in qemu-aarch64-static:qemu-user-static aarch64-linux-gnu-gcc:gcc-aarch64-linux-gnu gcc:gcc \
+[ -n "$built" ] || for pair in qemu-aarch64-static:qemu-user-static aarch64-linux-gnu-gcc:gcc-aarch64-linux-gnu gcc:gcc \
     debootstrap:debootstrap cmake:cmake pkg-config:pkg-config musl-gcc:musl-tools unshare:util-linux; do
     command -v "${pair%%:*}" >/dev/null || wanted="$wanted ${pair#*:}"
 done
+[ -n "$built" ] || [ -f /usr/aarch64-linux-gnu/include/stdint.h ] || wanted="$wanted libc6-dev-arm64-cross"
 # shellcheck disable=SC2086
 [ -z "$wanted" ] || timeout 300 apt-get install -y --no-install-recommends $wanted >"$said" 2>&1 ||
     fail "these are not there, and cannot be installed:$wanted"
 [ -n "$roots" ] || roots=$room/roots
 mkdir -p "$roots"
 roots=$(cd "$roots" && pwd)
-if [ -z "$packages" ]; then
+if [ -n "$built" ]; then
+    say "packages of what the gate left"
+    packages=$room/packages
+    tries "make.py" env PYTHONPATH="$top" python3 -m release.make "$packages" --built
+elif [ -z "$packages" ]; then
     say "packages of an unproved build"
     packages=$room/packages
     tries "make.py" env PYTHONPATH="$top" python3 -m release.make "$packages" --unproved --debian "$roots/debian" --parts "$room/parts"
@@ -83,6 +95,22 @@ plays() {
     done
 }
 
+# unpacked FOLDER: the command of the Debian package that is unpacked there, and of the wheel, play README's day
+unpacked() {
+    plays "the program of the Debian package" "$1/deb/usr/libexec/lazbendix/hub_main"
+    say "x86_64: the wheel"
+    tries "pip" python3 -m pip install --no-index --no-deps --target "$1/wheel" "$(one 'lazbendix-*manylinux*.whl')"
+    for python in "$1/deb/usr/lib/python3/dist-packages" "$1/wheel"; do
+        for day in one-light leaving; do
+            (cd "$1" && PYTHONPATH=$python python3 -m lazbendix replay --trace "$top/examples/$day.json") >"$room/wrote" ||
+                fail "the command of $python ended with $?"
+            grep -v '^#' "$room/wrote" >"$room/lines"
+            grep -v '^#' "$top/examples/$day.record" | cmp - "$room/lines" || fail "$python has another record of $day"
+        done
+        PYTHONPATH=$python python3 -c 'from lazbendix import Hub; print(Hub)' >"$said" || fail "there is no Hub in $python"
+    done
+}
+
 say "the certificate"
 certificate=$(one certificate)
 state=$(sed -n 's/^state //p' "$certificate")
@@ -94,7 +122,7 @@ proved:0 | UNPROVED:2) ;;
 esac
 tries "what is refused of logs and certificates" env PYTHONPATH="$top" python3 -m unittest release.test_certificate
 
-for machine in x86_64 aarch64; do
+for machine in $machines; do
     case $machine in
     x86_64) debian=amd64 runner=natively cc=gcc qemu='' ;;
     *) debian=arm64 runner=foreign cc=aarch64-linux-gnu-gcc qemu=qemu-aarch64-static ;;
@@ -112,9 +140,13 @@ for machine in x86_64 aarch64; do
     # (the library of the packages for a C program: by pkg-config, and by CMake)
     cp "$top/library/examples/window.c" "$own/window.c"
     sed -i 's,"../lazbendix.h",<lazbendix.h>,' "$own/window.c"
-    flags=$(PKG_CONFIG_PATH=$at/lib/pkgconfig pkg-config --cflags --libs lazbendix)
-    # shellcheck disable=SC2086
-    tries "$cc by pkg-config" $cc "$own/window.c" $flags -Wl,-rpath,"$at/lib" -o "$own/window"
+    programs=''
+    if has pkg-config; then
+        flags=$(PKG_CONFIG_PATH=$at/lib/pkgconfig pkg-config --cflags --libs lazbendix)
+        # shellcheck disable=SC2086
+        tries "$cc by pkg-config" $cc "$own/window.c" $flags -Wl,-rpath,"$at/lib" -o "$own/window"
+        programs=$own/window
+    fi
     cat >"$own/CMakeLists.txt" <<'END'
 cmake_minimum_required(VERSION 3.13)
 project(uses C)
@@ -124,11 +156,14 @@ target_link_libraries(by_shared PRIVATE lazbendix::lazbendix)
 add_executable(by_static window.c)
 target_link_libraries(by_static PRIVATE lazbendix::static)
 END
-    tries "CMake's find_package" cmake -S "$own" -B "$own/build" -DCMAKE_C_COMPILER=$cc -DCMAKE_PREFIX_PATH="$at" \
-        -DCMAKE_SYSTEM_NAME=Linux -DCMAKE_FIND_ROOT_PATH="$at"
-    tries "CMake's build" cmake --build "$own/build"
+    if has cmake; then
+        tries "CMake's find_package" cmake -S "$own" -B "$own/build" -DCMAKE_C_COMPILER=$cc -DCMAKE_PREFIX_PATH="$at" \
+            -DCMAKE_SYSTEM_NAME=Linux -DCMAKE_FIND_ROOT_PATH="$at"
+        tries "CMake's build" cmake --build "$own/build"
+        programs="$programs $own/build/by_shared $own/build/by_static"
+    fi
     record=$room/window.record
-    for program in "$own/window" "$own/build/by_shared" "$own/build/by_static"; do
+    for program in $programs; do
         # shellcheck disable=SC2086
         ${qemu:+$qemu -L /usr/aarch64-linux-gnu} "$program" <"$top/examples/leaving.json" >"$room/wrote" ||
             fail "$program ended with $?"
@@ -140,6 +175,11 @@ END
     [ -z "$(echo "$shown" | grep -v '^lazbendix_\|^LAZBENDIX_')" ] || fail "the shared object shows other names: $shown"
 
     say "$machine: the Debian package"
+    dpkg-deb -x "$(one "lazbendix_*_$debian.deb")" "$own/deb"
+    if [ -n "$built" ]; then
+        unpacked "$own"
+        continue
+    fi
     root=$roots/$debian-$machine
     if [ ! -x "$root/usr/bin/python3" ]; then
         rm -rf "$root"
@@ -165,7 +205,6 @@ test -s /usr/share/man/man1/lazbendix.1.gz
 dpkg --force-depends -r lazbendix >said 2>&1
 test ! -e /usr/bin/lazbendix
 END
-    dpkg-deb -x "$root/tmp/day/lazbendix.deb" "$own/deb"
     # (the Python of another machine is slow)
     if "$runner" true 2>/dev/null; then
         FEW=$qemu "$runner" chroot "$root" /bin/sh /tmp/day/try.sh >"$room/wrote" 2>"$said" ||
@@ -175,7 +214,8 @@ END
         say "this kernel runs no program of $machine in a root: that of the Debian package is tried, its installation not"
     fi
     # shellcheck disable=SC2086
-    plays "the program of the Debian package for $debian" ${qemu:+$qemu -L "$root"} "$own/deb/usr/libexec/lazbendix/hub_main"
+    plays "the program of the Debian package for $debian" ${qemu:+$qemu -L "$root"} \
+        "$own/deb/usr/libexec/lazbendix/hub_main"
     flags=$(PKG_CONFIG_PATH=$own/deb/usr/lib/$machine-linux-gnu/pkgconfig pkg-config --cflags --libs lazbendix)
     # shellcheck disable=SC2086
     tries "$cc by the Debian package's pkg-config" $cc "$own/window.c" $flags -o "$own/window-deb"
@@ -199,12 +239,14 @@ sys.exit(subprocess.run([sys.executable, "-m", "lazbendix", "replay", "/tmp/day/
     cmp "$room/wrote" "$top/examples/one-light.record" || fail "the wheel's lazbendix has another record"
 done
 
-say "musl: the wheel's library, by a C program"
-library=$room/x86_64/musllinux_1_1_x86_64/lazbendix/liblazbendix.so
-tries "musl-gcc" musl-gcc -I "$top/library" "$room/x86_64/window.c" "$library" \
-    -Wl,-rpath,"$room/x86_64" -o "$room/x86_64/window-musl"
-cp "$library" "$room/x86_64/liblazbendix.so.1"
-"$room/x86_64/window-musl" <"$top/examples/leaving.json" | cmp - "$room/window.record" || fail "the library under musl"
+if [ -z "$built" ]; then
+    say "musl: the wheel's library, by a C program"
+    library=$room/x86_64/musllinux_1_1_x86_64/lazbendix/liblazbendix.so
+    tries "musl-gcc" musl-gcc -I "$top/library" "$room/x86_64/window.c" "$library" \
+        -Wl,-rpath,"$room/x86_64" -o "$room/x86_64/window-musl"
+    cp "$library" "$room/x86_64/liblazbendix.so.1"
+    "$room/x86_64/window-musl" <"$top/examples/leaving.json" | cmp - "$room/window.record" || fail "the library under musl"
+fi
 
 if command -v cargo >/dev/null; then
     say "the crate"
@@ -235,6 +277,7 @@ else
     say "cargo is not there: the crate was not tried"
 fi
 
+[ -z "$built" ] || { say "all as wanted" && exit; }
 say "$days drawn days, the two machines side by side"
 tries "drawn days" env PYTHONPATH="$top" python3 -m release.drawn_days "$days" "$room/x86_64"/lazbendix-* "$room/aarch64"/lazbendix-*
 cat "$said"
