@@ -86,8 +86,10 @@ def release_of(given: argparse.Namespace, room: str) -> Release:
             raise Refused(f"files are changed or new since commit {commit[:12]}: {changed}")
         if not os.path.isfile(given.log):
             raise Refused(f"there is no log at {given.log} (rt ci --anew >{given.log} 2>&1)")
-        if os.path.getmtime(given.log) < moment:
-            raise Refused(f"the gate's log is older than commit {commit[:12]}")
+        proved = git("log", "-1", "--format=%ct %H", "--", "crates", "crates.txt", "HANDLES")
+        if os.path.getmtime(given.log) < int(proved.split()[0]):
+            changed = proved.split()[1][:12]
+            raise Refused(f"the gate's log is older than commit {changed}, which changes crates")
     mark = "unproved" if given.unproved else "trial" if given.trial or given.built else ""
     files = git("ls-files").split("\n")
     return Release(of, mark, commit, moment, os.path.realpath(given.folder), room, licence, files)
