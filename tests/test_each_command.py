@@ -63,6 +63,14 @@ class EachCommand(unittest.TestCase):
                 self.assertIn(b"\nexamples:\n", asked.stdout)
                 self.assertEqual((named.returncode, named.stdout), (0, asked.stdout))
 
+    def test_version(self) -> None:
+        wanted = self.call("version").stdout
+        self.assertTrue(wanted.startswith(b"lazbendix "))
+        for name in shells.commands_of(reader()):
+            with self.subTest(command=name):
+                call = self.call(name, "--version")
+                self.assertEqual((call.returncode, call.stdout, call.stderr), (0, wanted, b""))
+
     def test_other_words(self) -> None:
         for name in shells.commands_of(reader()):
             with self.subTest(command=name):
@@ -92,6 +100,25 @@ class EachCommand(unittest.TestCase):
         ):
             self.assertEqual((call.returncode, call.stdout, errors(call)), (0, b"agrees\n", ""))
 
+    def test_a_check_of_a_script_that_is_refused(self) -> None:
+        wrong = WHOLE.replace(b'"set"', b'"sett"')
+        call = self.call("check", "-", data=wrong)
+        self.assertEqual((call.returncode, call.stdout), (1, b""))
+        self.assertIn("script: shape command 1.1", errors(call))
+        self.assertIn('did you mean "set"?', errors(call))
+
+    def test_a_check_that_is_typed(self) -> None:
+        told, status = self.on_terminal("check", "-", typed=b"{\n%%\n\x04")
+        self.assertIn(b"Ctrl-D ends it", told)
+        self.assertIn(b"not json", told)
+        self.assertEqual(status, 1)
+
+    @unittest.skipUnless(HAS_PROGRAM, "doctor looks for the program")
+    def test_doctor_on_a_terminal(self) -> None:
+        piped, (told, status) = self.call("doctor"), self.on_terminal("doctor", NO_COLOR="1")
+        self.assertEqual((status, told), (piped.returncode, piped.stdout))
+        self.assertIn(b"\x1b[", self.on_terminal("doctor")[0])
+
     def test_those_without_a_day(self) -> None:
         for name, words in TAKE_NONE.items():
             with self.subTest(command=name):
@@ -118,13 +145,14 @@ class EachCommand(unittest.TestCase):
                 self.assertIn("script: shape command 1.1", told)
                 self.assertIn('did you mean "set"?', told)
 
-    def on_terminal(self, *words: str, typed: bytes = b"") -> tuple[bytes, int]:
+    def on_terminal(self, *words: str, typed: bytes = b"", **more: str) -> tuple[bytes, int]:
         """What a call writes whose three streams are a terminal, and its status."""
         child, terminal = pty.fork()
         if child == 0:
             os.chdir(self.folder)
             words = (sys.executable, "-m", "lazbendix", *words)
-            os.execve(sys.executable, words, environment(PYTHONPATH=os.path.realpath(PYTHON)))
+            more |= {"PYTHONPATH": os.path.realpath(PYTHON)}
+            os.execve(sys.executable, words, environment(**more))
         os.write(terminal, typed)
         told = bytearray()
         while True:
@@ -175,7 +203,8 @@ class EachCommand(unittest.TestCase):
 
     def test_a_reader_that_goes(self) -> None:
         with_days = {name: [*words, LIGHT] for name, words in TAKE_A_DAY.items()}
-        for name, words in {**with_days, **TAKE_NONE}.items():
+        others = {"check": ["check", LIGHT, example("one-light.record")], "doctor": ["doctor"]}
+        for name, words in {**with_days, **TAKE_NONE, **others}.items():
             with self.subTest(command=name):
                 reading, writing = os.pipe()
                 os.close(reading)

@@ -390,7 +390,7 @@ def asked_of(argv: list[str]) -> argparse.Namespace:
             f"; lazbendix replay {first} plays a day" if is_file(first) else near(first, commands)
         )
         raise OtherWords("lazbendix", f'there is no command "{first}"{advice}')
-    asked = top.parse_args(argv)
+    asked = top.parse_args(["--version"] if argv[1:] == ["--version"] else argv)
     if asked.version:
         asked.act = version
     elif asked.command is None:

@@ -126,7 +126,9 @@ class Maker:
             description=ABOUT,
             epilog="lazbendix COMMAND --help has examples. " + STATUSES,
         )
-        self.top.add_argument("--version", action="store_true", help="print the version")
+        self.top.add_argument(
+            "--version", action="store_true", help="print the version, also behind a command"
+        )
         self.commands: Any = self.top.add_subparsers(
             dest="command", metavar="COMMAND", parser_class=Reader
         )
