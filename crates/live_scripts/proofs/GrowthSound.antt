@@ -4,7 +4,7 @@ use Rattle.day_clock.specs.declared.times.When.{When}
 use Rattle.home_types.proofs.Cited.{snoc_get}
 use Rattle.home_types.specs.Listed.{Listed}
 use Rattle.home_types.specs.declared.numbers.RunNo.{RunNo}
-use Rattle.live_scripts.specs.Growth.{HasBegun, IsNewWindow, is_earlier, is_later_after, windows_before}
+use Rattle.live_scripts.specs.Growth.{HasBegun, IsNewWindow, is_earlier, is_later_after, new_run, windows_before}
 use Rattle.live_scripts.specs.declared.refusals.NotAdded.{NotAdded}
 use Rattle.live_scripts.specs.declared.refusals.NotBegun.{NotBegun}
 use Rattle.routine_reader.specs.Scripts.{PlainWindow, plain_routine, plain_script, plain_window}
@@ -162,7 +162,7 @@ both_true : (a b : Bool) → (a && b) ≡ true → (a ≡ true) × (b ≡ true)
 both_true true b is = (refl, is)
 both_true false b is = absurd (cc)
 
-earlier_is : (follows : Option RunNo) (n : ℕ) → is_earlier follows n ≡ true → IfSome follows (λ followed. (1 ≤ followed.0) × (followed.0 ≤ n))
+pub earlier_is : (follows : Option RunNo) (n : ℕ) → is_earlier follows n ≡ true → IfSome follows (λ followed. (1 ≤ followed.0) × (followed.0 ≤ n))
 earlier_is None n is = tt
 earlier_is (Some run) n is = let both = both_true (nat_le 1 run.0) (nat_le run.0 n) is in (at_most 1 run.0 both.0, at_most run.0 n both.1)
   where
@@ -280,11 +280,11 @@ same_windows script windows items sound = record {
 -- a run was added to the last window, or none was
 pub run_or_same : (script : Script) (windows popped : Listed WindowText) (was now : WindowText) (routine : ℕ) (follows : Option RunNo) (result : Result RunNo NotAdded) → IsSound (plain_script script)
     → routine < length script.routines.items → script.windows.items ≡ popped.items ++ was ∷ [] → windows.items ≡ popped.items ++ now ∷ []
-    → IfOk result (λ r. now.runs.items ≡ was.runs.items ++ record { routine = routine; follows = follows } ∷ []) → IfOk result (λ r. length was.runs.items < 64)
-    → IfOk result (λ r. is_earlier follows (length was.runs.items) ≡ true) → IfOk result (λ r. now ≡ record was { runs = now.runs }) → IfErr result (λ why. now ≡ was)
+    → IfOk result (λ r. now.runs.items ≡ was.runs.items ++ new_run routine follows ∷ []) → (length was.runs.items < 64) × (is_earlier follows (length was.runs.items) ≡ true)
+    → IfOk result (λ r. now ≡ record was { runs = now.runs }) → IfErr result (λ why. now ≡ was)
     → IsSound (plain_script (record script { windows = windows }))
-run_or_same script windows popped was now routine follows (Ok r) sound known before after appended few earlier rest same =
-    run_grows script windows popped.items was now (record { routine = routine; follows = follows }) sound before after rest appended few known earlier
-run_or_same script windows popped was now routine follows (Err why) sound known before after appended few earlier rest same =
+run_or_same script windows popped was now routine follows (Ok r) sound known before after appended may rest same =
+    run_grows script windows popped.items was now (new_run routine follows) sound before after rest appended may.0 known may.1
+run_or_same script windows popped was now routine follows (Err why) sound known before after appended may rest same =
     let items : windows.items ≡ script.windows.items = after ∙ ap (λ w. popped.items ++ w ∷ []) same ∙ sym before in
     same_windows script windows items sound

@@ -1,2 +1,4 @@
+pub mod Cited
+mod GrownRuns
 mod GrowthSound
 mod Refusing

@@ -1,16 +1,14 @@
--- What refuses a run of the last window refuses one of the script.
+-- What is against a run of the last window is against one of the script.
 use Rattle.home_types.specs.declared.numbers.RunNo.{RunNo}
-use Rattle.live_scripts.specs.Growth.{CannotAdd, CannotAppend, first_against_run, first_in_last, first_in_window}
-use Rattle.live_scripts.specs.declared.refusals.NotAdded.TheVariants.{NoMemory, NoRoutine}
-use Rattle.live_scripts.specs.Reasons.{IsRefusedFor}
-use Rattle.live_scripts.specs.declared.refusals.NotAdded.{NotAdded}
+use Rattle.live_scripts.specs.Growth.{HasRoomForRun, first_against_run, first_in_last, first_in_window, is_earlier}
+use Rattle.live_scripts.specs.declared.refusals.NotAdded.TheVariants.{NoRoutine, NotBefore, TooManyRuns}
 use Rattle.routine_reader.specs.declared.scripts.Script.{Script}
 use Rattle.routine_reader.specs.declared.scripts.WindowText.{WindowText}
 use Rattle.std.proofs.Common.{ap, arith, refl, rules, subst, sym, ◌∙◌}
 use Rattle.std.proofs.lemmas.List.{length-append}
-use Rattle.std.specs.Prelude.{Bool, IfErr, List, Option, Result, Some, [], false, if◌then◌else◌, length, nat_le, slice_get, true, ℕ, ◌++◌, ◌+◌, ◌-◌, ◌<◌, ◌∷◌, ◌≡◌}
+use Rattle.std.specs.Prelude.{Bool, IfSome, List, None, Option, Some, [], false, if◌then◌else◌, length, nat_le, slice_get, true, ℕ, ◌++◌, ◌+◌, ◌-◌, ◌<◌, ◌∷◌, ◌≡◌}
 
-get_last : {A : Type 0} (xs : List A) (y : A) → slice_get (xs ++ y ∷ []) (length xs) ≡ Some y
+pub get_last : {A : Type 0} (xs : List A) (y : A) → slice_get (xs ++ y ∷ []) (length xs) ≡ Some y
 get_last [] y = refl
 get_last (x ∷ xs) y = get_last xs y
 
@@ -30,8 +28,47 @@ first_of_last script routine follows front window known is =
     passed true is = absurd (cc)
     passed false is = refl
 
-pub cannot_add : (inside script : Script) (routine : ℕ) (follows : Option RunNo) (front : List WindowText) (window : WindowText) (result : Result RunNo NotAdded) → inside ≡ script → routine < length inside.routines.items
-    → inside.windows.items ≡ front ++ window ∷ [] → IfErr result (λ why. CannotAppend window follows why) → IfErr result (λ why. CannotAdd script routine follows why)
-cannot_add inside script routine follows front window result same known is cannot =
-    subst (λ s. IfErr result (λ why. CannotAdd s routine follows why)) same
-    (subst (λ first. IfErr result (λ why. IsRefusedFor NoMemory first why)) (sym (first_of_last inside routine follows front window known is)) cannot)
+-- Where nothing is against a run
+
+pub known_routine : (script : Script) (routine : ℕ) (follows : Option RunNo) → first_against_run script routine follows ≡ None → routine < length script.routines.items
+known_routine script routine follows free = by_test (nat_le (length script.routines.items) routine) refl free
+  where
+    by_test : (b : Bool) → nat_le (length script.routines.items) routine ≡ b
+        → (if b then Some NoRoutine else first_in_last (slice_get script.windows.items (length script.windows.items - 1)) follows) ≡ None → routine < length script.routines.items
+    by_test true is none = absurd (cc)
+    by_test false is none = search rules
+
+-- .. it has a last window, and nothing is against a run of that
+pub free_in : (script : Script) (routine : ℕ) (follows : Option RunNo) → first_against_run script routine follows ≡ None
+    → (window : WindowText) × (slice_get script.windows.items (length script.windows.items - 1) ≡ Some window) × (first_in_window window follows ≡ None)
+free_in script routine follows free = by_test (nat_le (length script.routines.items) routine) free
+  where
+    by_window : (o : Option WindowText) → slice_get script.windows.items (length script.windows.items - 1) ≡ o → first_in_last o follows ≡ None
+        → (window : WindowText) × (slice_get script.windows.items (length script.windows.items - 1) ≡ Some window) × (first_in_window window follows ≡ None)
+    by_window None at none = absurd (cc)
+    by_window (Some window) at none = (window, at, none)
+
+    by_test : (b : Bool) → (if b then Some NoRoutine else first_in_last (slice_get script.windows.items (length script.windows.items - 1)) follows) ≡ None
+        → (window : WindowText) × (slice_get script.windows.items (length script.windows.items - 1) ≡ Some window) × (first_in_window window follows ≡ None)
+    by_test true none = absurd (cc)
+    by_test false none = by_window (slice_get script.windows.items (length script.windows.items - 1)) refl none
+
+pub free_in_last : (script : Script) (routine : ℕ) (follows : Option RunNo) (front : List WindowText) (window : WindowText) → first_against_run script routine follows ≡ None
+    → script.windows.items ≡ front ++ window ∷ [] → first_in_window window follows ≡ None
+free_in_last script routine follows front window free is =
+    sym (first_of_last script routine follows front window (known_routine script routine follows free) is) ∙ free
+
+-- the window has few runs, and the one that is followed is among them
+pub few_and_earlier : (window : WindowText) (follows : Option RunNo) → first_in_window window follows ≡ None
+    → (length window.runs.items < 64) × (is_earlier follows (length window.runs.items) ≡ true)
+few_and_earlier window follows free = by_test (nat_le 64 (length window.runs.items)) (is_earlier follows (length window.runs.items)) refl refl free
+  where
+    by_test : (many earlier : Bool) → nat_le 64 (length window.runs.items) ≡ many → is_earlier follows (length window.runs.items) ≡ earlier
+        → (if many then Some TooManyRuns else (if earlier then None else Some NotBefore)) ≡ None → (length window.runs.items < 64) × (is_earlier follows (length window.runs.items) ≡ true)
+    by_test true earlier is was none = absurd (cc)
+    by_test false true is was none = (search rules, was)
+    by_test false false is was none = absurd (cc)
+
+-- there is room in the last window
+pub room_in_last : (script : Script) (front : List WindowText) (window : WindowText) → HasRoomForRun script → script.windows.items ≡ front ++ window ∷ [] → 0 < window.runs.spare
+room_in_last script front window room is = subst (λ o. IfSome o (λ (w : WindowText). 0 < w.runs.spare)) (last_there script.windows.items front window is) room

@@ -8,18 +8,20 @@ use Rattle.live_scripts.specs.declared.refusals.NotAdded.TheVariants.{NoMemory a
 use Rattle.live_scripts.specs.declared.refusals.NotAdded.{NotAdded}
 use Rattle.live_scripts.specs.declared.refusals.NotBegun.TheVariants.{NoMemory, NotLater, TooManyProbes}
 use Rattle.live_scripts.specs.declared.refusals.NotBegun.{NotBegun}
+use Rattle.routine_reader.specs.declared.scripts.RunText.{RunText}
 use Rattle.routine_reader.specs.declared.scripts.Script.{Script}
 use Rattle.routine_reader.specs.declared.scripts.WindowText.{WindowText}
-use Rattle.std.specs.Prelude.{Bool, List, None, Option, Some, [], if◌then◌else◌, length, nat_le, nat_lt, slice_get, true, ℕ, ◌&&◌, ◌++◌, ◌+◌, ◌-◌, ◌∷◌, ◌≡◌}
+use Rattle.std.specs.Prelude.{Bool, IfSome, List, None, Option, Some, [], if◌then◌else◌, length, nat_le, nat_lt, slice_get, true, ℕ, ◌&&◌, ◌++◌, ◌+◌, ◌-◌, ◌<◌, ◌∷◌, ◌≡◌}
 
 -- what a script has of a window that is begun: its time, its rounds of probes, and neither turns
--- nor runs
+-- nor runs, but room for all runs that it may have
 pub record IsNewWindow (at : When) (probes : ℕ) (window : WindowText) : Type 0 where
   pub time : window.at ≡ at
   pub seed : window.seed ≡ 1
   pub rounds : window.probes ≡ probes
   pub turns : window.turns.items ≡ []
   pub runs : window.runs.items ≡ []
+  pub room : window.runs.spare ≡ most_runs
 
 -- the windows before the one that is begun: those of the day so far, none where the day is full
 abbrev pub windows_before : List WindowText → List WindowText
@@ -62,6 +64,10 @@ abbrev pub is_earlier : Option RunNo → ℕ → Bool
 is_earlier None earlier = true
 is_earlier (Some run) earlier = nat_le 1 run.0 && nat_le run.0 earlier
 
+-- the run of a window that is of this routine, and follows the other
+abbrev pub new_run : ℕ → Option RunNo → RunText
+new_run routine follows = record { routine = routine; follows = follows }
+
 -- the last window has one run more, the one with this number
 pub record HasRun (before : Script) (routine : ℕ) (follows : Option RunNo) (r : ℕ)
     (after : Script) : Type 0 where
@@ -71,7 +77,7 @@ pub record HasRun (before : Script) (routine : ℕ) (follows : Option RunNo) (r 
   pub last_was : before.windows.items ≡ earlier ++ was ∷ []
   pub last_is : after.windows.items ≡ earlier ++ is ∷ []
   pub rest : is ≡ record was { runs = is.runs }
-  pub runs : is.runs.items ≡ was.runs.items ++ record { routine = routine; follows = follows } ∷ []
+  pub runs : is.runs.items ≡ was.runs.items ++ new_run routine follows ∷ []
   pub number : r ≡ length was.runs.items + 1
   pub devices : after.devices ≡ before.devices
   pub routines : after.routines ≡ before.routines
@@ -92,11 +98,13 @@ first_against_run script routine follows =
     if nat_le (length script.routines.items) routine then Some NoRoutine
     else first_in_last (slice_get script.windows.items (length script.windows.items - 1)) follows
 
--- why no run is added to this window
-abbrev pub CannotAppend : WindowText → Option RunNo → NotAdded → Type 0
-CannotAppend window follows why = IsRefusedFor NoRoom (first_in_window window follows) why
-
 -- why no run is added to the script
 abbrev pub CannotAdd : Script → ℕ → Option RunNo → NotAdded → Type 0
 CannotAdd script routine follows why =
     IsRefusedFor NoRoom (first_against_run script routine follows) why
+
+-- the last window has room for one run more
+abbrev pub HasRoomForRun : Script → Type 0
+HasRoomForRun script =
+    IfSome (slice_get script.windows.items (length script.windows.items - 1))
+    (λ window. 0 < window.runs.spare)

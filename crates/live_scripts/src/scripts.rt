@@ -1,14 +1,14 @@
 //! A sound script that grows.
-ghost use Rattle.std.specs.Prelude.{◌≡◌, ◌++◌, ◌+◌, ◌<◌, ◌∷◌, [], IfErr, IfOk, None, length, true};
-ghost use Rattle.command_rules.specs.Rosters.{runs_of};
+ghost use Rattle.std.specs.Prelude.{◌≡◌, ◌++◌, ◌+◌, ◌<◌, ◌∷◌, [], IfErr, IfOk, IsOk, None, Some, length, true};
+ghost use Rattle.command_rules.specs.Rosters.{plain_run, runs_of};
 ghost use Rattle.day_clock.specs.Times.{IsCivilTime};
-ghost use Rattle.live_scripts.specs.Growth.{CannotAdd, CannotAppend, CannotBegin, HasBegun, HasRun, first_against_run, first_against_window, first_in_window, is_earlier, is_later_than_last};
-ghost use Rattle.routine_reader.specs.Rosters.{script_runs};
+ghost use Rattle.live_scripts.specs.Growth.{CannotAdd, CannotBegin, HasBegun, HasRoomForRun, HasRun, first_against_run, first_against_window, first_in_window, is_earlier, is_later_than_last, new_run};
+ghost use Rattle.routine_reader.specs.Rosters.{run_of_text, script_runs};
 ghost use Rattle.routine_reader.specs.Scripts.{plain_script};
 ghost use Rattle.routine_reader.specs.Sound.{IsSound};
 
 use crate::refusals::{NotAdded, NotBegun};
-use command_rules::Roster;
+use command_rules::{Roster, RosterRun};
 use day_clock::When;
 use home_types::{List, NoMemory, RunNo, limits};
 use routine_reader::{RunText, Script, WindowText, roster};
@@ -64,7 +64,7 @@ impl LiveScript {
     }
 
     /// Appends a window without runs, at this time and with so many rounds of probes, and answers
-    /// its number, from 0.
+    /// its number, from 0. There is room for all runs that it may have.
     ///
     /// A script has the windows of a day: where it has all 288 of one, they are dropped, and the
     /// window is the first of the next. Its time has to be later than that of the window before,
@@ -82,12 +82,17 @@ impl LiveScript {
         if probes > limits::PROBES {
             return Err(NotBegun::TooManyProbes);
         }
+        let mut runs = List::new(alloc);
+        if runs.reserve(limits::RUNS as u64).is_err() {
+            drop(runs);
+            return Err(NotBegun::NoMemory);
+        }
         let window = WindowText {
             at,
             seed: SEED,
             probes,
             turns: List::new(alloc),
-            runs: List::new(alloc),
+            runs,
         };
         if self.script.windows.len() < limits::WINDOWS as u64 {
             append(&mut self.script.windows, window)
@@ -117,16 +122,17 @@ impl LiveScript {
     }
 
     /// Appends a run of this routine, counted from 0, to the last window, and answers its number
-    /// there, from 1. It waits for the end of the run that it follows.
+    /// there, from 1. It waits for the end of the run that it follows. Takes no memory where the
+    /// window has room for it.
     pub fn add_run(&mut self, routine: u32, follows: Option<RunNo>) -> Result<RunNo, NotAdded>
         ensures added { IfOk result (λ r. HasRun self.old routine follows r.0 self.new) }
         ensures free { IfOk result (λ _. first_against_run self.old routine follows ≡ None) }
+        ensures roomy { first_against_run self.old routine follows ≡ None
+            → HasRoomForRun self.old → IsOk result }
         ensures refused { IfErr result (λ why. CannotAdd self.old routine follows why) }
         ensures same { IfErr result (λ _. self.new ≡ self.old) }
     {
-        if self.script.routines.len() <= routine as u64 {
-            return Err(NotAdded::NoRoutine);
-        }
+        self.allows(routine, follows)?;
         match self.script.windows.pop() {
             Some(window) => {
                 let mut window = window;
@@ -135,7 +141,53 @@ impl LiveScript {
                 kept.unwrap();
                 added
             }
+            None => unreachable!(),
+        }
+    }
+
+    /// The run that `add_run` would append, with the commands of its routine. Where it is answered,
+    /// the window has room for it: so `add_run` takes no memory, and is not refused.
+    pub fn next_run(&self, routine: u32, follows: Option<RunNo>) -> Result<RosterRun, NotAdded>
+        ensures run { IfOk result
+            (λ run. plain_run run ≡ run_of_text self.now (new_run routine follows)) }
+        ensures free { IfOk result (λ _. first_against_run self.now routine follows ≡ None) }
+        ensures room { IfOk result (λ _. HasRoomForRun self.now) }
+        ensures refused { IfErr result (λ why. CannotAdd self.now routine follows why) }
+    {
+        self.allows(routine, follows)?;
+        if !self.has_room_for_run() {
+            return Err(NotAdded::NoMemory);
+        }
+        let text = &self.script.routines.as_slice()[routine as usize];
+        match text.routine.share() {
+            Ok(routine) => Ok(RosterRun { routine, follows }),
+            Err(NoMemory) => Err(NotAdded::NoMemory),
+        }
+    }
+
+    /// Whether a run of this routine, which follows the other, may be appended; if not, the first
+    /// reason against it.
+    fn allows(&self, routine: u32, follows: Option<RunNo>) -> Result<(), NotAdded>
+        ensures free { IfOk result (λ _. first_against_run self.now routine follows ≡ None) }
+        ensures refused { IfErr result
+            (λ why. first_against_run self.now routine follows ≡ Some why) }
+    {
+        if self.script.routines.len() <= routine as u64 {
+            return Err(NotAdded::NoRoutine);
+        }
+        match self.script.windows.as_slice().last() {
+            Some(window) => takes_run(window, follows),
             None => Err(NotAdded::NoWindow),
+        }
+    }
+
+    /// Whether the last window has room for one run more.
+    fn has_room_for_run(&self) -> bool
+        ensures { result ≡ true → HasRoomForRun self.now }
+    {
+        match self.script.windows.as_slice().last() {
+            Some(window) => window.runs.spare() > 0,
+            None => false,
         }
     }
 }
@@ -161,17 +213,27 @@ fn append_run(
     routine: u32,
     follows: Option<RunNo>,
 ) -> Result<RunNo, NotAdded>
+    requires free { first_in_window window.old follows ≡ None }
     ensures number { IfOk result (λ r. r.0 ≡ length window.old.runs.items + 1) }
-    ensures appended { IfOk result (λ _. window.new.runs.items ≡ window.old.runs.items ++ record {
-      routine = routine;
-      follows = follows;
-    } ∷ []) }
-    ensures few { IfOk result (λ _. length window.old.runs.items < 64) }
-    ensures follows { IfOk result (λ _. is_earlier follows (length window.old.runs.items) ≡ true) }
+    ensures appended { IfOk result (λ _. window.new.runs.items
+        ≡ window.old.runs.items ++ new_run routine follows ∷ []) }
     ensures rest { IfOk result (λ _. window.new ≡ record window.old { runs = window.new.runs }) }
-    ensures free { IfOk result (λ _. first_in_window window.old follows ≡ None) }
-    ensures refused { IfErr result (λ why. CannotAppend window.old follows why) }
+    ensures roomy { 0 < window.old.runs.spare → IsOk result }
+    ensures memory { IfErr result (λ why. why ≡ NotAdded.NoMemory) }
     ensures same { IfErr result (λ _. window.new ≡ window.old) }
+{
+    let earlier = window.runs.len();
+    match window.runs.push(RunText { routine, follows }) {
+        Ok(()) => Ok(RunNo(earlier as u32 + 1)),
+        Err(NoMemory) => Err(NotAdded::NoMemory),
+    }
+}
+
+/// Whether the window may have one run more, which follows this one; if not, the first reason
+/// against it.
+fn takes_run(window: &WindowText, follows: Option<RunNo>) -> Result<(), NotAdded>
+    ensures free { IfOk result (λ _. first_in_window window.now follows ≡ None) }
+    ensures refused { IfErr result (λ why. first_in_window window.now follows ≡ Some why) }
 {
     let earlier = window.runs.len();
     if earlier >= limits::RUNS as u64 {
@@ -180,10 +242,7 @@ fn append_run(
     if !is_earlier(follows, earlier as u32) {
         return Err(NotAdded::NotBefore);
     }
-    match window.runs.push(RunText { routine, follows }) {
-        Ok(()) => Ok(RunNo(earlier as u32 + 1)),
-        Err(NoMemory) => Err(NotAdded::NoMemory),
-    }
+    Ok(())
 }
 
 /// Whether a run behind so many others may follow this one.
