@@ -33,8 +33,8 @@ use std::marker::Model;
 /// An open window with the grips that are out of it.
 ///
 /// Contracts see what the hub shows. The type keeps that a grip lies in the place of each device
-/// that is out, the one with which it is out, and in no other place. Only `open` takes memory. One
-/// that is dropped makes the call of each grip and gives it back before the hub goes.
+/// that is out, the one with which it is out, and in no other place. Only `open` and `add_run` take
+/// memory. One that is dropped makes the call of each grip and gives it back before the hub goes.
 pub struct Table<D: Device> {
     pub(crate) hub: Hub<D>,
     /// The grip of each device that is out.
