@@ -247,14 +247,16 @@ int32_t lazbendix_entry_count(lazbendix_hub *h, uint64_t *count);
 /* Tells the entry and its maker: the run that made the step, 0 for a probe. ABSENT. */
 int32_t lazbendix_entry_at(lazbendix_hub *h, uint64_t at, lazbendix_entry *entry, uint32_t *maker);
 
-/* Windows of the moment, between two windows. */
+/* Windows of the moment. A window is begun between two windows; runs are added to it then, and while it is open. */
 
 /* Appends a window without runs to the script, and tells its number. The time is one as in a script, later than that of
    the window before. A script has 288 windows at most: those of a full day are dropped, and this one is the first of the
    next. IN_WINDOW, BAD_TIME, TOO_MANY (100 rounds of probes), NO_MEMORY. */
 int32_t lazbendix_begin_window(lazbendix_hub *h, const uint8_t *at, size_t at_len, uint32_t probes, uint32_t *number);
-/* Appends a run of the routine to the window that was begun, and tells its number; it waits for the end of the run that
-   it follows, 0 for none. NO_WINDOW, ABSENT, BAD_FOLLOW, TOO_MANY (64 runs), NO_MEMORY. */
+/* Appends a run of the routine to the window that was begun, or to the one that is open, where it is the script's last
+   one, and tells its number; it waits for the end of the run that it follows, 0 for none. A run that joins an open
+   window has not arrived, and nothing else of the window changes; who sleeps by lazbendix_blocked asks again.
+   NO_WINDOW, ABSENT, TOO_MANY (64 runs), BAD_FOLLOW, NO_MEMORY. */
 int32_t lazbendix_add_run(lazbendix_hub *h, uint32_t routine, uint32_t follows, uint32_t *run);
 /* Tells the home that the device was found up at this value, as somebody turned it. IN_WINDOW, ABSENT, NO_VALUE. */
 int32_t lazbendix_restand(lazbendix_hub *h, uint32_t device, uint32_t value);

@@ -1,6 +1,7 @@
 mod Answered
 mod Counting
 mod Drafting
+mod Joining
 mod Living
 mod Numbering
 mod Refusing

@@ -6,4 +6,4 @@ use Rattle.std.specs.Prelude.{◌≡◌}
 
 -- no live home is left between the two
 pub never_moving : (s : LiveState) → IsLive s → s.phase ≡ Moving → ⊥
-never_moving s live is = subst (λ p. FitsScript s.script p) is live.fits
+never_moving s live is = subst (λ p. FitsScript s.script s.mode p) is live.fits

@@ -10,7 +10,7 @@ use Rattle.device_gate.specs.declared.slips.Told.{Told}
 use Rattle.handed_devices.specs.declared.devices.HandedDevice.{HandedDevice}
 use Rattle.history_book.specs.declared.entries.Entry.{Entry}
 use Rattle.home_states.proofs.Counting.{back_counted, probe_counted, turn_counted}
-use Rattle.home_states.specs.LiveHomes.{FitsScript, IsCounted, IsLive, LiveState, number_in, tickets_given}
+use Rattle.home_states.specs.LiveHomes.{FitsScript, IsCounted, IsLive, IsWindowOf, LiveState, number_in, tickets_given}
 use Rattle.home_states.specs.Openings.{IsOpenedOn}
 use Rattle.home_states.specs.Tickets.{CallsAreFew, TicketsAreGiven, TicketsAreLow, WindowTickets, call_told, count_after, tickets_in}
 use Rattle.home_states.specs.declared.homes.Phase.TheVariants.{Between, InWindow}
@@ -23,7 +23,6 @@ use Rattle.hub_core.specs.declared.turns.Turn.{Turn}
 use Rattle.hub_table.specs.Answers.{HasComeBack}
 use Rattle.hub_table.specs.Tables.{IsBack, SlipAndTask, lent_by, taken_of}
 use Rattle.hub_table.specs.declared.told.Taken.{Taken}
-use Rattle.lock_leasing.specs.Configurations.{Configuration}
 use Rattle.std.proofs.Common.{ap, arith, inl, inr, subst, sym, ◌∙◌}
 use Rattle.std.proofs.lemmas.List.{length-set}
 use Rattle.std.proofs.lemmas.Option.{slice_get_within}
@@ -111,7 +110,7 @@ live_on : (s : LiveState) (k : ℕ) (hub next : OpenHub HandedDevice) → IsLive
 live_on s k hub next live is window tickets = record {
   sound = live.sound;
   goes = live.goes;
-  fits = ap (λ (w : Setting). w.kinds) window.setting ∙ subst (λ p. FitsScript s.script p) is live.fits;
+  fits = subst (λ (w : Setting). IsWindowOf s.script s.mode k w) (sym window.setting) (subst (λ p. FitsScript s.script s.mode p) is live.fits);
   told = subst (λ p. IfSome (number_in p s.closed) (λ n. n < length s.script.windows.items)) is live.told;
   tickets = tickets;
 }
@@ -193,12 +192,12 @@ back_counted_on s tickets k hub next d ticket told m made counted is back window
 -- A window that opens
 
 pub opened_counted_on : (s : LiveState) (tickets k : ℕ) (home : HomeState HandedDevice) (hub : OpenHub HandedDevice) → IsCounted s tickets → s.phase ≡ Between home → IsOpenedOn s.script s.mode k home hub
-    → ((before : ℕ) → before ≤ home.opened * 131072 → WindowTickets before hub) → IsCounted (record s { phase = InWindow k hub; is_draft = false; closed = None }) tickets
-opened_counted_on s tickets k home hub counted is on numbers = record {
+    → IsWindowOf s.script s.mode k hub.setting → ((before : ℕ) → before ≤ home.opened * 131072 → WindowTickets before hub) → IsCounted (record s { phase = InWindow k hub; is_draft = false; closed = None }) tickets
+opened_counted_on s tickets k home hub counted is on own numbers = record {
   live = record {
     sound = counted.live.sound;
     goes = counted.live.goes;
-    fits = ap (λ (c : Configuration). c.setting.kinds) on.opened.configuration ∙ subst (λ p. FitsScript s.script p) is counted.live.fits;
+    fits = own;
     told = slice_get_within s.script.windows.items k on.window on.at;
     tickets = numbers s.tickets_before (subst (λ p. TicketsAreLow s.tickets_before p) is counted.live.tickets);
   };

@@ -14,7 +14,7 @@ use Rattle.live_scripts.specs.declared.refusals.NotAdded.{NotAdded}
 use Rattle.live_scripts.specs.declared.refusals.NotBegun.TheVariants.{NoMemory as NoSpace, NotLater, TooManyProbes}
 use Rattle.live_scripts.specs.declared.refusals.NotBegun.{NotBegun as NotAppended}
 use Rattle.routine_reader.specs.declared.scripts.Script.{Script}
-use Rattle.std.specs.Prelude.{List, None, Option, Some, if◌then◌else◌, option_map, ℕ}
+use Rattle.std.specs.Prelude.{List, None, Option, Some, if◌then◌else◌, length, option_map, ℕ, ◌+◌, ◌==◌}
 
 -- what is told of why the script takes no window, or no run
 abbrev pub begun_why : NotAppended → NotBegun
@@ -49,13 +49,33 @@ abbrev pub MayNotBegin : LiveState → List ℕ → ℕ → NotBegun → Type 0
 MayNotBegin s text probes why =
     IsRefusedFor NoMemory (first_against_beginning s text probes) why
 
--- the first reason against a run of the window that was begun
-abbrev pub first_against_adding : LiveState → ℕ → Option RunNo → Option NotBegun
-first_against_adding s routine follows =
-    if s.is_draft then option_map added_why (first_against_run s.script routine follows)
+-- the first reason against a run of the script's last window
+abbrev pub first_against_last : Script → ℕ → Option RunNo → Option NotBegun
+first_against_last script routine follows =
+    option_map added_why (first_against_run script routine follows)
+
+-- .. where it is the one of this number, which is open
+abbrev pub first_against_joining : Script → ℕ → ℕ → Option RunNo → Option NotBegun
+first_against_joining script k routine follows =
+    if length script.windows.items == k + 1 then first_against_last script routine follows
     else Some NoDraft
 
--- why no run is added to it
+-- .. and against one of the window that was begun, or that is open
+abbrev pub first_against_adding : LiveState → ℕ → Option RunNo → Option NotBegun
+first_against_adding s routine follows = by_phase s.phase
+  where
+    by_phase : Phase → Option NotBegun
+    by_phase (Between home) =
+        if s.is_draft then first_against_last s.script routine follows else Some NoDraft
+    by_phase (InWindow k hub) = first_against_joining s.script k routine follows
+    by_phase Moving = Some NoDraft
+
+-- why no run joins the window of this number
+abbrev pub CannotJoin : Script → ℕ → ℕ → Option RunNo → NotBegun → Type 0
+CannotJoin script k routine follows why =
+    IsRefusedFor NoMemory (first_against_joining script k routine follows) why
+
+-- why no run is added
 abbrev pub MayNotAdd : LiveState → ℕ → Option RunNo → NotBegun → Type 0
 MayNotAdd s routine follows why =
     IsRefusedFor NoMemory (first_against_adding s routine follows) why

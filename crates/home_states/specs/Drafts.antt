@@ -36,6 +36,7 @@ pub record HasBegunWindow (s : LiveState) (text : List ℕ) (probes k : ℕ)
 pub record HasAddedRun (s : LiveState) (routine : ℕ) (follows : Option RunNo) (r : ℕ)
     (t : LiveState) : Type 0 where
   pub script : Script
+  pub between : IsBetweenWindows s
   pub draft : s.is_draft ≡ true
   pub added : HasRun s.script routine follows r script
   pub is : t ≡ record s { script = script }

@@ -1,5 +1,6 @@
 pub mod DraftRefusals
 pub mod Drafts
+pub mod Joinings
 pub mod LiveHomes
 pub mod Openings
 pub mod Queries

@@ -1,5 +1,6 @@
 -- A home that is stepped from outside, and what is kept of it.
 use Rattle.handed_devices.specs.declared.devices.HandedDevice.{HandedDevice}
+use Rattle.history_book.specs.Settings.{Setting}
 use Rattle.home_states.specs.Tickets.{TicketsAreLow, tickets_in}
 use Rattle.home_states.specs.declared.homes.ClosedWindow.{ClosedWindow}
 use Rattle.home_states.specs.declared.homes.Phase.TheVariants.{Between, InWindow, Moving}
@@ -9,7 +10,7 @@ use Rattle.hub_core.specs.Homes.{HomeState}
 use Rattle.hub_core.specs.OpenHubs.{OpenHub}
 use Rattle.hub_core.specs.Openings.{is_mode}
 use Rattle.routine_reader.specs.Readings.{script_reading}
-use Rattle.routine_reader.specs.Rosters.{kinds_of, start_home}
+use Rattle.routine_reader.specs.Rosters.{kinds_of, script_runs, start_home}
 use Rattle.routine_reader.specs.Scripts.{plain_script}
 use Rattle.routine_reader.specs.Sound.{IsSound}
 use Rattle.routine_reader.specs.declared.scripts.Script.{Script}
@@ -27,11 +28,19 @@ pub record LiveState : Type 0 where
   pub closed : Option ClosedWindow
   pub text : List ℕ
 
--- the home, or the window, is of the script's kinds of devices; one of both is there
-abbrev pub FitsScript : Script → Phase → Type 0
-FitsScript script (Between home) = home.kinds ≡ kinds_of script
-FitsScript script (InWindow k hub) = hub.setting.kinds ≡ kinds_of script
-FitsScript script Moving = ⊥
+-- the window is that of the script with this number, in this mode: it has its runs, those with it
+-- that have joined, and devices of the script's kinds
+pub record IsWindowOf (script : Script) (mode : Mode) (k : ℕ) (w : Setting) : Type 0 where
+  pub runs : w.runs ≡ script_runs script k
+  pub mode_is : w.mode ≡ mode
+  pub kinds : w.kinds ≡ kinds_of script
+  pub size : length w.first ≡ length w.kinds
+
+-- the home is of the script's kinds of devices, or the window is the script's; one of both is there
+abbrev pub FitsScript : Script → Mode → Phase → Type 0
+FitsScript script mode (Between home) = home.kinds ≡ kinds_of script
+FitsScript script mode (InWindow k hub) = IsWindowOf script mode k hub.setting
+FitsScript script mode Moving = ⊥
 
 -- the number of the window that is open, or else of the one closed last
 abbrev pub closed_number : Option ClosedWindow → Option ℕ
@@ -50,7 +59,7 @@ number_told s = number_in s.phase s.closed
 pub record IsLive (s : LiveState) : Type 0 where
   pub sound : IsSound (plain_script s.script)
   pub goes : IsTrue (is_mode s.mode)
-  pub fits : FitsScript s.script s.phase
+  pub fits : FitsScript s.script s.mode s.phase
   -- the window that can be told of is one of the script
   pub told : IfSome (number_told s) (λ k. k < length s.script.windows.items)
   pub tickets : TicketsAreLow s.tickets_before s.phase

@@ -4,7 +4,7 @@ use Rattle.handed_devices.specs.declared.devices.HandedDevice.{HandedDevice}
 use Rattle.history_book.specs.Sealed.{BeginsWithSealed}
 use Rattle.history_book.specs.Settings.{Setting, is_weak}
 use Rattle.history_book.specs.declared.records.WindowRecord.{WindowRecord}
-use Rattle.home_states.specs.LiveHomes.{LiveState}
+use Rattle.home_states.specs.LiveHomes.{IsWindowOf, LiveState}
 use Rattle.home_states.specs.declared.homes.Phase.TheVariants.{Between, InWindow, Moving}
 use Rattle.home_states.specs.declared.homes.Phase.{Phase}
 use Rattle.home_states.specs.declared.refusals.NotClosed.TheVariants.{NoWindow, NotQuiet}
@@ -79,13 +79,15 @@ abbrev pub MayNotOpen : LiveState → ℕ → NotOpened → Type 0
 MayNotOpen s k why = IsRefusedFor NoMemory (first_against_opening s k) why
 
 -- the live home is between two windows again, has the record of the one that was open, and goes on
--- with the numbers of device calls behind those of that window
+-- with the numbers of device calls behind those of that window. What is closed is the script's
+-- window as it is then, with the runs that have joined
 pub record HasClosed (s t : LiveState) : Type 0 where
   pub number : ℕ
   pub hub : OpenHub HandedDevice
   pub home : HomeState HandedDevice
   pub closed : WindowRecord
   pub was : s.phase ≡ InWindow number hub
+  pub of_script : IsWindowOf s.script s.mode number hub.setting
   pub is_closed : WindowIsClosed handed_shows hub home closed
   pub quiet : not_quiet (configuration_of hub) ≡ None
   pub sealed : is_weak hub.setting.mode ≡ false

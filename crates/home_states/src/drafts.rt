@@ -1,11 +1,13 @@
-//! Windows of the moment: a window is begun, and runs are added to it, before it is opened. And
-//! devices that were found elsewhere, or are lost, between two windows.
+//! Windows of the moment: a window is begun, and runs are added to it, before it is opened and while
+//! it is open. And devices that were found elsewhere, or are lost, between two windows.
 ghost use Rattle.std.specs.Prelude.{◌≡◌, IfErr, IfOk, IfSome, None, Some};
 ghost use Rattle.day_clock.specs.Times.{IsCivilTime};
 ghost use Rattle.home_states.specs.DraftRefusals.{MayNotAdd, MayNotBegin, added_why, begun_why, first_against_adding, first_against_beginning};
-ghost use Rattle.home_states.specs.Drafts.{HasAddedRun, HasBegunWindow, HasLost, HasRestood, MayNotLose, MayNotRestand, WasLost, WasRestood, first_against_finding, first_against_loss, first_against_losing, first_against_restanding, time_told};
+ghost use Rattle.home_states.specs.Drafts.{HasBegunWindow, HasLost, HasRestood, MayNotLose, MayNotRestand, WasLost, WasRestood, first_against_finding, first_against_loss, first_against_losing, first_against_restanding, time_told};
+ghost use Rattle.home_states.specs.Joinings.{HasTakenRun};
 
 use crate::homes::{LiveHome, Phase, remember};
+use crate::joinings::join_in;
 use crate::refusals::{NotBegun, NotLost, NotRestood};
 use day_clock::{When, read_time};
 use handed_devices::HandedDevice;
@@ -50,28 +52,38 @@ impl LiveHome {
         }
     }
 
-    /// Appends a run of the routine, counted from 0, to the window that was begun last, and answers
-    /// its number there, from 1. It waits for the end of the run that it follows.
+    /// Appends a run of the routine, counted from 0, to the window that was begun last, or to the
+    /// one that is open, and answers its number there, from 1. It waits for the end of the run that
+    /// it follows. A run that joins an open window has not arrived, and nothing else of the window
+    /// changes; who sleeps by `is_blocked` asks again.
     ///
-    /// Refused where no window was begun since one was opened, where there is no such routine,
-    /// where the run that is followed is not before it, and where the window has as many runs as it
-    /// may.
+    /// Refused where no window was begun since one was opened, and none is open, or one that is not
+    /// the script's last; where there is no such routine; where the window has as many runs as it
+    /// may; and where the run that is followed is not before it.
     pub fn add_run(&mut self, routine: u32, follows: Option<RunNo>) -> Result<RunNo, NotBegun>
-        ensures added { IfOk result (λ r. HasAddedRun self.old routine follows r.0 self.new) }
+        ensures added { IfOk result (λ r. HasTakenRun self.old routine follows r.0 self.new) }
         ensures free { IfOk result (λ _. first_against_adding self.old routine follows ≡ None) }
         ensures refused { IfErr result (λ why. MayNotAdd self.old routine follows why) }
         ensures same { IfErr result (λ _. self.new ≡ self.old) }
     {
-        if !self.is_draft {
-            return Err(NotBegun::NoDraft);
-        }
-        match self.script.add_run(routine, follows) {
-            Ok(run) => {
-                // its contract says that the script is sound still
-                let _script = self.script.script();
-                Ok(run)
+        match &mut self.phase {
+            Phase::Between(_) => {
+                if !self.is_draft {
+                    return Err(NotBegun::NoDraft);
+                }
+                match self.script.add_run(routine, follows) {
+                    Ok(run) => {
+                        // its contract says that the script is sound still
+                        let _script = self.script.script();
+                        Ok(run)
+                    }
+                    Err(why) => Err(not_added(why)),
+                }
             }
-            Err(why) => Err(not_added(why)),
+            Phase::InWindow(number, table) => {
+                join_in(&mut self.script, *number, table, routine, follows)
+            }
+            Phase::Moving => unreachable!(),
         }
     }
 
@@ -136,7 +148,7 @@ fn not_begun(why: NotAppended) -> NotBegun
     }
 }
 
-fn not_added(why: NotAdded) -> NotBegun
+pub(crate) fn not_added(why: NotAdded) -> NotBegun
     ensures { result ≡ added_why why }
 {
     match why {

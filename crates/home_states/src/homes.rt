@@ -39,8 +39,9 @@ pub struct ClosedWindow {
 /// their answers are handed in.
 ///
 /// The type keeps that it is in a window or between two, that its home is of the script's kinds of
-/// devices, and that each device call which it hands out has a number of its own, from 1, in all
-/// its windows.
+/// devices, that the window which is open has the runs of the script's window, those with them that
+/// have joined, and that each device call which it hands out has a number of its own, from 1, in
+/// all its windows.
 #[derive(Drop)]
 pub struct LiveHome {
     pub(crate) script: LiveScript,

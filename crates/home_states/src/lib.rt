@@ -4,6 +4,7 @@
 
 mod drafts;
 pub mod homes;
+mod joinings;
 mod numbers;
 mod openings;
 mod queries;

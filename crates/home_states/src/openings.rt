@@ -1,5 +1,6 @@
 //! A window of the script is opened on the home, and closed.
 ghost use Rattle.std.specs.Prelude.{◌≡◌, ◌≤◌, ◌*◌, ℕ, IfErr, IfOk, IsTrue, None};
+ghost use Rattle.home_states.specs.LiveHomes.{IsWindowOf};
 ghost use Rattle.home_states.specs.Openings.{CannotOpen, HasClosed, HasOpened, IsOpenedOn, MayNotClose, MayNotOpen, first_against_home, first_against_opening};
 ghost use Rattle.home_states.specs.Tickets.{WindowTickets, window_tickets};
 ghost use Rattle.routine_reader.specs.Rosters.{kinds_of};
@@ -103,6 +104,7 @@ fn open_on(
     requires goes { IsTrue (is_mode mode) }
     requires fits { home.kinds ≡ kinds_of script.now }
     ensures opened { IfOk result (λ table. IsOpenedOn script.now mode number home table) }
+    ensures own { IfOk result (λ table. IsWindowOf script.now mode number table.setting) }
     ensures numbers { IfOk result (λ table. (before : ℕ) → before ≤ home.opened * window_tickets
         → WindowTickets before table) }
     ensures free { IfOk result (λ _. first_against_home script.now number home ≡ None) }

@@ -1,7 +1,8 @@
 //! Windows of the moment, and devices that others turned or that are lost.
 ghost use Rattle.std.specs.Prelude.{◌≡◌, ◌≢◌, ◌↔◌, None, pos};
 ghost use Rattle.home_states.specs.DraftRefusals.{first_against_adding, first_against_beginning};
-ghost use Rattle.home_states.specs.Drafts.{HasAddedRun, HasBegunWindow, HasLost, HasRestood, first_against_losing, first_against_restanding};
+ghost use Rattle.home_states.specs.Drafts.{HasBegunWindow, HasLost, HasRestood, first_against_losing, first_against_restanding};
+ghost use Rattle.home_states.specs.Joinings.{HasTakenRun};
 ghost use Rattle.lazbendix_c.specs.Calls.{Changes, IsClosed, SameHome, Shows};
 ghost use Rattle.lazbendix_c.specs.Numbers.{device_number, followed};
 ghost use Rattle.lazbendix_c.specs.Refusals.{IsNotAdded, IsNotBegun, IsNotLost, IsNotRestood};
@@ -69,8 +70,10 @@ fn begin_window(
     }
 }
 
-/// Appends a run of the routine, counted from 0, to the window that was begun, and tells its number
-/// there, from 1. It waits for the end of the run that it follows, 0 for none.
+/// Appends a run of the routine, counted from 0, to the window that was begun, or to the one that is
+/// open, where it is the script's last one, and tells its number there, from 1. It waits for the end
+/// of the run that it follows, 0 for none. A run that joins an open window has not arrived, and
+/// nothing else of the window changes; who sleeps by `lazbendix_is_blocked` asks again.
 ///
 /// Where the answer is not `DONE` nothing has changed.
 #[unsafe(no_mangle)]
@@ -82,7 +85,7 @@ pub extern "C" fn lazbendix_add_run(
     run: &mut u32,
 ) -> i32
     ensures done { result ≡ pos 0 → Changes
-        (λ s t. HasAddedRun s routine (followed follows) run.new t) h.old h.new }
+        (λ s t. HasTakenRun s routine (followed follows) run.new t) h.old h.new }
     ensures free { result ≡ pos 0
         → Shows (λ s. first_against_adding s routine (followed follows) ≡ None) h.old }
     ensures refused { result ≢ pos 0 → result ≢ pos 1

@@ -1,5 +1,6 @@
 use Rattle.command_rules.specs.Rosters.{runs_of}
 use Rattle.home_states.proofs.Counting.{opened_numbers}
+use Rattle.home_states.proofs.Joining.{own_opened}
 use Rattle.home_states.proofs.Refusing.{free_opened}
 use Rattle.home_states.proofs.Windows.{may_open_ever}
 use Rattle.home_states.proofs.openings.open_on.Goals as goal
@@ -48,3 +49,9 @@ returns-in-Ok-open-clause-numbers c =
     opened_numbers handed_shows (setting_for home c.in-Ok.roster c.args.mode) window.probes home c.in-Ok-open.table
     (may_open_ever _ script c.args.mode c.args.number window home c.in-Ok.roster c.script.ensures.sound c.requires.goes at runs c.kept.ensures c.requires.fits few)
     c.in-Ok-open.ensures.opened c.kept.ensures.size
+
+pub returns-in-Ok-open-clause-own : goal.returns-in-Ok-open-clause-own
+returns-in-Ok-open-clause-own c =
+    let runs : runs_of c.in-Ok.roster ≡ script_runs c.args.script.now c.args.number = search rules in
+    own_opened c.args.script.now c.args.number (setting_for c.args.home c.in-Ok.roster c.args.mode) c.in-Some.window.now.probes c.args.home c.in-Ok-open.table
+    c.in-Ok-open.ensures.opened runs c.requires.fits c.kept.ensures.kinds

@@ -14,4 +14,4 @@ invariant_of-self c =
     let between : c.self.inside.phase ≡ Between c.in-Between.home = search rules in
     subst (λ (p : Phase). IsCounted (record s { phase = p; is_draft = false; closed = c.remember.new.closed }) c.self.inside.tickets) (sym c.settle.ensures)
     (subst (λ (o : Option ClosedWindow). IsCounted (record s { phase = InWindow c.args.number c.in-Ok.table; is_draft = false; closed = o }) c.self.inside.tickets) (sym c.remember.ensures)
-    (opened_counted_on s c.self.inside.tickets c.args.number c.in-Between.home c.in-Ok.table c.self.invariant between c.in-Ok.ensures.opened c.in-Ok.ensures.numbers))
+    (opened_counted_on s c.self.inside.tickets c.args.number c.in-Between.home c.in-Ok.table c.self.invariant between c.in-Ok.ensures.opened c.in-Ok.ensures.own c.in-Ok.ensures.numbers))
