@@ -3,9 +3,9 @@
 
     python3 library/live/check.py FOLDER
 
-Behind a line `# opened` every device is up at its start; a line `# found lamp=on` puts a device there, up. A hub that was
-killed may have written a window of the script, and not its text. Prints how many windows and runs agree, or the first place
-where a record does not.
+Behind a line `# opened` every device is up at its start; a line `# found lamp=on` puts a device there, up, and `# lost lamp`
+counts it down. A hub that was killed may have written a window of the script, and not its text. Prints how many windows and
+runs agree, or the first place where a record does not.
 """
 import os
 import re
@@ -19,7 +19,7 @@ from reference.check import Differs, WindowChecker, lines_of, value_in
 from reference.script import read_script
 from reference.serial import Stand
 
-FOUND = re.compile(r"# found ([^=]*)=(.*)")
+TOLD = re.compile(r"# (?:found ([^=]*)=(.*)|lost (.*))")
 
 
 def windows_of(text: str) -> Iterator[list[str]]:
@@ -41,9 +41,10 @@ def check_day(script: Any, text: str, stands: list[Any]) -> tuple[list[Any], int
     for number, lines in enumerate(windows):
         if "# opened" in lines or not stands:
             stands = [Stand(device.start, True) for device in script.devices]
-        for found in filter(None, map(FOUND.fullmatch, lines)):
-            device = names.index(found[1])
-            stands[device] = Stand(value_in(script.devices[device], found[2]), True)
+        for told in filter(None, map(TOLD.fullmatch, lines)):
+            device = names.index(told[1] or told[3])
+            found = value_in(script.devices[device], told[2]) if told[1] else None
+            stands[device] = stands[device]._replace(up=False) if found is None else Stand(found, True)
         checker = WindowChecker(script, number, stands, lines_of("".join(f"{line}\n" for line in lines).encode()))
         stands, _ = checker.check()
     return stands, len(windows), sum(len(window.runs) for window in script.windows[: len(windows)])

@@ -1,16 +1,19 @@
 #!/usr/bin/env python3
 """A small live hub over the library: triggers come at any moment, and devices are called over their sockets.
 
-    python3 library/live/hub.py --devices PORTS [--journal FOLDER] [--limit MS] [TRIGGERS]
+    python3 library/live/hub.py --devices PORTS [--journal FOLDER] [--limit MS] [--gap MS] [TRIGGERS]
 
 A trigger is a line with a routine's name, of standard input or of the file TRIGGERS; `wait MS` there lets time pass. PORTS is
-what devices.py prints. A device that has not answered when the limit is over counts as dead. README.md tells how it works.
+what devices.py prints. A device that has not answered when the limit is over counts as dead, and one that is down is probed
+again after the gap. README.md says how it works.
 """
 import argparse
 import asyncio
+import contextlib
 import datetime
 import os
 import sys
+from collections import deque
 from typing import IO
 
 HERE = os.path.dirname(os.path.abspath(__file__))
@@ -20,9 +23,9 @@ from devices import home
 from journals import Journal
 from wires import Wire
 
-from lazbendix import Answer, Dead, EntryKind, Found, Go, Hub, Moved, Over, Refused, Status
+from lazbendix import Answer, Dead, Entry, EntryKind, Found, Go, Hub, Over, Refused, Status, Waits
 
-MOST_RUNS = 64
+MOST_PROBES = 100  # rounds of a window
 PATIENCE = 0.1  # s: two waits of a run end by time alone, so it is taken again after so long
 SECOND = datetime.timedelta(seconds=1)
 
@@ -30,46 +33,54 @@ Call = asyncio.Task[tuple[Go, Answer]]
 
 
 class LiveHub:
-    def __init__(self, hub: Hub, wires: list[Wire], journal: Journal) -> None:
+    def __init__(self, hub: Hub, wires: list[Wire], journal: Journal, gap: float) -> None:
         self.hub, self.wires, self.journal = hub, wires, journal
+        self.gap = gap  # s: the time between two probes of a device that is down
         self.names = [hub.device_name(d) for d in range(hub.counts().devices)]
         self.routines = {hub.routine_name(r): r for r in range(hub.counts().routines)}
-        self.triggers: asyncio.Queue[str | None] = asyncio.Queue()
+        self.triggers: deque[str] = deque()  # those that are no runs yet
+        self.has_all = False
+        self.news = asyncio.Event()  # a trigger came, or an answer
         self.last = datetime.datetime.min
         self.turned: dict[int, int] = {}
 
     def trigger(self, routine: str) -> bool:
-        """Puts a trigger into the queue; false where there is no such routine."""
+        """Takes a trigger; false where there is no such routine."""
         if routine in self.routines:
-            self.triggers.put_nowait(routine)
+            self.triggers.append(routine)
+            self.news.set()
         return routine in self.routines
 
     def end(self) -> None:
-        """After the triggers that are in the queue, `live` returns."""
-        self.triggers.put_nowait(None)
+        """After the triggers that have come, `live` returns."""
+        self.has_all = True
+        self.news.set()
 
     async def live(self) -> None:
-        """For each burst of triggers a window, until the end."""
-        burst: list[str] = []
-        while (first := await self.triggers.get()) is not None:
-            burst = [first]
-            while len(burst) < MOST_RUNS and not self.triggers.empty():
-                after = self.triggers.get_nowait()
-                if after is None:
-                    self.end()
-                    break
-                burst.append(after)
+        """A window from a trigger to the next quiet moment, and again, until the end."""
+        while await self.is_triggered():
             await self.look()
-            await self.play(burst)
+            await self.play()
         self.journal.end_day()
+
+    async def is_triggered(self) -> bool:
+        """Waits for a trigger; false where no more come."""
+        while not self.triggers and not self.has_all:
+            await self.news.wait()
+            self.news.clear()
+        return bool(self.triggers)
 
     # Between two windows.
 
     async def look(self) -> None:
-        """Tells the home where devices were found that others turned. One that is counted down is left to a probe."""
+        """Tells the home where devices were found that others turned, and which do not answer. One that is counted down is left
+        to a probe."""
         for device, value in enumerate(await asyncio.gather(*(wire.value() for wire in self.wires))):
             stand = self.hub.stand(device)
-            if value is not None and stand.up and value != stand.value:
+            if stand.up and value is None:
+                self.hub.lose(device)
+                self.journal.lost(self.names[device])
+            elif stand.up and value is not None and value != stand.value:
                 self.restand(device, value)
 
     def restand(self, device: int, value: int) -> None:
@@ -86,66 +97,117 @@ class LiveHub:
         self.last = max(datetime.datetime.now().replace(microsecond=0), self.last + SECOND)
         return self.last.isoformat()
 
-    # A window.
-
-    async def play(self, routines: list[str]) -> None:
-        """Runs these routines in a window of the moment, and writes its text into the journal."""
+    async def play(self) -> None:
+        """Opens a window with the triggers that have come, closes it at its first quiet moment, and writes its text into the
+        journal."""
         at, down = self.time(), [d for d in range(len(self.names)) if not self.hub.stand(d).up]
-        number = self.hub.begin_window(at, probes=1)
-        for routine in routines:
-            self.hub.add_run(self.routines[routine])
+        number = self.hub.begin_window(at, probes=MOST_PROBES)
+        window = Window(self, down)
+        window.join()
         self.hub.window(number)
-        await self.steps(len(routines), down)
+        await window.steps()
         self.hub.close_window()
         committed = sum(entry.kind is EntryKind.COMMITTED for entry in self.hub.entries())
-        self.journal.closed(number, at, routines, committed, self.hub.record(trace=True))
+        self.journal.closed(number, at, window.routines, committed, self.hub.record(trace=True))
         for device, value in self.turned.items():
             self.restand(device, value)
         self.turned.clear()
 
-    async def steps(self, count: int, down: list[int]) -> None:
-        """Takes the runs of the window, and makes the calls that they ask for, until nothing is left to do."""
-        loop = asyncio.get_running_loop()
-        begin, runs = loop.time(), list(range(1, count + 1))
-        calls = {self.start(self.hub.probe(device)) for device in down}
-        while self.hub.left() is not None:
-            now, has_moved = int((loop.time() - begin) * 1000), False
-            for run in list(runs):
-                if self.hub.is_blocked(run):
-                    continue
-                turn = self.hub.take(run, now)
-                if isinstance(turn, Go):
-                    calls.add(self.start(turn))
-                elif isinstance(turn, Over):
-                    runs.remove(run)
-                has_moved |= isinstance(turn, (Moved, Over))
-            if not has_moved:
-                answered, calls = await self.wait(calls)
-                for call in answered:
-                    self.give(*call.result(), int((loop.time() - begin) * 1000))
+    async def wait(self) -> None:
+        """Waits for a trigger or an answer, for some time at most."""
+        with contextlib.suppress(asyncio.TimeoutError):
+            await asyncio.wait_for(self.news.wait(), PATIENCE)
+        self.news.clear()
 
-    def start(self, go: Go) -> Call:
-        async def call() -> tuple[Go, Answer]:
-            return go, await self.wires[go.device].call(go)
 
-        return asyncio.create_task(call())
+class Window:
+    """The window that is open: its runs, the calls that are out, and the devices that are down."""
 
-    async def wait(self, calls: set[Call]) -> tuple[set[Call], set[Call]]:
-        """The calls that were answered, after some time at most, and the others."""
-        if calls:
-            return await asyncio.wait(calls, timeout=PATIENCE, return_when=asyncio.FIRST_COMPLETED)
-        await asyncio.sleep(PATIENCE)
-        return set(), calls
+    def __init__(self, live: LiveHub, down: list[int]) -> None:
+        self.live, self.hub, self.loop = live, live.hub, asyncio.get_running_loop()
+        self.begin = self.loop.time()
+        self.routines: list[str] = []  # of all runs
+        self.runs: list[int] = []  # those that have not ended
+        self.calls: set[Call] = set()
+        self.probes = dict.fromkeys(down, self.begin)  # when each device that is down is probed next
 
-    def give(self, go: Go, answer: Answer, now: int) -> None:
+    def moment(self) -> int:
+        return int((self.loop.time() - self.begin) * 1000)
+
+    def join(self) -> None:
+        """Makes a run of each trigger that has come. Where the window has all the runs that it may, the others wait for its end."""
+        while self.live.triggers:
+            try:
+                self.runs.append(self.hub.add_run(self.live.routines[self.live.triggers[0]]))
+            except Refused as refused:
+                if refused.status is not Status.TOO_MANY:
+                    raise
+                return
+            self.routines.append(self.live.triggers.popleft())
+
+    async def steps(self) -> None:
+        """Triggers join, runs are taken, and the calls that they ask for are made, until nothing is left to do."""
+        while True:
+            self.join()
+            if self.hub.left() is None:
+                return
+            self.probe()
+            if not self.take():
+                await self.live.wait()
+                self.give()
+
+    def take(self) -> bool:
+        """Takes each run that has not ended and is not blocked. Whether one of them did not wait."""
+        has_moved, blocked = False, self.hub.blocked_runs()
+        for run in [run for run in self.runs if not blocked >> (run - 1) & 1]:
+            turn = self.hub.take(run, self.moment())
+            if isinstance(turn, Go):
+                self.start(turn)
+            elif isinstance(turn, Over):
+                self.runs.remove(run)
+            has_moved |= not isinstance(turn, Waits)
+        return has_moved
+
+    def probe(self) -> None:
+        """Sends a probe to each device that is down, as often as the gap says and as long as one is left."""
+        for device, at in self.probes.items():
+            if at > self.loop.time():
+                continue
+            self.probes[device] = self.loop.time() + self.live.gap
+            try:
+                self.start(self.hub.probe(device))
+            except Refused as refused:
+                if refused.status is not Status.NO_PROBE:
+                    raise
+
+    def start(self, go: Go) -> None:
+        async def made() -> tuple[Go, Answer]:
+            return go, await self.live.wires[go.device].call(go)
+
+        call = asyncio.create_task(made())
+        call.add_done_callback(lambda _: self.live.news.set())
+        self.calls.add(call)
+
+    def give(self) -> None:
+        """Hands in each answer that has come, and notes which devices are down. One that somebody turned is not probed, since
+        that would drive it back."""
+        for call in [call for call in self.calls if call.done()]:
+            self.calls.remove(call)
+            for entry in self.given(*call.result()):
+                if entry.kind is EntryKind.FELL and entry.device not in self.live.turned:
+                    self.probes[entry.device] = self.loop.time() + self.live.gap
+                elif entry.kind is EntryKind.ROSE:
+                    del self.probes[entry.device]
+
+    def given(self, go: Go, answer: Answer) -> tuple[Entry, ...]:
         """Hands the answer in. A sense that finds the device elsewhere is told as dead, and the home after the window."""
         try:
-            self.hub.give(go.device, go.ticket, answer, now)
+            return self.hub.give(go.device, go.ticket, answer, self.moment())
         except Refused as refused:
             if refused.status is not Status.DIFFERS or not isinstance(answer, Found):
                 raise
-            self.turned[go.device] = answer.value
-            self.hub.give(go.device, go.ticket, Dead(), now)
+            self.live.turned[go.device] = answer.value
+            return self.hub.give(go.device, go.ticket, Dead(), self.moment())
 
 
 async def read_triggers(live: LiveHub, lines: IO[str]) -> None:
@@ -171,11 +233,12 @@ async def main() -> None:
     options.add_argument("--devices", required=True)
     options.add_argument("--journal", default="journal")
     options.add_argument("--limit", type=float, default=1000, help="the time in which a device has to answer, in ms")
+    options.add_argument("--gap", type=float, default=10000, help="the time between two probes of a device that is down, in ms")
     asked = options.parse_args()
     ports, script = read_ports(asked.devices), home()
     with open(os.path.join(HERE, "home.json"), "rb") as file, Hub(file.read()) as hub:
         wires = [Wire(ports[device["name"]], asked.limit / 1000) for device in script["devices"]]
-        live = LiveHub(hub, wires, Journal(asked.journal, script, hub.head()))
+        live = LiveHub(hub, wires, Journal(asked.journal, script, hub.head()), asked.gap / 1000)
         lines = open(asked.triggers, encoding="utf-8") if asked.triggers else sys.stdin
         await asyncio.gather(read_triggers(live, lines), live.live())
         for wire in wires:

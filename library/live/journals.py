@@ -42,6 +42,9 @@ class Journal:
         """The line goes to the disk with the window that it stands above."""
         self.above += f"# found {device}={value}\n"
 
+    def lost(self, device: str) -> None:
+        self.above += f"# lost {device}\n"
+
     def closed(self, number: int, at: str, routines: list[str], committed: int, text: str) -> None:
         """A window was closed, with this text."""
         if number == 0 and self.script["windows"]:

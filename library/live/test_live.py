@@ -14,6 +14,7 @@ HERE = os.path.dirname(os.path.abspath(__file__))
 ROUTINES = ["wake-up", "leave", "come-home", "lock", "film", "night"]
 VALUES = {"lamp": 2, "blinds": 3, "door": 2, "alarm": 2}
 TRIGGERS = 200
+PAUSES = ["", "", "", "", "wait 30\n", "wait 30\n", "wait 90\n", "wait 300\n"]  # behind a trigger, in ms
 
 
 def program(name: str, *words: str) -> list[str]:
@@ -37,8 +38,8 @@ def play(folder: str, draw: random.Random) -> str:
     triggers, ports, journal = (os.path.join(folder, name) for name in ("triggers", "ports", "journal"))
     with open(triggers, "w", encoding="utf-8") as file:
         for _ in range(TRIGGERS):
-            file.write(f"{draw.choice(ROUTINES)}\n" + draw.choice(["", "", "wait 30\n", "wait 90\n"]))
-    served = program("devices.py", "--late", "8", "--fails", "0.04")
+            file.write(f"{draw.choice(ROUTINES)}\n" + draw.choice(PAUSES))
+    served = program("devices.py", "--late", "8", "--fails", "0.06")
     with open(ports, "w", encoding="utf-8") as out, subprocess.Popen(served, stdin=subprocess.PIPE, stdout=out, text=True) as devices:
         assert devices.stdin is not None
         while "ready" not in read(ports):
@@ -47,7 +48,7 @@ def play(folder: str, draw: random.Random) -> str:
         is_over = threading.Event()
         hand = threading.Thread(target=turn_by_hand, args=(draw, devices.stdin, is_over))
         hand.start()
-        hub = program("hub.py", "--devices", ports, "--journal", journal, "--limit", "120", triggers)
+        hub = program("hub.py", "--devices", ports, "--journal", journal, "--limit", "120", "--gap", "400", triggers)
         subprocess.run(hub, check=True, timeout=300)
         is_over.set()
         hand.join()
@@ -64,7 +65,7 @@ class Live(unittest.TestCase):
             record = read(os.path.join(folder, "journal", "1.record"))
         print(said, end="", file=sys.stderr)
         self.assertRegex(said, f"^[0-9]+ windows with {TRIGGERS} runs agree$")
-        for line in ("# opened", "# found ", "# fell ", "# rose ", "# undid "):
+        for line in ("# opened", "# found ", "# lost ", "# fell ", "# rose ", "# undid "):
             self.assertIn(line, record)
         self.assertEqual(len(re.findall(r"^run \d+ \S+ (?:committed|aborted)", record, re.M)), TRIGGERS)
 
