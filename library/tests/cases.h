@@ -18,8 +18,10 @@ typedef struct text {
 } text;
 
 typedef struct played_window {
+    char at[32];
     uint64_t seed, probes;
     numbers routines; /* of its runs */
+    numbers follows;  /* of each run the one that it follows, 0 for none */
     numbers turns;
 } played_window;
 
@@ -31,6 +33,7 @@ typedef struct day {
     numbers *takes; /* of each routine: the ms of its commands */
     played_window *window;
     text script, record;
+    text home; /* the script without its windows */
 } day;
 
 static void bad_case(const char *what) {
@@ -95,12 +98,16 @@ static int read_day(FILE *in, day *made) {
     made->windows = read_head(in, "windows");
     made->window = (played_window *)room(made->windows, sizeof *made->window);
     for (size_t k = 0; k < made->windows; k++) {
+        if (fscanf(in, "%31s", made->window[k].at) != 1)
+            bad_case("a time");
         made->window[k].seed = read_number(in);
         made->window[k].probes = read_number(in);
         made->window[k].routines = read_numbers(in);
+        made->window[k].follows = read_numbers(in);
         made->window[k].turns = read_numbers(in);
     }
     made->script = read_text(in, "script");
+    made->home = read_text(in, "home");
     made->record = read_text(in, "record");
     return 1;
 }
@@ -112,12 +119,14 @@ static void free_day(day *made) {
         free(made->takes[r].at);
     for (size_t k = 0; k < made->windows; k++) {
         free(made->window[k].routines.at);
+        free(made->window[k].follows.at);
         free(made->window[k].turns.at);
     }
     free(made->downs);
     free(made->takes);
     free(made->window);
     free(made->script.at);
+    free(made->home.at);
     free(made->record.at);
 }
 

@@ -5,8 +5,9 @@
    Each call has to answer one of its own statuses, and where that is not DONE it may not have written anything; on a
    closed handle it leaves the handle's bytes too. A call of a device has a ticket above that of each call of its home
    before it, no answer is taken but one to a call that is out, a device that is out is told with the turn of its call,
-   and no item that is final changes. Where REFUSED is not 0, one allocation of so many is refused. In the end no block of
-   memory is left. Link it with -Wl,--wrap=malloc,--wrap=realloc,--wrap=free. */
+   no item that is final changes, and a run that joins a window that is open is its last one. Where REFUSED is not 0, one
+   allocation of so many is refused in every second call. In the end no block of memory is left. Link it with
+   -Wl,--wrap=malloc,--wrap=realloc,--wrap=free. */
 #include "../lazbendix.h"
 #include "home.h"
 #include <inttypes.h>
@@ -28,6 +29,7 @@ void *__real_realloc(void *at, size_t size);
 void __real_free(void *at);
 
 static uint64_t draws = 1, refused_one_of;
+static int is_tight; /* whether memory is refused in this call */
 static long blocks;
 
 static uint64_t drawn(void) {
@@ -38,7 +40,7 @@ static uint64_t drawn(void) {
 }
 
 static int is_refused(void) {
-    return refused_one_of && drawn() % refused_one_of == 0;
+    return is_tight && drawn() % refused_one_of == 0;
 }
 
 void *__wrap_malloc(size_t size) {
@@ -85,7 +87,11 @@ static struct {
     lazbendix_turn last;
     lazbendix_item final_items[FINAL]; /* of the window that is open */
     uint32_t sealed;
+    uint32_t last_window; /* of the script */
 } known[HANDLES];
+
+/* The runs that joined an open window. */
+static uint64_t joins;
 
 /* The device or the place of the question that was drawn. */
 static uint32_t asked;
@@ -209,7 +215,7 @@ static int32_t make(enum call call, int h) {
     switch (call) {
     case OPEN: return open_hub(h);
     case END: return lazbendix_end(hub);
-    case WINDOW: return lazbendix_window(hub, drawn() % 2 ? small() : (uint32_t)(drawn() % 40));
+    case WINDOW: return lazbendix_window(hub, drawn() % 2 ? known[h].last_window : drawn() % 2 ? small() : (uint32_t)(drawn() % 40));
     case TAKE: return lazbendix_take(hub, small(), wide(), &out.turn);
     case GIVE: return give(h);
     case PROBE: return lazbendix_probe(hub, small(), &out.turn);
@@ -255,6 +261,16 @@ static void wrong(uint64_t number, enum call call, int32_t status, const char *w
     exit(1);
 }
 
+/* The run that was added is the last one of the script's last window, and where that is open no run is blocked any more. */
+static const char *note_run(int h) {
+    uint64_t runs, blocked = 0;
+    int is_open = lazbendix_blocked_runs(&hubs[h], &blocked) == LAZBENDIX_DONE;
+    joins += (uint64_t)is_open;
+    if (lazbendix_run_count(&hubs[h], known[h].last_window, &runs) != LAZBENDIX_DONE || runs != out.number)
+        return "a run is not the last one";
+    return blocked ? "a run is blocked after a join" : NULL;
+}
+
 /* Notes what the call did, and looks whether it may. */
 static const char *note(enum call call, int h, int32_t status) {
     uint32_t d = given.device;
@@ -263,7 +279,13 @@ static const char *note(enum call call, int h, int32_t status) {
     switch (call) {
     case OPEN:
         known[h].ticket = 0;
+        known[h].last_window = WINDOWS - 1;
         break;
+    case BEGIN_WINDOW:
+        known[h].last_window = out.number;
+        break;
+    case ADD_RUN:
+        return note_run(h);
     case TAKE:
     case PROBE:
         if (out.turn.kind != LAZBENDIX_GO)
@@ -323,7 +345,9 @@ int main(int argc, char **argv) {
         memcpy(&out, &untouched, sizeof out);
         uint8_t before[sizeof hubs[h]]; /* to compare alone: a handle is not copied */
         memcpy(before, &hubs[h], sizeof before);
+        is_tight = refused_one_of && drawn() % 2;
         int32_t status = make(call, h);
+        is_tight = 0;
         if (status < 0 || status >= STATUSES || !((calls[call].statuses | BIT(DONE) | BIT(CLOSED)) >> status & 1))
             wrong(i, call, status, "it is no status of this call");
         if (status != LAZBENDIX_DONE && status != LAZBENDIX_REFUSED && memcmp(&out, &untouched, sizeof out) != 0)
@@ -337,7 +361,6 @@ int main(int argc, char **argv) {
     }
     for (int h = 0; h < HANDLES; h++)
         lazbendix_end(&hubs[h]);
-    refused_one_of = 0;
     for (int call = 0; call < CALLS; call++)
         for (int status = 0; status < STATUSES; status++)
             if (counts[call][status] && argc > 4)
@@ -346,6 +369,11 @@ int main(int argc, char **argv) {
         printf("%ld blocks of memory are left\n", blocks);
         return 1;
     }
-    printf("%" PRIu64 " calls of the seed %" PRIu64 ": a status each time, and no block is left\n", many, seed);
+    if (!joins) {
+        puts("no run joined");
+        return 1;
+    }
+    printf("%" PRIu64 " calls of the seed %" PRIu64 ", in which %" PRIu64 " runs join: a status each time, and no block is left\n",
+           many, seed, joins);
     return 0;
 }

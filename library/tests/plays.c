@@ -9,9 +9,9 @@
    that is out is told with its turn, and no other one; the items that are final stay, and are the order of the record. */
 #include "../lazbendix.h"
 #include "cases.h"
+#include "wall.h"
 
 #define ACTORS 65  /* the detector, and the runs of a window */
-#define DEVICES 256
 #define DETECTOR 0
 
 static const day *now_played;
@@ -21,36 +21,6 @@ static const day *now_played;
 static void wrong(int line, const char *what) {
     printf("%s, model %u, scheduler %u: line %d: %s\n", now_played->name, now_played->model, now_played->scheduler, line, what);
     exit(1);
-}
-
-/* The devices of the caller. */
-
-typedef struct device {
-    const numbers *downs;
-    uint64_t calls;
-    uint32_t stands;
-} device;
-
-static int answers(device *it) {
-    it->calls++;
-    for (size_t i = 0; i + 1 < it->downs->len; i += 2)
-        if (it->downs->at[i] <= it->calls && it->calls < it->downs->at[i + 1])
-            return 0;
-    return 1;
-}
-
-/* Makes the call that the turn asks for, and answers what the device told. */
-static uint32_t call_device(device *it, const lazbendix_turn *turn, uint32_t *value) {
-    *value = 0;
-    if (!answers(it))
-        return LAZBENDIX_DEAD;
-    if (turn->task == LAZBENDIX_RESTORE && !answers(it))
-        return LAZBENDIX_DEAD;
-    if (turn->task == LAZBENDIX_DRIVE || turn->task == LAZBENDIX_RESTORE)
-        it->stands = turn->value;
-    if (turn->task == LAZBENDIX_SENSE)
-        *value = it->stands;
-    return turn->task == LAZBENDIX_SENSE ? LAZBENDIX_FOUND_VALUE : LAZBENDIX_WORKED;
 }
 
 /* The actors of a window. */
@@ -329,19 +299,17 @@ static void play(const day *played) {
 #endif
     lazbendix_fault fault;
     lazbendix_counts_told counts;
-    device wall[DEVICES];
+    device wall[MOST_DEVICES];
     size_t len, at;
     uint64_t runs = 0, committed = 0;
     char total[128];
-    memset(wall, 0, sizeof wall);
     WANT(lazbendix_open(&hub, played->script.at, played->script.len, played->model, played->scheduler, &fault) == LAZBENDIX_DONE);
     WANT(lazbendix_counts(&hub, &counts) == LAZBENDIX_DONE);
     WANT(counts.devices == played->devices && counts.routines == played->routines && counts.windows == played->windows);
     for (uint32_t d = 0; d < played->devices; d++) {
         lazbendix_stand_told stand;
         WANT(lazbendix_stand(&hub, d, &stand) == LAZBENDIX_DONE && stand.up == 1);
-        wall[d].downs = &played->downs[d];
-        wall[d].stands = stand.value;
+        wall[d] = hung(&played->downs[d], stand.value);
     }
     WANT(lazbendix_head(&hub, &len) == LAZBENDIX_DONE);
     at = compare(&hub, len, played, 0);

@@ -4,8 +4,8 @@
 #
 #     library/tests/run.sh [DAYS]
 #
-# DAYS drawn days are played, each in all six modes, 500 where none is said. The library is that of LAZBENDIX_OUT, or of
-# library/out.
+# DAYS drawn days are played, each in all six modes, 500 where none is said, and as many whose runs join at drawn moments, or
+# as LAZBENDIX_JOIN_DAYS says. The library is that of LAZBENDIX_OUT, or of library/out.
 set -eu
 tests=$(cd "$(dirname "$0")" && pwd)
 library=$(dirname "$tests")
@@ -14,8 +14,9 @@ days=${1:-500}
 LAZBENDIX_OUT=$(cd "${LAZBENDIX_OUT:-$library/out}" && pwd)
 LAZBENDIX_LIBRARY=$LAZBENDIX_OUT/liblazbendix.so
 LAZBENDIX_CASES=$LAZBENDIX_OUT/tests/cases
+LAZBENDIX_COMING=$LAZBENDIX_OUT/tests/coming
 LAZBENDIX_DAYS=$days
-export LAZBENDIX_OUT LAZBENDIX_LIBRARY LAZBENDIX_CASES LAZBENDIX_DAYS
+export LAZBENDIX_OUT LAZBENDIX_LIBRARY LAZBENDIX_CASES LAZBENDIX_COMING LAZBENDIX_DAYS
 made=$LAZBENDIX_OUT/tests
 archive=$LAZBENDIX_OUT/liblazbendix.a
 warnings="-Wall -Wextra -Wpedantic -Werror"
@@ -45,6 +46,7 @@ python3 "$tests/declarations.py"
 
 say "C, $days drawn days"
 python3 "$tests/cases.py" --days "$days" > "$LAZBENDIX_CASES"
+python3 "$tests/cases.py" --days "${LAZBENDIX_JOIN_DAYS:-$days}" --coming > "$LAZBENDIX_COMING"
 compile statuses "$tests/statuses.c"
 "$made/statuses"
 compile late "$tests/late.c"
@@ -52,11 +54,16 @@ compile late "$tests/late.c"
 judge "$made/late.day"
 compile plays "$tests/plays.c"
 "$made/plays" < "$LAZBENDIX_CASES"
+compile joins "$tests/joins.c" $counted
+"$made/joins" < "$LAZBENDIX_COMING"
 if has c++; then
     say "C++, the same days"
     # shellcheck disable=SC2086
     c++ -std=c++17 $warnings -O1 -x c++ "$tests/plays.c" -x none "$archive" -o "$made/plays_cpp"
     "$made/plays_cpp" < "$LAZBENDIX_CASES"
+    # shellcheck disable=SC2086
+    c++ -std=c++17 $warnings -O1 -x c++ "$tests/joins.c" -x none "$archive" $counted -o "$made/joins_cpp"
+    "$made/joins_cpp" < "$LAZBENDIX_COMING"
 else
     say "C++ is not there"
 fi
@@ -71,6 +78,8 @@ if sanitizes address,undefined; then
     say "AddressSanitizer"
     compile plays-checked "$tests/plays.c" -fsanitize=address,undefined
     "$made/plays-checked" < "$LAZBENDIX_CASES"
+    compile joins-checked "$tests/joins.c" -fsanitize=address,undefined $counted
+    "$made/joins-checked" < "$LAZBENDIX_COMING"
     compile fuzz-checked "$tests/fuzz.c" -fsanitize=address,undefined $counted
     "$made/fuzz-checked" 100000 3
     "$made/fuzz-checked" 100000 4 5
@@ -105,6 +114,11 @@ compile window "$library/examples/window.c"
 compile moment "$library/examples/moment.c"
 "$made/moment" > "$made/moment.text"
 grep -q '^run 1 leave committed' "$made/moment.text"
+compile joining "$library/examples/joining.c"
+"$made/joining" > "$made/joining.record"
+cmp "$made/joining.record" "$tests/joining.record"
+{ cat "$tests/joining.json"; echo %%; cat "$made/joining.record"; } > "$made/joining.day"
+judge "$made/joining.day"
 if has c++; then
     # shellcheck disable=SC2086
     c++ -std=c++17 $warnings -O1 "$library/examples/window.cpp" "$archive" -o "$made/window_cpp"

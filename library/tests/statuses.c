@@ -201,10 +201,10 @@ static void give(const lazbendix_turn *turn) {
     IS(NOT_OUT, lazbendix_give(&hub, turn->device, turn->ticket, answer, turn->stood, 0, &made));
 }
 
-static void play(uint32_t window, uint32_t runs) {
+/* Steps the runs of the window that is open to their ends. */
+static void play_on(uint32_t runs) {
     lazbendix_turn turn;
     lazbendix_left left;
-    IS(DONE, lazbendix_window(&hub, window));
     do {
         for (uint32_t run = 1; run <= runs; run++) {
             IS(DONE, lazbendix_take(&hub, run, 0, &turn));
@@ -215,6 +215,11 @@ static void play(uint32_t window, uint32_t runs) {
         if (left.kind)
             IS(NOT_QUIET, lazbendix_close_window(&hub));
     } while (left.kind);
+}
+
+static void play(uint32_t window, uint32_t runs) {
+    IS(DONE, lazbendix_window(&hub, window));
+    play_on(runs);
     IS(DONE, lazbendix_close_window(&hub));
 }
 
@@ -228,7 +233,7 @@ static void in_a_window(void) {
     IS(DONE, lazbendix_window(&hub, 0));
     IS(IN_WINDOW, lazbendix_window(&hub, 1));
     IS(IN_WINDOW, lazbendix_begin_window(&hub, (const uint8_t *)"2022-04-26T09:00:00", 19, 0, &number));
-    IS(NO_WINDOW, lazbendix_add_run(&hub, 0, 0, &number));
+    IS(NO_WINDOW, lazbendix_add_run(&hub, 0, 0, &number)); /* it is not the script's last one */
     IS(IN_WINDOW, lazbendix_restand(&hub, 0, 0));
     IS(IN_WINDOW, lazbendix_lose(&hub, 0));
     IS(IN_WINDOW, lazbendix_lose(&hub, DEVICES));
@@ -299,6 +304,64 @@ static void go(uint32_t run, lazbendix_turn *turn) {
         IS(DONE, lazbendix_take(&hub, run, 0, turn));
     while (turn->kind == LAZBENDIX_MOVED);
     WANT(turn->kind == LAZBENDIX_GO);
+}
+
+static void joins(uint32_t routine, uint32_t follows, uint32_t wanted) {
+    uint32_t run;
+    IS(DONE, lazbendix_add_run(&hub, routine, follows, &run));
+    WANT(run == wanted);
+}
+
+static void waits(uint32_t run, uint32_t why, uint64_t blocked) {
+    lazbendix_turn turn;
+    uint64_t runs;
+    do
+        IS(DONE, lazbendix_take(&hub, run, 0, &turn));
+    while (turn.kind == LAZBENDIX_MOVED);
+    WANT(turn.kind == LAZBENDIX_WAITS && turn.why == why);
+    IS(DONE, lazbendix_blocked_runs(&hub, &runs));
+    WANT(runs == blocked);
+}
+
+/* Runs join a window that is open: one without runs, while a device is out, and when all have ended. */
+static void runs_that_join(void) {
+    lazbendix_turn turn;
+    lazbendix_left left;
+    uint64_t runs;
+    uint32_t number, run = 77;
+    IS(DONE, lazbendix_begin_window(&hub, (const uint8_t *)"2021-04-26T09:00:00", 19, 0, &number));
+    IS(DONE, lazbendix_window(&hub, number));
+    IS(DONE, lazbendix_quiet(&hub, &left));
+    WANT(left.kind == 0);
+    IS(ABSENT, lazbendix_add_run(&hub, ROUTINES, 1, &run));
+    IS(BAD_FOLLOW, lazbendix_add_run(&hub, 0, 1, &run));
+    WANT(run == 77);
+    joins(1, 0, 1);
+    IS(NOT_QUIET, lazbendix_close_window(&hub));
+    go(1, &turn); /* the lamp */
+    joins(1, 0, 2);
+    waits(2, LAZBENDIX_BEHIND, 2);
+    joins(2, 1, 3);
+    IS(DONE, lazbendix_blocked_runs(&hub, &runs));
+    WANT(runs == 0); /* a join forgets what was blocked */
+    waits(3, LAZBENDIX_FOLLOWS, 0);
+    waits(2, LAZBENDIX_BEHIND, 2);
+    give(&turn);
+    play_on(3);
+    joins(2, 1, 4); /* it follows one that has ended, and waits for nothing */
+    IS(DONE, lazbendix_quiet(&hub, &left));
+    WANT(left.kind == 1 && left.number == 4);
+    go(4, &turn);
+    for (run = 5; run <= 64; run++)
+        joins(run % ROUTINES, run / 2, run);
+    IS(TOO_MANY, lazbendix_add_run(&hub, 0, 65, &run));
+    IS(DONE, lazbendix_run_count(&hub, number, &runs));
+    WANT(runs == 64);
+    give(&turn);
+    play_on(64);
+    IS(DONE, lazbendix_close_window(&hub));
+    IS(NO_WINDOW, lazbendix_add_run(&hub, 0, 0, &run));
+    IS(DONE, lazbendix_end(&hub));
 }
 
 /* So many items are final, the last of them this run. */
@@ -406,6 +469,8 @@ int main(void) {
     a_probe_of_a_device_that_is_out();
     IS(DONE, lazbendix_open(&hub, SCRIPT, LAZBENDIX_EVENTUAL, LAZBENDIX_FCFS, &fault));
     a_device_that_is_lost();
+    IS(DONE, lazbendix_open(&hub, SCRIPT, LAZBENDIX_EVENTUAL, LAZBENDIX_FCFS, &fault));
+    runs_that_join();
     IS(DONE, lazbendix_open(&hub, SCRIPT, LAZBENDIX_EVENTUAL, LAZBENDIX_FCFS, &fault));
     what_is_asked_of_a_window();
     IS(DONE, lazbendix_open(&hub, SCRIPT, LAZBENDIX_EVENTUAL, LAZBENDIX_FCFS, &fault));

@@ -254,9 +254,11 @@ class Hub:
         return number.value
 
     def add_run(self, routine: int, follows: int = 0) -> int:
-        """Appends a run of the routine to the window that was begun, and answers its number; it
-        waits for the end of the run that it follows, 0 for none. NO_WINDOW, ABSENT, BAD_FOLLOW,
-        TOO_MANY, NO_MEMORY."""
+        """Appends a run of the routine to the window that was begun, or to the one that is open,
+        where it is the script's last one, and answers its number; it waits for the end of the run
+        that it follows, 0 for none. A run that joins an open window has not arrived, and nothing
+        else of the window changes; who sleeps by `is_blocked` or `blocked_runs` asks again.
+        NO_WINDOW, ABSENT, TOO_MANY (64 runs), BAD_FOLLOW, NO_MEMORY."""
         run = c_uint32()
         self._call("add_run", _u32(routine), _u32(follows), byref(run))
         return run.value

@@ -188,10 +188,11 @@ impl Hub {
         Ok(number)
     }
 
-    /// Appends a run of the routine to the window that was begun, and answers its number; it waits for the end of the run
-    /// that it follows.
+    /// Appends a run of the routine to the window that was begun, or to the one that is open, where it is the script's last
+    /// one, and answers its number; it waits for the end of the run that it follows. A run that joins an open window has not
+    /// arrived, and nothing else of the window changes; who sleeps by [`Hub::is_blocked`] asks again.
     ///
-    /// [`Status::NoWindow`], [`Status::Absent`], [`Status::BadFollow`], [`Status::TooMany`], [`Status::NoMemory`].
+    /// [`Status::NoWindow`], [`Status::Absent`], [`Status::TooMany`] (64 runs), [`Status::BadFollow`], [`Status::NoMemory`].
     pub fn add_run(&mut self, routine: u32, follows: Option<u32>) -> Result<u32, Refused> {
         let mut run = 0;
         if follows == Some(0) {

@@ -32,6 +32,12 @@ fn play(hub: &mut Hub, number: u32, window: u32) {
 
 /// The same, in the window that is open.
 fn play_on(hub: &mut Hub, number: u32, window: u32) {
+    step(hub, number, window);
+    hub.close_window().unwrap();
+}
+
+/// The same, and the window stays open.
+fn step(hub: &mut Hub, number: u32, window: u32) {
     while hub.left().unwrap().is_some() {
         for run in 1..=hub.run_count(number).unwrap() as u32 {
             if let Turn::Go(go) = hub.take(run, 0).unwrap() {
@@ -40,7 +46,6 @@ fn play_on(hub: &mut Hub, number: u32, window: u32) {
             }
         }
     }
-    hub.close_window().unwrap();
 }
 
 #[test]
@@ -103,6 +108,35 @@ fn the_steps_of_a_run() {
     assert!(matches!(hub.take(1, 5), Ok(Turn::Over(Entry::Ended { run: 1, end: What::Aborted(_) }, _))));
     assert_eq!(hub.close_window(), refused(Status::NotQuiet));
     assert_eq!(hub.probe(LAMP), refused(Status::NoProbe));
+}
+
+#[test]
+fn runs_that_join() {
+    let mut hub = open();
+    hub.restand(WINDOW, SHUT).unwrap();
+    let number = hub.begin_window("2021-04-27T08:10:00", 100).unwrap();
+    hub.window(number).unwrap();
+    assert_eq!(hub.left(), Ok(None));
+    assert_eq!(hub.add_run(READ, Some(1)), refused(Status::BadFollow));
+    assert_eq!(hub.add_run(LEAVE, None), Ok(1));
+    let go = loop {
+        if let Turn::Go(go) = hub.take(1, 0).unwrap() {
+            break go;
+        }
+    };
+    assert_eq!(hub.add_run(LEAVE, None), Ok(2));
+    while !matches!(hub.take(2, 0), Ok(Turn::Waits(_))) {}
+    assert_eq!(hub.blocked_runs(), Ok(2));
+    assert_eq!(hub.add_run(READ, Some(1)), Ok(3));
+    assert_eq!((hub.blocked_runs(), hub.out(HEAT), hub.run_count(number)), (Ok(0), Ok(go), Ok(3)));
+    hub.give(HEAT, go.ticket, Answer::Worked, 0).unwrap();
+    step(&mut hub, number, SHUT);
+    for run in 4..=64 {
+        assert_eq!(hub.add_run(READ, Some(1)), Ok(run));
+    }
+    assert_eq!(hub.add_run(READ, Some(65)), refused(Status::TooMany));
+    play_on(&mut hub, number, SHUT);
+    assert_eq!(hub.record(false).unwrap().matches(" committed").count(), 64);
 }
 
 #[test]

@@ -1,5 +1,6 @@
-//! Each day's record is that of the reference, byte for byte. The days stand in the file that LAZBENDIX_CASES names, or in
-//! library/out/cases; `python3 library/tests/cases.py` writes them.
+//! Each day's record is that of the reference, byte for byte, also where runs join at drawn moments. The days stand in the
+//! files that LAZBENDIX_CASES and LAZBENDIX_COMING name, or in cases and coming of library/out; `python3
+//! library/tests/cases.py` writes the first, and with --coming the second.
 
 use lazbendix::{Answer, Entry, Go, Hub, Mode, Refused, Status, Task, Turn, What};
 use std::{env, fs};
@@ -49,13 +50,16 @@ impl<'a> Cases<'a> {
             takes: (0..self.head("routines")).map(|_| self.numbers()).collect(),
             windows: (0..self.head("windows"))
                 .map(|_| Window {
+                    at: self.word().expect("a time"),
                     seed: self.number(),
                     probes: self.number(),
                     routines: self.numbers(),
+                    follows: self.numbers(),
                     turns: self.numbers(),
                 })
                 .collect(),
             script: self.text("script"),
+            home: self.text("home"),
             record: std::str::from_utf8(self.text("record")).expect("a record is ASCII"),
         })
     }
@@ -68,15 +72,20 @@ struct Day<'a> {
     downs: Vec<Vec<u64>>,
     /// Of each routine: the ms of its commands.
     takes: Vec<Vec<u64>>,
-    windows: Vec<Window>,
+    windows: Vec<Window<'a>>,
     script: &'a [u8],
+    /// The script without its windows.
+    home: &'a [u8],
     record: &'a str,
 }
 
-struct Window {
+struct Window<'a> {
+    at: &'a str,
     seed: u64,
     probes: u64,
     routines: Vec<u64>,
+    /// Of each run the one that it follows, 0 for none.
+    follows: Vec<u64>,
     turns: Vec<u64>,
 }
 
@@ -129,12 +138,15 @@ struct Actor {
 struct Player<'a> {
     hub: &'a mut Hub,
     day: &'a Day<'a>,
-    window: &'a Window,
+    window: &'a Window<'a>,
     actors: Vec<Actor>,
     moment: u64,
     probed: u64,
     draws: u64,
     told: Vec<Entry>,
+    /// The runs that the window has, and what draws when others join.
+    come: usize,
+    joins: u64,
 }
 
 impl Player<'_> {
@@ -158,8 +170,34 @@ impl Player<'_> {
         }
     }
 
+    fn join(&mut self) -> Result<(), Refused> {
+        let follows = self.window.follows[self.come] as u32;
+        let run = self.hub.add_run(self.window.routines[self.come] as u32, (follows > 0).then_some(follows))?;
+        self.come += 1;
+        assert_eq!(run as usize, self.come);
+        Ok(())
+    }
+
+    /// Before a step of the actor it has joined, and perhaps others have.
+    fn let_join(&mut self, actor: usize) -> Result<(), Refused> {
+        while self.come < actor || (self.come < self.window.routines.len() && drawn_below(&mut self.joins, 10) == 0) {
+            self.join()?;
+        }
+        Ok(())
+    }
+
+    /// Opens a window of the moment with some of its runs.
+    fn open(&mut self) -> Result<(), Refused> {
+        let number = self.hub.begin_window(self.window.at, self.window.probes as u32)?;
+        for _ in 0..drawn_below(&mut self.joins, self.window.routines.len().min(2) + 1) {
+            self.join()?;
+        }
+        self.hub.window(number)
+    }
+
     /// The actor's next step, and whether it does not wait.
     fn pick(&mut self, wall: &mut [Device], actor: usize) -> Result<bool, Refused> {
+        self.let_join(actor)?;
         if self.has_ended(actor) {
             return Ok(true);
         }
@@ -205,18 +243,13 @@ impl Player<'_> {
         Ok(())
     }
 
-    fn drawn_below(&mut self, bound: usize) -> usize {
-        self.draws = self.draws.wrapping_mul(6364136223846793005).wrapping_add(1442695040888963407);
-        ((self.draws >> 33) % bound as u64) as usize
-    }
-
     fn finish(&mut self, wall: &mut [Device]) -> Result<(), Refused> {
         loop {
             let actors: Vec<usize> = (0..self.actors.len()).filter(|&actor| !self.has_ended(actor)).collect();
             if actors.is_empty() {
                 return Ok(());
             }
-            let first = self.drawn_below(actors.len());
+            let first = drawn_below(&mut self.draws, actors.len());
             let mut moved = false;
             for at in 0..actors.len() {
                 moved = self.pick(wall, actors[(first + at) % actors.len()])?;
@@ -229,9 +262,14 @@ impl Player<'_> {
     }
 }
 
-/// The record of the day, with its trace.
-fn play(day: &Day) -> Result<String, Refused> {
-    let mut hub = Hub::open(day.script, day.mode)?;
+fn drawn_below(draws: &mut u64, bound: usize) -> usize {
+    *draws = draws.wrapping_mul(6364136223846793005).wrapping_add(1442695040888963407);
+    ((*draws >> 33) % bound as u64) as usize
+}
+
+/// The record of the day, with its trace. Its windows are the script's, or of the moment, and then runs join them.
+fn play(day: &Day, joins: Option<u64>) -> Result<String, Refused> {
+    let mut hub = Hub::open(if joins.is_some() { day.home } else { day.script }, day.mode)?;
     let mut text = hub.head()?;
     let mut wall = Vec::new();
     for (d, downs) in day.downs.iter().enumerate() {
@@ -239,15 +277,7 @@ fn play(day: &Day) -> Result<String, Refused> {
     }
     let (mut runs, mut committed) = (0, 0);
     for (number, window) in day.windows.iter().enumerate() {
-        hub.window(number as u32)?;
-        let actors = vec![Actor::default(); window.routines.len() + 1];
-        let told = Vec::new();
-        let mut player = Player { hub: &mut hub, day, window, actors, moment: 0, probed: 0, draws: window.seed, told };
-        for &actor in &window.turns {
-            player.pick(&mut wall, actor as usize)?;
-        }
-        player.finish(&mut wall)?;
-        let told = player.told;
+        let told = play_window(&mut hub, day, window, number, joins, &mut wall)?;
         hub.close_window()?;
         assert_eq!(hub.entry_count()?, told.len() as u64);
         for (at, entry) in told.iter().enumerate() {
@@ -261,16 +291,51 @@ fn play(day: &Day) -> Result<String, Refused> {
     Ok(format!("{text}total windows {windows} runs {runs} committed {committed} aborted {}\n", runs - committed))
 }
 
-#[test]
-fn each_record_is_that_of_the_reference() {
-    let path = env::var("LAZBENDIX_CASES").unwrap_or_else(|_| concat!(env!("CARGO_MANIFEST_DIR"), "/../out/cases").into());
+/// The entries of the window, which is not closed then.
+fn play_window(
+    hub: &mut Hub,
+    day: &Day,
+    window: &Window,
+    number: usize,
+    joins: Option<u64>,
+    wall: &mut [Device],
+) -> Result<Vec<Entry>, Refused> {
+    let actors = vec![Actor::default(); window.routines.len() + 1];
+    let (moment, probed, draws, told) = (0, 0, window.seed, Vec::new());
+    let (come, seed) = (if joins.is_some() { 0 } else { window.routines.len() }, joins.unwrap_or(0) + number as u64);
+    let mut player = Player { hub, day, window, actors, moment, probed, draws, told, come, joins: seed };
+    match joins {
+        Some(_) => player.open()?,
+        None => player.hub.window(number as u32)?,
+    }
+    for &actor in &window.turns {
+        player.pick(wall, actor as usize)?;
+    }
+    player.finish(wall)?;
+    Ok(player.told)
+}
+
+/// Plays the days of the file that the variable names, and compares the records.
+fn compare(variable: &str, file: &str, joins: bool) {
+    let path = env::var(variable).unwrap_or_else(|_| format!("{}/../out/{file}", env!("CARGO_MANIFEST_DIR")));
     let bytes = fs::read(&path).unwrap_or_else(|_| panic!("python3 library/tests/cases.py > {path}"));
     let mut cases = Cases { rest: &bytes };
     let mut days = 0;
     while let Some(day) = cases.day() {
-        assert_eq!(play(&day).unwrap(), day.record, "{} in {:?}", day.name, day.mode);
         days += 1;
+        let joins = joins.then_some(days * 1000);
+        assert_eq!(play(&day, joins).unwrap(), day.record, "{} in {:?}", day.name, day.mode);
     }
     assert!(days > 0);
     println!("{days} days");
+}
+
+#[test]
+fn each_record_is_that_of_the_reference() {
+    compare("LAZBENDIX_CASES", "cases", false);
+}
+
+#[test]
+fn runs_that_join_leave_the_same_record() {
+    compare("LAZBENDIX_COMING", "coming", true);
 }

@@ -1,8 +1,10 @@
 """Plays a day as `replay` does, through the package, on devices that stand here."""
+import random
 from dataclasses import dataclass, field
 from typing import Any
 
 from lazbendix import Answer, Dead, Entry, EntryKind, Found, Go, Hub, Model, Moved, Over, Scheduler, Task, Waits, Worked
+from reference.record import time_text
 
 DETECTOR = 0
 
@@ -53,6 +55,26 @@ class Player:
     doomed: set[int] = field(default_factory=set)
     did: dict[int, int] = field(default_factory=dict)
     told: list[Entry] = field(default_factory=list)
+    joins: random.Random | None = None  # draws when runs join, where they do
+    come: int = 0  # the runs that the window has
+
+    def join(self) -> None:
+        run = self.window.runs[self.come]
+        self.come += 1
+        assert self.hub.add_run(run.routine, run.follows or 0) == self.come
+
+    def let_join(self, actor: int) -> None:
+        """Before a step of the actor it has joined, and perhaps others have."""
+        while self.joins and (self.come < actor or (self.come < len(self.window.runs) and self.joins.random() < 0.1)):
+            self.join()
+
+    def open(self, number: int) -> None:
+        """Opens the window of this number: the script's, or one of the moment, with some of its runs."""
+        if self.joins:
+            assert self.hub.begin_window(time_text(self.window.at), self.window.probes) == number
+            for _ in range(self.joins.randint(0, min(2, len(self.window.runs)))):
+                self.join()
+        self.hub.window(number)
 
     def note(self, made: tuple[Entry, ...]) -> None:
         self.told += made
@@ -71,6 +93,7 @@ class Player:
 
     def pick(self, actor: int) -> bool:
         """The actor's next step; whether it does not wait."""
+        self.let_join(actor)
         if self.has_ended(actor):
             return True
         if actor in self.out:
@@ -106,15 +129,15 @@ class Player:
                 raise AssertionError("every actor waits")
 
 
-def play(script: Any, data: bytes, model: Model, scheduler: Scheduler) -> str:
-    """The record of the day, with its trace."""
+def play(script: Any, data: bytes, model: Model, scheduler: Scheduler, joins: random.Random | None = None) -> str:
+    """The record of the day, with its trace; `data` is the script's text, or, where its runs join, that without windows."""
     runs = committed = 0
     with Hub(data, model, scheduler) as hub:
         text = hub.head()
         wall = [Device(hub.stand(d).value, device.downs) for d, device in enumerate(script.devices)]
         for number, window in enumerate(script.windows):
-            player = Player(hub, script, window, wall)
-            hub.window(number)
+            player = Player(hub, script, window, wall, joins=joins)
+            player.open(number)
             for actor in window.turns:
                 player.pick(actor)
             player.finish()

@@ -40,13 +40,16 @@ class Hubs(unittest.TestCase):
 
     def play_on(self, window: int, answers: dict[int, int]) -> None:
         """The same, in the window that is open."""
+        self.step(window, answers)
+        self.hub.close_window()
+
+    def step(self, window: int, answers: dict[int, int]) -> None:
         while self.hub.left() is not None:
             for run in range(1, self.hub.run_count(window) + 1):
                 turn = self.hub.take(run, 0)
                 if isinstance(turn, Go):
                     told = Found(answers[turn.device]) if turn.task is Task.SENSE else Worked()
                     self.hub.give(turn.device, turn.ticket, told, 0)
-        self.hub.close_window()
 
     def test_the_structures_are_as_large_as_in_c(self) -> None:
         sizes = {"Handle": 16, "ToldFault": 40, "ToldEntry": 56, "ToldMade": 176, "ToldTurn": 272, "ToldLeft": 8, "ToldStand": 8,
@@ -112,6 +115,28 @@ class Hubs(unittest.TestCase):
         self.refuses(Status.BAD_TIME, "begin_window", "2021-04-27T08:10:00")
         self.refuses(Status.NO_WINDOW, "add_run", LEAVE)
         self.refuses(Status.NO_VALUE, "restand", HEAT, 31)
+
+    def test_runs_that_join(self) -> None:
+        self.hub.restand(WINDOW, SHUT)
+        number = self.hub.begin_window("2021-04-27T08:10:00", probes=100)
+        self.hub.window(number)
+        self.assertIsNone(self.hub.left())
+        self.refuses(Status.BAD_FOLLOW, "add_run", READ, 1)
+        self.assertEqual(self.hub.add_run(LEAVE), 1)
+        while not isinstance(go := self.hub.take(1, 0), Go):
+            pass
+        self.assertEqual(self.hub.add_run(LEAVE), 2)
+        while not isinstance(self.hub.take(2, 0), Waits):
+            pass
+        self.assertEqual(self.hub.blocked_runs(), 2)
+        self.assertEqual(self.hub.add_run(READ, follows=1), 3)
+        self.assertEqual((self.hub.blocked_runs(), self.hub.out(HEAT), self.hub.run_count(number)), (0, go, 3))
+        self.hub.give(HEAT, go.ticket, Worked(), 0)
+        self.step(number, {WINDOW: SHUT})
+        self.assertEqual([self.hub.add_run(READ, follows=1) for _ in range(4, 65)], list(range(4, 65)))
+        self.refuses(Status.TOO_MANY, "add_run", READ, 65)
+        self.play_on(number, {WINDOW: SHUT})
+        self.assertEqual(self.hub.record().count(" committed"), 64)
 
     def test_a_device_that_is_lost(self) -> None:
         self.refuses(Status.ABSENT, "lose", 4)
