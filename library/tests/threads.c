@@ -1,5 +1,5 @@
-/* Four threads over one handle under a lock, on a home that they take through windows of the moment: each thread takes
-   runs, makes the device calls outside of the lock, and gives the answers. Prints the script of the day and its record,
+/* Four threads over one handle under a lock, on a home that they take through windows of the moment: each thread lets runs
+   join, takes runs, makes the device calls outside of the lock, and gives the answers. Prints the script of the day and its record,
    as `check` reads them. */
 #include "../lazbendix.h"
 #include "home.h"
@@ -11,6 +11,7 @@
 
 #define THREADS 4
 #define RUNS 32
+#define FIRST 4 /* runs with which a window opens */
 #define MOMENTS 40
 
 #define DONE(call) done((call), __LINE__)
@@ -18,7 +19,8 @@
 static pthread_mutex_t lock = PTHREAD_MUTEX_INITIALIZER;
 static lazbendix_hub hub = LAZBENDIX_HUB_CLOSED; /* under the lock */
 static unsigned long steps;                      /* under the lock */
-static int is_over[RUNS + 1];                    /* under the lock: the runs of the window that have ended */
+static uint32_t come;                            /* under the lock: the runs of the window */
+static int is_over[RUNS + 1];                    /* under the lock: those that have ended */
 
 static void done(int32_t status, int line) {
     if (status != LAZBENDIX_DONE) {
@@ -27,12 +29,21 @@ static void done(int32_t status, int line) {
     }
 }
 
-/* The step of a run that has not ended, and does not wait for a step of another one. Answers what it did, 0 for none. */
+/* The next run joins, where there is one. */
+static void join(void) {
+    pthread_mutex_lock(&lock);
+    if (come < RUNS)
+        DONE(lazbendix_add_run(&hub, come % ROUTINES, 0, &come));
+    pthread_mutex_unlock(&lock);
+}
+
+/* The step of a run that has joined, has not ended, and does not wait for a step of another one. Answers what it did, 0 for
+   none. */
 static uint32_t take(uint32_t run, lazbendix_turn *turn) {
     uint32_t blocked, kind = 0;
     pthread_mutex_lock(&lock);
     DONE(lazbendix_blocked(&hub, run, &blocked));
-    if (!blocked && !is_over[run]) {
+    if (run <= come && !blocked && !is_over[run]) {
         DONE(lazbendix_take(&hub, run, 0, turn));
         kind = turn->kind;
         is_over[run] = kind == LAZBENDIX_OVER;
@@ -56,14 +67,16 @@ static int is_quiet(void) {
     lazbendix_left left;
     pthread_mutex_lock(&lock);
     DONE(lazbendix_quiet(&hub, &left));
+    int has_all = come == RUNS;
     pthread_mutex_unlock(&lock);
-    return left.kind == 0;
+    return has_all && left.kind == 0;
 }
 
 static void *work(void *first) {
     lazbendix_turn turn;
     while (!is_quiet()) {
         int moved = 0;
+        join();
         for (uint32_t i = 0; i < RUNS; i++) {
             uint32_t kind = take((uint32_t)(((size_t)first * RUNS / THREADS + i) % RUNS) + 1, &turn);
             if (kind == LAZBENDIX_GO)
@@ -111,13 +124,13 @@ static unsigned long commits(void) {
 
 static unsigned long window(unsigned moment) {
     pthread_t threads[THREADS];
-    uint32_t number, run;
+    uint32_t number;
     size_t len;
     char at[32];
     int at_len = snprintf(at, sizeof at, "2021-04-26T09:%02u:00", moment);
     DONE(lazbendix_begin_window(&hub, (const uint8_t *)at, (size_t)at_len, 0, &number));
-    for (uint32_t r = 0; r < RUNS; r++)
-        DONE(lazbendix_add_run(&hub, r % ROUTINES, 0, &run));
+    for (come = 0; come < FIRST;)
+        DONE(lazbendix_add_run(&hub, come % ROUTINES, 0, &come));
     DONE(lazbendix_window(&hub, number));
     memset(is_over, 0, sizeof is_over);
     for (size_t i = 0; i < THREADS; i++)
