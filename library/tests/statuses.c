@@ -364,6 +364,17 @@ static void runs_that_join(void) {
     IS(DONE, lazbendix_end(&hub));
 }
 
+/* The script's last window takes a run while it is open, or has no room for it, since it was read with the script. */
+static void a_run_that_joins_a_window_of_the_script(void) {
+    uint32_t run = 77;
+    uint64_t runs;
+    IS(DONE, lazbendix_window(&hub, 1));
+    int32_t status = lazbendix_add_run(&hub, 0, 1, &run);
+    IS(DONE, lazbendix_run_count(&hub, 1, &runs));
+    WANT(status == LAZBENDIX_DONE ? run == 2 && runs == 2 : status == LAZBENDIX_NO_MEMORY && run == 77 && runs == 1);
+    IS(DONE, lazbendix_end(&hub));
+}
+
 /* So many items are final, the last of them this run. */
 static void are_final(uint32_t count, uint32_t run) {
     lazbendix_item item;
@@ -471,6 +482,8 @@ int main(void) {
     a_device_that_is_lost();
     IS(DONE, lazbendix_open(&hub, SCRIPT, LAZBENDIX_EVENTUAL, LAZBENDIX_FCFS, &fault));
     runs_that_join();
+    IS(DONE, lazbendix_open(&hub, SCRIPT, LAZBENDIX_EVENTUAL, LAZBENDIX_FCFS, &fault));
+    a_run_that_joins_a_window_of_the_script();
     IS(DONE, lazbendix_open(&hub, SCRIPT, LAZBENDIX_EVENTUAL, LAZBENDIX_FCFS, &fault));
     what_is_asked_of_a_window();
     IS(DONE, lazbendix_open(&hub, SCRIPT, LAZBENDIX_EVENTUAL, LAZBENDIX_FCFS, &fault));
