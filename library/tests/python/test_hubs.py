@@ -8,7 +8,7 @@ import unittest
 HERE = os.path.dirname(os.path.abspath(__file__))
 sys.path.insert(0, os.path.join(HERE, "..", "..", "..", "python"))
 
-from lazbendix import (Counts, Dead, EntryKind, Found, Go, Hub, Item, ItemKind, Left, Model, Moved, NoRun, Over, Refused,
+from lazbendix import (Answer, Counts, Dead, EntryKind, Found, Go, Hub, Item, ItemKind, Left, Model, Moved, NoRun, Over, Refused,
                        Scheduler, ScriptRefused, Stand, Status, Task, Waits, Why, Worked, _calls, library_version)
 from lazbendix.told import FaultKind, Part
 
@@ -48,7 +48,7 @@ class Hubs(unittest.TestCase):
             for run in range(1, self.hub.run_count(window) + 1):
                 turn = self.hub.take(run, 0)
                 if isinstance(turn, Go):
-                    told = Found(answers[turn.device]) if turn.task is Task.SENSE else Worked()
+                    told: Answer = Found(answers[turn.device]) if turn.task is Task.SENSE else Worked()
                     self.hub.give(turn.device, turn.ticket, told, 0)
 
     def test_the_structures_are_as_large_as_in_c(self) -> None:
@@ -230,7 +230,7 @@ class Hubs(unittest.TestCase):
                 for run in range(1, 17):
                     turn = self.hub.take(run, 0)
                     if isinstance(turn, Go):
-                        told = Found(turn.stood) if turn.task is Task.SENSE else Worked()
+                        told: Answer = Found(turn.stood) if turn.task is Task.SENSE else Worked()
                         self.hub.give(turn.device, turn.ticket, told, 0)
 
         threads = [threading.Thread(target=work) for _ in range(4)]
