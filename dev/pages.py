@@ -74,7 +74,8 @@ FORBIDDEN = {
     "is no": "is not a",
 }
 FOUND = re.compile(
-    r"\b(?:behind|told|tells|stands?|stood|whoever|(?<!there )is no(?! longer| more| less))\b", re.I
+    r"\b(?:behind|told|tells|stands?(?!-)|stood|whoever|(?<!there )is no(?! longer| more| less))\b",
+    re.I,
 )
 
 
