@@ -5,11 +5,14 @@
 
 dev/pages.tsv has a line for each page: its name, the most words that it may have, how many words
 of the forbidden list it may still have, its reading grade, and the columns of its code, at most;
-and a line for all pages of docs and crates with README.md together. `--write` lowers the numbers,
-of words to a tenth more than is counted, the others to what is counted but never below the bar of
-all pages; it gives a new page its line, drops that of a page that is gone, and raises nothing. (To
-raise a number, change it, or take the line out and write it anew; the commit says why.) `--show
-PAGE` prints the forbidden words of a page, and the sentences that weigh most in its grade.
+and a line for all pages of docs and crates with README.md together.
+
+`--write` lowers the numbers: of words to a tenth more than is counted (a hundredth for all
+together), the others to what is counted but never below the bar of all pages. It gives a new page
+its line, drops that of a page that is gone, and raises nothing. To raise a number, change it, or
+take the line out and write it anew; the commit says why.
+
+`--show PAGE` prints the forbidden words of a page, and the sentences that weigh most in its grade.
 `--counts` prints the counts of every page.
 
 What is asked of a page:
@@ -242,11 +245,17 @@ def a_tenth_more(words: int) -> int:
     return -(-words * 11 // 100) * 10
 
 
+def a_hundredth_more(words: int) -> int:
+    return -(-words * 101 // 10000) * 100
+
+
 def lowered(pages: list[str], most: dict[str, Counts]) -> str:
     """The table with its numbers lowered."""
-    words = words_in_all(pages)
+    most_words = a_hundredth_more(words_in_all(pages))
+    if ALL in most:
+        most_words = min(most_words, most[ALL].words)
     lines = ["# page\twords\tforbidden words\tgrade\tcolumns of code"]
-    lines.append(f"{ALL}\t{min(words, most[ALL].words if ALL in most else words)}\t0\t0\t0")
+    lines.append(f"{ALL}\t{most_words}\t0\t0\t0")
     for page in pages:
         has = counts(page)._replace(words=a_tenth_more(counts(page).words))
         may = most.get(page, has)
