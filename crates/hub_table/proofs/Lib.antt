@@ -1,3 +1,4 @@
 mod Answering
 mod Holding
 mod Leaving
+mod Standing

@@ -1,4 +1,5 @@
 -- An open window with the grips that are out of it.
+use Rattle.device_gate.specs.Calls.{is_counted_up}
 use Rattle.device_gate.specs.Grips.{Gripped}
 use Rattle.device_gate.specs.Places.{kept_of}
 use Rattle.device_gate.specs.declared.gates.Place.{Place}
@@ -8,12 +9,14 @@ use Rattle.device_gate.specs.declared.slips.Slip.{Slip}
 use Rattle.device_gate.specs.declared.slips.Task.{Task}
 use Rattle.history_book.specs.declared.entries.Entry.{Entry}
 use Rattle.hub_core.specs.HubCalls.{IsGiven, IsProbeGiven}
-use Rattle.hub_core.specs.OpenHubs.{OpenHub}
+use Rattle.hub_core.specs.OpenHubs.{OpenHub, configuration_of}
 use Rattle.hub_core.specs.declared.turns.Turn.TheVariants.{Absent, Go, Moved, Over, Wait}
 use Rattle.hub_core.specs.declared.turns.Turn.{Turn}
 use Rattle.hub_table.specs.declared.told.Taken.TheVariants.{Absent as IsAbsent, Moved as HasMoved, Out, Over as IsOver, Waits}
 use Rattle.hub_table.specs.declared.told.Taken.{Taken}
-use Rattle.std.specs.Prelude.{List, None, Ok, Option, Some, map, slice_get, ℕ, ◌≡◌, ◌⊎◌}
+use Rattle.lock_leasing.specs.Configurations.{point_of}
+use Rattle.lock_leasing.specs.Words.{standing_value}
+use Rattle.std.specs.Prelude.{IsTrue, List, None, Ok, Option, Some, map, slice_get, ℕ, ⊤, ◌≡◌, ◌⊎◌}
 
 -- with what a device is out: the slip and the task of its grip
 abbrev pub SlipAndTask : Type 0
@@ -60,6 +63,20 @@ taken_of (Moved made) = HasMoved made
 taken_of (Wait why) = Waits why
 taken_of (Over end made) = IsOver end made
 taken_of Absent = IsAbsent
+
+-- a device that goes out, and is counted up, stood where the order of the window has it
+abbrev pub StoodInOrder : {D : Type 0} → OpenHub D → Slip → Task → Type 0
+StoodInOrder hub slip task =
+    IsTrue (is_counted_up task)
+    → slip.stood ≡ standing_value (point_of (configuration_of hub)) slip.device.0
+
+-- .. where one goes out
+abbrev pub TookInOrder : {D : Type 0} → OpenHub D → Taken → Type 0
+TookInOrder hub (Out slip task) = StoodInOrder hub slip task
+TookInOrder hub (HasMoved made) = ⊤
+TookInOrder hub (Waits why) = ⊤
+TookInOrder hub (IsOver end made) = ⊤
+TookInOrder hub IsAbsent = ⊤
 
 -- none of these places holds a thing
 abbrev pub PlacesAreEmpty : {A : Type 0} → List (Option A) → Type 0

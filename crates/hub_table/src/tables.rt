@@ -15,7 +15,7 @@ ghost use Rattle.hub_core.specs.OpenHubs.{configuration_of};
 ghost use Rattle.hub_core.specs.Openings.{MayOpen};
 ghost use Rattle.hub_core.specs.Steps.{not_quiet};
 ghost use Rattle.hub_core.specs.declared.turns.Turn.{Turn};
-ghost use Rattle.hub_table.specs.Tables.{IsBack, lent_by, taken_of};
+ghost use Rattle.hub_table.specs.Tables.{IsBack, StoodInOrder, TookInOrder, lent_by, taken_of};
 ghost use Rattle.lock_leasing.specs.Configurations.{read_of};
 
 use crate::hands::{drop_empty, empty_hands, lift, look, put};
@@ -159,12 +159,16 @@ impl<D: Device> Table<D> {
     pub fn take(&mut self, r: RunNo, moment: u64) -> Taken
         ensures turn { (turn : Turn D) × IsTurn self.old r.0 moment turn self.new
             × PlansEarliest (configuration_of self.old) r.0 turn × (result ≡ taken_of turn) }
+        ensures stood { TookInOrder self.old result }
         ensures sealed { StaysSealed (read_of (configuration_of self.old))
             (read_of (configuration_of self.new)) }
         ensures window { SameWindow self.old self.new }
     {
+        // its contract says where its devices stand
+        self.hub.kept();
         match self.hub.take(r, moment) {
             Turn::Go(grip) => {
+                grip.kept();
                 let (slip, task) = (grip.slip(), grip.task());
                 put(&mut self.grips, slip.device, grip);
                 Taken::Out(slip, task)
@@ -180,12 +184,16 @@ impl<D: Device> Table<D> {
     pub fn probe(&mut self, d: DeviceNo) -> Option<(Slip, Task)>
         ensures probed { (probe : Option (Gripped D Ready)) × IsProbed self.old d.0 probe self.new
             × (result ≡ lent_by probe) }
+        ensures stood { IfSome result (λ out. StoodInOrder self.old out.0 out.1) }
         ensures sealed { StaysSealed (read_of (configuration_of self.old))
             (read_of (configuration_of self.new)) }
         ensures window { SameWindow self.old self.new }
     {
+        // its contract says where its devices stand
+        self.hub.kept();
         match self.hub.take_probe(d) {
             Some(grip) => {
+                grip.kept();
                 let (slip, task) = (grip.slip(), grip.task());
                 put(&mut self.grips, d, grip);
                 Some((slip, task))

@@ -2,9 +2,11 @@ use Rattle.history_book.specs.Sealed.{StaysSealed}
 use Rattle.hub_core.specs.HubCalls.{IsProbed}
 use Rattle.hub_core.specs.OpenHubs.{configuration_of}
 use Rattle.hub_table.proofs.Holding.{probe_free, probe_keeps}
+use Rattle.hub_table.proofs.Standing.{probes_in_order}
 use Rattle.hub_table.proofs.tables.Table.probe.Goals as goal
 use Rattle.lock_leasing.specs.Configurations.{read_of}
-use Rattle.std.proofs.Common.{subst}
+use Rattle.hub_table.specs.Tables.{StoodInOrder}
+use Rattle.std.proofs.Common.{subst, subst₂, sym}
 use Rattle.std.specs.Prelude.{Some}
 
 pub put-requires : goal.put-requires
@@ -23,3 +25,9 @@ returns-in-Some-clause-probed g c = (
 pub returns-in-Some-clause-sealed : goal.returns-in-Some-clause-sealed
 returns-in-Some-clause-sealed g c =
     subst (λ s. StaysSealed (read_of (configuration_of s)) (read_of (configuration_of c.take_probe.new.self))) c.self.view_is c.in-Some.ensures.sealed
+
+pub returns-in-Some-clause-stood : goal.returns-in-Some-clause-stood
+returns-in-Some-clause-stood g c =
+    subst (λ hub. StoodInOrder hub c.slip-slip.result c.task-task.result) c.self.view_is
+    (subst₂ (λ x y. StoodInOrder c.self.inside.hub x y) (sym c.slip-slip.ensures) (sym c.task-task.ensures)
+    (probes_in_order _ c.self.inside.hub c.take_probe.new.self c.args.d.0 c.in-Some.grip c.kept.ensures c.in-Some.ensures.probed c.kept-in-Some.ensures))
