@@ -1,8 +1,15 @@
 mod Answered
 mod Counting
 mod Drafting
+mod InOrder
 mod Joining
 mod Living
 mod Numbering
 mod Refusing
+mod Remaking
+mod SameAnswers
+mod SameClosings
+mod SameHomes
+mod SameScripts
+mod SameSteps
 mod Windows

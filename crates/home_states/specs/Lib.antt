@@ -5,6 +5,8 @@ pub mod LiveHomes
 pub mod Openings
 pub mod Queries
 pub mod Readings
+pub mod Rebuilt
+pub mod SameHomes
 pub mod Steps
 pub mod Texts
 pub mod Tickets

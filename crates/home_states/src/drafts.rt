@@ -5,6 +5,7 @@ ghost use Rattle.day_clock.specs.Times.{IsCivilTime};
 ghost use Rattle.home_states.specs.DraftRefusals.{MayNotAdd, MayNotBegin, added_why, begun_why, first_against_adding, first_against_beginning};
 ghost use Rattle.home_states.specs.Drafts.{HasBegunWindow, HasLost, HasRestood, MayNotLose, MayNotRestand, WasLost, WasRestood, first_against_finding, first_against_loss, first_against_losing, first_against_restanding, time_told};
 ghost use Rattle.home_states.specs.Joinings.{HasTakenRun};
+ghost use Rattle.home_states.specs.Rebuilt.{HasBegunAt, MayNotBeginAt, first_against_begin, why_no_time};
 
 use crate::homes::{LiveHome, Phase, remember};
 use crate::joinings::join_in;
@@ -32,14 +33,30 @@ impl LiveHome {
         ensures refused { IfErr result (λ why. MayNotBegin self.old at.now probes why) }
         ensures same { IfErr result (λ _. self.new ≡ self.old) }
     {
+        match time_in(at) {
+            Some(time) => self.begin_at(alloc, time, probes),
+            None => Err(self.why_no_time()),
+        }
+    }
+
+    /// Appends a window without runs to the script, at this time, as `begin_window` does.
+    pub(crate) fn begin_at(
+        &mut self,
+        alloc: Global,
+        time: When,
+        probes: u32,
+    ) -> Result<u32, NotBegun>
+        requires time { IsCivilTime time }
+        ensures begun { IfOk result (λ k. HasBegunAt self.old time probes k self.new) }
+        ensures free { IfOk result (λ _. first_against_begin self.old time probes ≡ None) }
+        ensures refused { IfErr result (λ why. MayNotBeginAt self.old time probes why) }
+        ensures same { IfErr result (λ _. self.new ≡ self.old) }
+    {
         match &self.phase {
             Phase::Between(_) => {}
             Phase::InWindow(_, _) => return Err(NotBegun::InWindow),
             Phase::Moving => unreachable!(),
         }
-        let Some(time) = time_in(at) else {
-            return Err(NotBegun::BadTime);
-        };
         match self.script.begin(alloc, time, probes) {
             Ok(number) => {
                 // its contract says that the script is sound still
@@ -49,6 +66,17 @@ impl LiveHome {
                 Ok(number)
             }
             Err(why) => Err(not_begun(why)),
+        }
+    }
+
+    /// Why no window is begun at a text that is no time.
+    fn why_no_time(&self) -> NotBegun
+        ensures { result ≡ why_no_time self.now }
+    {
+        match &self.phase {
+            Phase::Between(_) => NotBegun::BadTime,
+            Phase::InWindow(_, _) => NotBegun::InWindow,
+            Phase::Moving => unreachable!(),
         }
     }
 

@@ -9,12 +9,14 @@ mod numbers;
 mod openings;
 mod queries;
 mod readings;
+mod rebuilds;
 pub mod refusals;
 mod steps;
 mod texts;
 
 pub use homes::{ClosedWindow, LiveHome, Phase};
+pub use rebuilds::one_home;
 pub use refusals::{
-    NotAnswered, NotBegun, NotClosed, NotFinal, NotLent, NotLost, NotOpened, NotRestood,
-    NotStanding, NotTold,
+    NotAnswered, NotBegun, NotClosed, NotFinal, NotLent, NotLost, NotMade, NotOpened, NotRebuilt,
+    NotRestood, NotStanding, NotTold,
 };

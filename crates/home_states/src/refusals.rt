@@ -1,6 +1,7 @@
 //! Why a call does nothing.
 use hub_core::NotQuiet;
 use hub_table::NotTaken;
+use routine_reader::ReadFault;
 
 /// Why no window is opened. The home is as it was.
 #[derive(Clone, Copy, Debug, PartialEq, Eq)]
@@ -106,6 +107,26 @@ pub enum NotBegun {
     BadFollow,
     /// More runs or rounds of probes than a window may have.
     TooMany,
+    /// There is no memory.
+    NoMemory,
+}
+
+/// Why a call that was logged is not made again.
+#[derive(Clone, Copy, Debug, PartialEq, Eq)]
+pub enum NotMade {
+    /// The home refuses it.
+    Refused,
+    /// There is no memory.
+    NoMemory,
+}
+
+/// Why no home is made again of a script and calls.
+#[derive(Clone, Copy, Debug, PartialEq, Eq)]
+pub enum NotRebuilt {
+    /// The script is refused, for this, or there is no memory to read it.
+    Unread(ReadFault),
+    /// The call at this place, counted from 0, is refused.
+    Refused(u64),
     /// There is no memory.
     NoMemory,
 }

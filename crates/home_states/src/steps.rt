@@ -1,9 +1,10 @@
 //! The steps of an open window, and what is asked of it.
 ghost use Rattle.std.specs.Prelude.{◌≡◌, IfErr, IfNone, IfOk, IfSome, IsTrue};
 ghost use Rattle.home_states.specs.LiveHomes.{IsBetweenWindows, IsWindowOpen, hub_in};
+ghost use Rattle.home_states.specs.Rebuilt.{ProbesInOrder, StepsInOrder, sends_no_probe};
 ghost use Rattle.home_states.specs.Steps.{HasAnswered, HasNextNumber, HasProbed, HasTaken, IsBlockedRun, IsNoAnswer, IsOfNoCall, left_to_do, not_out};
 ghost use Rattle.home_states.specs.Tickets.{call_told};
-ghost use Rattle.std.specs.Prelude.{Err, None};
+ghost use Rattle.std.specs.Prelude.{Err, None, Some, true};
 
 use crate::homes::{LiveHome, Phase};
 use crate::numbers::{answer_numbered, few, number_call, number_turn};
@@ -25,6 +26,7 @@ impl LiveHome {
         ensures taken { IfSome result (λ taken. HasTaken self.old r.0 moment taken self.new) }
         ensures number { IfSome result
             (λ taken. HasNextNumber self.old (call_told taken) self.new) }
+        ensures stood { IfSome result (λ taken. StepsInOrder self.old taken) }
         ensures none { IfNone result (IsBetweenWindows self.old) }
         ensures same { IfNone result (self.new ≡ self.old) }
     {
@@ -78,6 +80,8 @@ impl LiveHome {
     pub fn probe(&mut self, d: DeviceNo) -> Option<Option<(Slip, Task)>>
         ensures probed { IfSome result (λ probe. HasProbed self.old d.0 probe self.new) }
         ensures number { IfSome result (λ probe. HasNextNumber self.old probe self.new) }
+        ensures stood { IfSome result (λ probe. IfSome probe (ProbesInOrder self.old)) }
+        ensures sent { result ≡ Some None → sends_no_probe (hub_in self.old) d.0 ≡ true }
         ensures none { IfNone result (IsBetweenWindows self.old) }
         ensures same { IfNone result (self.new ≡ self.old) }
     {

@@ -1,10 +1,14 @@
-use Rattle.home_states.proofs.Drafting.{has_begun}
-use Rattle.home_states.proofs.Living.{never_moving}
+use Rattle.home_states.proofs.Drafting.{begun_told, free_told, no_time, refused_told}
 use Rattle.home_states.proofs.homes.LiveHome.begin_window.Goals as goal
 
-pub unreachable-requires : goal.unreachable-requires
-unreachable-requires c = never_moving _ c.self.invariant.live c.in-Moving.is
+pub returns-in-Some-clause-begun : goal.returns-in-Some-clause-begun
+returns-in-Some-clause-begun c = begun_told c.args.self.now c.begin_at.new.self c.args.at.now c.in-Some.time c.args.probes c.begin_at.result c.in-Some.ensures.time c.begin_at.ensures.begun
 
-pub returns-in-Ok-clause-begun : goal.returns-in-Ok-clause-begun
-returns-in-Ok-clause-begun c =
-    has_begun _ _ c.in-Between.field-0 c.args.at.now c.in-Some.time c.args.probes c.in-Ok.number c.begin.new.self c.remember.new.closed c.self.view_is c.in-Between.is c.in-Some.ensures.time c.in-Ok.ensures.begun c.remember.ensures
+pub returns-in-Some-clause-free : goal.returns-in-Some-clause-free
+returns-in-Some-clause-free c = free_told c.args.self.now c.args.at.now c.in-Some.time c.args.probes c.begin_at.result c.in-Some.ensures.time c.begin_at.ensures.free
+
+pub returns-in-Some-clause-refused : goal.returns-in-Some-clause-refused
+returns-in-Some-clause-refused c = refused_told c.args.self.now c.args.at.now c.in-Some.time c.args.probes c.begin_at.result c.in-Some.ensures.time c.begin_at.ensures.refused
+
+pub returns-in-None-clause-refused : goal.returns-in-None-clause-refused
+returns-in-None-clause-refused c = no_time c.args.self.now c.args.at.now c.args.probes c.why_no_time.result c.in-None.ensures.time c.why_no_time.ensures

@@ -1,0 +1,157 @@
+-- The steps of two windows that are the same for all who call them.
+use Rattle.device_gate.specs.Calls.{is_counted_up}
+use Rattle.device_gate.specs.Grips.{Gripped}
+use Rattle.device_gate.specs.declared.gates.Place.TheVariants.{Home, Out}
+use Rattle.device_gate.specs.declared.gates.Place.{Place}
+use Rattle.device_gate.specs.declared.grips.Ready.{Ready}
+use Rattle.device_gate.specs.declared.slips.Slip.{Slip}
+use Rattle.device_gate.specs.declared.slips.Task.{Task}
+use Rattle.handed_devices.specs.declared.devices.HandedDevice.{HandedDevice}
+use Rattle.home_states.specs.SameHomes.{OutAs, SameWindowOf, out_as, out_in}
+use Rattle.home_types.specs.Numbers.{RunId}
+use Rattle.hub_core.proofs.Cited.{took_after, took_choice}
+use Rattle.hub_core.specs.HubCalls.{Answers, DeviceGoesOut, IsTurn}
+use Rattle.hub_core.specs.HubSteps.{IsSlipOf, SlipFits, task_of}
+use Rattle.hub_core.specs.OpenHubs.{OpenHub, configuration_of, hub_state_of}
+use Rattle.hub_core.specs.Steps.{Absent as IsAbsent, Choice, HandsOut, Moves, Over as IsOver, Waits, after_take, choice_of}
+use Rattle.hub_core.specs.declared.turns.Turn.TheVariants.{Absent, Go, Moved, Over, Wait}
+use Rattle.hub_core.specs.declared.turns.Turn.{Turn}
+use Rattle.hub_table.specs.Tables.{StoodInOrder, TookInOrder, taken_of}
+use Rattle.lock_leasing.specs.Configurations.{Configuration, point_of}
+use Rattle.lock_leasing.specs.Words.{standing_value}
+use Rattle.lock_leasing.specs.declared.purposes.Purpose.{Purpose}
+use Rattle.std.proofs.Common.{ap, ap₂, inl, inr, refl, subst, sym, ◌∙◌}
+use Rattle.std.proofs.lemmas.Bool.{eq-eqb, eqb-true}
+use Rattle.std.proofs.lemmas.Option.{slice_get_within}
+use Rattle.std.specs.Prelude.{Bool, IsTrue, List, None, Option, Some, false, if◌then◌else◌, length, slice_get, slice_set, true, ℕ, ◌+◌, ◌<◌, ◌==◌, ◌≡◌}
+use Rattle.window_devices.proofs.Cited.{get_set}
+
+-- Of a step that hands out a device, what goes out is a function of the configuration, of how many
+-- calls there were, and of what the step does
+
+abbrev pub stood_as : Configuration → ℕ → Task → Option ℕ
+stood_as c d task = if is_counted_up task then Some (standing_value (point_of c) d) else None
+
+abbrev out_by : Configuration → RunId → ℕ → Choice → Option OutAs
+out_by c r tickets IsAbsent = None
+out_by c r tickets (IsOver e entries) = None
+out_by c r tickets (Moves entries) = None
+out_by c r tickets (Waits why) = None
+out_by c r tickets (HandsOut d purpose) = Some (record {
+  ticket = tickets + 1;
+  device = d;
+  maker = r;
+  task = task_of c r purpose;
+  stood = stood_as c d (task_of c r purpose);
+})
+
+abbrev tickets_by : ℕ → Option OutAs → ℕ
+tickets_by tickets None = tickets
+tickets_by tickets (Some out) = out.ticket
+
+abbrev pub outs_by : (ℕ → Option OutAs) → Option OutAs → ℕ → Option OutAs
+outs_by outs None d = outs d
+outs_by outs (Some out) d = if d == out.device then Some out else outs d
+
+-- with what each device of the hub is out
+abbrev pub outs_of : OpenHub HandedDevice → ℕ → Option OutAs
+outs_of hub d = out_in (slice_get hub.places d)
+
+pub set_out : (places : List (Place HandedDevice)) (d e : ℕ) (place : Place HandedDevice) → d < length places
+    → out_in (slice_get (slice_set places d place) e) ≡ (if e == d then out_in (Some place) else out_in (slice_get places e))
+set_out places d e place low = elim (get_set places d e place low) [
+  | inl here ↦ ap out_in here.1 ∙ ap (λ b. if b then out_in (Some place) else out_in (slice_get places e)) (sym (eq-eqb e d here.0))
+  | inr there ↦ ap out_in there.1 ∙ by_test (e == d) (λ is. there.0 (eqb-true e d is))
+]
+  where
+    by_test : (b : Bool) → (b ≡ true → ⊥) → out_in (slice_get places e) ≡ (if b then out_in (Some place) else out_in (slice_get places e))
+    by_test true apart = absurd (apart refl)
+    by_test false apart = refl
+
+record IsMade (hub next : OpenHub HandedDevice) (r m : ℕ) : Type 0 where
+  configuration : configuration_of next ≡ after_take (configuration_of hub) r m
+  tickets : next.tickets ≡ tickets_by hub.tickets (out_by (configuration_of hub) r hub.tickets (choice_of (configuration_of hub) r m))
+  outs : (d : ℕ) → outs_of next d ≡ outs_by (outs_of hub) (out_by (configuration_of hub) r hub.tickets (choice_of (configuration_of hub) r m)) d
+
+abbrev no_slip : Slip
+no_slip = record { ticket = 0; device = record { 0 = 0 }; maker = 0; stood = 0; turns = 0; drives = 0; probes = 0; faults = 0 }
+
+answers_made : (hub next : OpenHub HandedDevice) (r m : ℕ) (choice : Choice) → ((tickets : ℕ) → out_by (configuration_of hub) r tickets choice ≡ None)
+    → Answers hub r m choice next → IsMade hub next r m
+answers_made hub next r m choice none answers =
+    let is : choice ≡ choice_of (configuration_of hub) r m = took_choice (hub_state_of hub) (hub_state_of next) r m no_slip choice (answers.step no_slip) in
+    let out : out_by (configuration_of hub) r hub.tickets (choice_of (configuration_of hub) r m) ≡ None =
+    ap (λ x. out_by (configuration_of hub) r hub.tickets x) (sym is) ∙ none hub.tickets in
+    record {
+      configuration = took_after (hub_state_of hub) (hub_state_of next) r m no_slip choice (answers.step no_slip);
+      tickets = answers.tickets ∙ ap (λ o. tickets_by hub.tickets o) (sym out);
+      outs = λ d. ap (λ l. out_in (slice_get l d)) answers.places ∙ ap (λ o. outs_by (outs_of hub) o d) (sym out);
+    }
+
+fits : (r : ℕ) (choice : Choice) (d : ℕ) (purpose : Purpose) (slip : Slip) → HandsOut d purpose ≡ choice → SlipFits r choice slip → IsSlipOf r d slip
+fits r choice d purpose slip is of = subst (λ x. SlipFits r x slip) (sym is) of
+
+goes_made : (hub next : OpenHub HandedDevice) (r m : ℕ) (grip : Gripped HandedDevice Ready) → DeviceGoesOut hub r m grip next
+    → StoodInOrder hub grip.slip grip.task → IsMade hub next r m
+goes_made hub next r m grip goes stood =
+    let d : ℕ = grip.slip.device.0 in
+    let is : HandsOut d goes.purpose ≡ choice_of (configuration_of hub) r m =
+    took_choice (hub_state_of hub) (hub_state_of next) r m grip.slip (HandsOut d goes.purpose) goes.step in
+    let of : IsSlipOf r d grip.slip = fits r (choice_of (configuration_of hub) r m) d goes.purpose grip.slip is goes.step.2 in
+    let stands : (if is_counted_up grip.task then Some grip.slip.stood else None) ≡ stood_as (configuration_of hub) d grip.task = by_test (is_counted_up grip.task) stood in
+    let same : out_as (grip.slip, grip.task) ≡ record { ticket = hub.tickets + 1; device = d; maker = r; task = task_of (configuration_of hub) r goes.purpose; stood = stood_as (configuration_of hub) d (task_of (configuration_of hub) r goes.purpose) } =
+    λ i. record {
+      ticket = goes.next.ticket i;
+      device = d;
+      maker = of.maker i;
+      task = goes.task i;
+      stood = (stands ∙ ap (λ t. stood_as (configuration_of hub) d t) goes.task) i;
+    } in
+    let out : Some (out_as (grip.slip, grip.task)) ≡ out_by (configuration_of hub) r hub.tickets (choice_of (configuration_of hub) r m) =
+    ap (λ o. Some o) same ∙ ap (λ x. out_by (configuration_of hub) r hub.tickets x) is in
+    record {
+      configuration = took_after (hub_state_of hub) (hub_state_of next) r m grip.slip (HandsOut d goes.purpose) goes.step;
+      tickets = goes.next.tickets ∙ sym goes.next.ticket ∙ ap (λ o. tickets_by hub.tickets o) out;
+      outs = λ e.
+          ap (λ l. out_in (slice_get l e)) goes.places
+          ∙ set_out hub.places d e (Out grip.slip grip.task) (slice_get_within hub.places d (Home grip.device) goes.home)
+          ∙ ap (λ o. outs_by (outs_of hub) o e) out;
+    }
+  where
+    by_test : (b : Bool) → (IsTrue b → grip.slip.stood ≡ standing_value (point_of (configuration_of hub)) grip.slip.device.0)
+        → (if b then Some grip.slip.stood else None) ≡ (if b then Some (standing_value (point_of (configuration_of hub)) grip.slip.device.0) else None)
+    by_test true stands = ap (λ x. Some x) (stands refl)
+    by_test false stands = refl
+
+turn_made : (hub next : OpenHub HandedDevice) (r m : ℕ) (turn : Turn HandedDevice) → IsTurn hub r m turn next
+    → TookInOrder hub (taken_of turn) → IsMade hub next r m
+turn_made hub next r m (Go grip) step stood = goes_made hub next r m grip step stood
+turn_made hub next r m (Moved made) step stood = answers_made hub next r m (Moves made) (λ t. refl) step
+turn_made hub next r m (Wait why) step stood = answers_made hub next r m (Waits why) (λ t. refl) step.0
+turn_made hub next r m (Over end made) step stood = answers_made hub next r m (IsOver end made) (λ t. refl) step
+turn_made hub next r m Absent step stood = answers_made hub next r m IsAbsent (λ t. refl) step.0
+
+pub outs_same : (f g : ℕ → Option OutAs) (out : Option OutAs) → ((d : ℕ) → f d ≡ g d) → (d : ℕ) → outs_by f out d ≡ outs_by g out d
+outs_same f g None same d = same d
+outs_same f g (Some out) same d = ap (λ x. if d == out.device then Some out else x) (same d)
+
+-- the steps of the run at the same moment, in windows that are the same
+pub same_turn : (hub other next after : OpenHub HandedDevice) (r m : ℕ) (turn twin : Turn HandedDevice) → SameWindowOf hub other
+    → IsTurn hub r m turn next → TookInOrder hub (taken_of turn)
+    → IsTurn other r m twin after → TookInOrder other (taken_of twin)
+    → next.opened ≡ hub.opened → after.opened ≡ other.opened → SameWindowOf next after
+same_turn hub other next after r m turn twin same step stood step' stood' opened opened' =
+    let one = turn_made hub next r m turn step stood in
+    let two = turn_made other after r m twin step' stood' in
+    let out : out_by (configuration_of hub) r hub.tickets (choice_of (configuration_of hub) r m) ≡ out_by (configuration_of other) r other.tickets (choice_of (configuration_of other) r m) =
+    ap₂ (λ (c : Configuration) (n : ℕ). out_by c r n (choice_of c r m)) same.configuration same.tickets in
+    record {
+      configuration = one.configuration ∙ ap (λ c. after_take c r m) same.configuration ∙ sym two.configuration;
+      opened = opened ∙ same.opened ∙ sym opened';
+      tickets = one.tickets ∙ ap₂ (λ (n : ℕ) (o : Option OutAs). tickets_by n o) same.tickets out ∙ sym two.tickets;
+      out = λ d.
+          one.outs d
+          ∙ outs_same (outs_of hub) (outs_of other) (out_by (configuration_of hub) r hub.tickets (choice_of (configuration_of hub) r m)) same.out d
+          ∙ ap (λ o. outs_by (outs_of other) o d) out
+          ∙ sym (two.outs d);
+    }
