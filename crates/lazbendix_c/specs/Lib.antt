@@ -5,6 +5,7 @@ pub mod Owned
 pub mod Queries
 pub mod Readings
 pub mod Refusals
+pub mod Reopenings
 pub mod Steps
 pub mod Texts
 pub mod Told

@@ -8,6 +8,7 @@ mod numbers;
 mod open_calls;
 mod query_calls;
 mod read_calls;
+mod reopen_calls;
 mod statuses;
 mod step_calls;
 mod text_calls;
@@ -29,6 +30,7 @@ pub use read_calls::{
     lazbendix_counts, lazbendix_device_name, lazbendix_routine_name, lazbendix_run_count,
     lazbendix_stand, lazbendix_value_name,
 };
+pub use reopen_calls::lazbendix_reopen;
 pub use step_calls::{
     lazbendix_blocked, lazbendix_give, lazbendix_probe, lazbendix_quiet, lazbendix_take,
 };

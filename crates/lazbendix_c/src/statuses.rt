@@ -46,6 +46,8 @@ pub(crate) const BAD_TIME: i32 = 16;
 pub(crate) const BAD_FOLLOW: i32 = 17;
 /// The device has no such value.
 pub(crate) const NO_VALUE: i32 = 18;
+/// A call of the log is refused.
+pub(crate) const NO_CALL: i32 = 19;
 
 /// Why a window is not opened.
 pub(crate) fn opening_status(why: NotOpened) -> i32
