@@ -5,7 +5,7 @@ ghost use Rattle.hub_core.specs.HubCalls.{Answers, DeviceGoesOut, SameWindow};
 ghost use Rattle.hub_core.specs.OpenHubs.{configuration_of};
 ghost use Rattle.window_order.specs.KeptOrders.{is_first, left_by, noted_first};
 ghost use Rattle.hub_core.specs.KeptOrders.{MayLeave, MayNoteAnswer};
-ghost use Rattle.hub_core.specs.PlannedPlaces.{HoldsPlan};
+ghost use Rattle.hub_core.specs.PlannedPlaces.{HasSameRoom, HoldsPlan};
 ghost use Rattle.hub_core.specs.Steps.{HandsOut, Moves, Over, choice_of};
 ghost use Rattle.history_book.specs.ReadHistories.{read_in, with_doom};
 ghost use Rattle.history_book.specs.Readings.{is_access, is_doomed, is_fine, is_told, pends};
@@ -23,7 +23,7 @@ use device_states::Device;
 use history_book::{Cause, End, Entry, Made, ReadHistory, must_down, one_made};
 use home_types::{Answer, DeviceNo, RunNo, Value};
 use lock_leasing::Purpose;
-use timeline_scheduler::{Scratch, planned_uses};
+use timeline_scheduler::{Scratch, plan_uses};
 use window_devices::DeviceProgress;
 use window_order::{KeptOrder, note_of};
 
@@ -50,13 +50,14 @@ impl<D: Device> OpenWindow<D> {
 
     /// The run is placed behind so many items of the line. Where that is by the timeline, the
     /// scratch holds their set, and its planned times.
-    pub(crate) fn join(&mut self, r: RunNo, moment: u64, at: u32, scratch: &Scratch) -> Made
+    pub(crate) fn join(&mut self, r: RunNo, moment: u64, at: u32, scratch: &mut Scratch) -> Made
         requires chosen { choice_of (configuration_of self.old) r.0 moment
             ≡ told_choice r.0 (max self.old.moment moment) (Chosen.Joins at) }
-        requires planned { HoldsPlan scratch.now (configuration_of self.old) r.0
+        requires planned { HoldsPlan scratch.old (configuration_of self.old) r.0
             (max self.old.moment moment) at }
         ensures answer { Answers self.old r.0 moment (Moves result) self.new }
         ensures window { SameWindow self.old self.new }
+        ensures size { HasSameRoom scratch.old scratch.new }
     {
         if self.history.is_weak() {
             self.place_weakly(r, moment, at)
@@ -67,20 +68,22 @@ impl<D: Device> OpenWindow<D> {
 
     /// The entry, the line and the table are told the place of the run, behind so many items of the
     /// line. By the timeline these are brought before the others first.
-    fn place(&mut self, r: RunNo, moment: u64, at: u32, scratch: &Scratch) -> Made
+    fn place(&mut self, r: RunNo, moment: u64, at: u32, scratch: &mut Scratch) -> Made
         requires strong { is_weak self.old.setting.mode ≡ false }
         requires chosen { choice_of (configuration_of self.old) r.0 moment
             ≡ told_choice r.0 (max self.old.moment moment) (Chosen.Joins at) }
-        requires planned { HoldsPlan scratch.now (configuration_of self.old) r.0
+        requires planned { HoldsPlan scratch.old (configuration_of self.old) r.0
             (max self.old.moment moment) at }
         ensures answer { Answers self.old r.0 moment (Moves result) self.new }
         ensures window { SameWindow self.old self.new }
+        ensures size { HasSameRoom scratch.old scratch.new }
     {
         self.moment = self.moment.max(moment);
-        let uses = planned_uses(&self.history, r, self.moment, scratch);
+        plan_uses(&self.history, r, self.moment, scratch);
         self.order
             .arrange(self.history.scheduler(), scratch.flags());
-        self.order.join(self.history.roster(), r, at, uses);
+        self.order
+            .join(self.history.roster(), r, at, scratch.uses());
         let entry = Entry::Placed(r, at, self.moment);
         self.history.push(r.0, entry);
         one_made(entry)

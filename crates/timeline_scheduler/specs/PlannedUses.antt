@@ -1,16 +1,13 @@
 -- The planned times of a run whose commands follow one another, and for how long a run is planned
--- to use a device: by its plan, and as the scratch holds it.
-use Rattle.command_rules.specs.Rosters.{is_on}
+-- to use a device by its plan.
+use Rattle.command_rules.specs.Rosters.{Run, touches}
 use Rattle.history_book.specs.Plans.{greatest, planned_end, planned_start}
 use Rattle.history_book.specs.Readings.{Planned}
 use Rattle.history_book.specs.declared.planned_uses.PlannedUse.{PlannedUse}
-use Rattle.home_types.specs.Limits.{most_devices}
-use Rattle.home_types.specs.Numbers.{DeviceId, Moment}
+use Rattle.home_types.specs.Numbers.{DeviceId, Moment, RunId}
 use Rattle.home_types.specs.declared.commands.Command.{Command}
 use Rattle.std.specs.List.{list_any}
-use Rattle.std.specs.Prelude.{List, None, Option, Some, [], if◌then◌else◌, min, option_map, slice_get, ◌+◌, ◌<◌, ◌==◌, ◌∷◌, ◌≡◌}
-use Rattle.timeline_scheduler.specs.Scratches.{planned_in}
-use Rattle.timeline_scheduler.specs.declared.slots.Slot.{Slot}
+use Rattle.std.specs.Prelude.{List, None, Option, Some, [], if◌then◌else◌, min, slice_get, true, ◌+◌, ◌==◌, ◌∷◌, ◌≡◌}
 
 -- each command starts when the one before it ends, the first at this time, and takes as long as its
 -- estimate
@@ -32,16 +29,11 @@ abbrev pub planned_again : Option PlannedUse → Moment → Moment → PlannedUs
 planned_again None from to = record { from = from; to = to }
 planned_again (Some used) from to = record { from = used.from; to = to }
 
--- these are the uses of each device in a run's plan
-abbrev pub AreUsesOf : List (Option PlannedUse) → List Planned → Type 0
-AreUsesOf uses planned =
-    (d : DeviceId) → d < most_devices → slice_get uses d ≡ Some (planned_use planned d)
+-- these are the uses of each device of the run in its plan
+abbrev pub AreUsesOf : List Run → RunId → List (Option PlannedUse) → List Planned → Type 0
+AreUsesOf runs r uses planned = (d : DeviceId) → touches runs r d ≡ true
+    → slice_get uses d ≡ Some (planned_use planned d)
 
 -- the use of a device that is planned from and to these times
 abbrev pub use_between : Moment × Moment → PlannedUse
 use_between (from, to) = record { from = from; to = to }
-
--- the use of the device that the scratch holds for a run with these commands
-abbrev pub held_use : List Slot → List Command → DeviceId → Option PlannedUse
-held_use slots commands d =
-    if list_any (is_on d) commands then option_map use_between (planned_in slots d) else None

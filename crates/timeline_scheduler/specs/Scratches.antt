@@ -1,17 +1,20 @@
 -- What a scratch holds: times for each device, and the items of the line that stand before the run.
 use Rattle.history_book.specs.Plans.{planned_end, planned_start}
 use Rattle.history_book.specs.Readings.{Planned}
+use Rattle.history_book.specs.declared.planned_uses.PlannedUse.{PlannedUse}
 use Rattle.home_types.specs.Numbers.{DeviceId, Moment}
 use Rattle.std.specs.List.{list_any}
 use Rattle.std.specs.Prelude.{Bool, List, None, Option, Some, if◌then◌else◌, option_and_then, slice_get, ℕ, ◌==◌, ◌≡◌}
 use Rattle.timeline_scheduler.specs.declared.slots.Slot.{Slot}
 
 -- for each device when it is free and what is planned there, for each item whether it stands before
--- the run, and for how many items there is room
+-- the run, for how many items there is room, and for how long the run placed last is planned to use
+-- each of its devices
 pub record ScratchRoom : Type 0 where
   pub slots : List Slot
   pub before : List Bool
   pub items : ℕ
+  pub uses : List (Option PlannedUse)
 
 -- the times that are held for the device
 abbrev pub planned_in : List Slot → DeviceId → Option (Moment × Moment)

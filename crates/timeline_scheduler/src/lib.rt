@@ -10,5 +10,5 @@ mod scratches;
 mod slots;
 
 pub use places::place;
-pub use plans::planned_uses;
+pub use plans::plan_uses;
 pub use scratches::Scratch;

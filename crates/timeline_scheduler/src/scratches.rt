@@ -1,44 +1,56 @@
 //! The room in which the timeline looks for the set of items behind which a run is placed.
-ghost use Rattle.std.specs.Prelude.{IfOk, IsTrue, OnErr, OnOk, count_by, false, length, map, not, option_map, slice_index_or, true, ◌+◌, ◌<◌, ◌^◌, ◌≡◌, ◌≤◌};
+ghost use Rattle.std.specs.List.{All, list_any};
+ghost use Rattle.std.specs.Prelude.{IfOk, IsTrue, None, OnErr, OnOk, Some, count_by, false, length, map, not, option_map, slice_get, slice_index_or, true, ℕ, ◌+◌, ◌<◌, ◌^◌, ◌≡◌, ◌≤◌};
 ghost use Rattle.command_rules.specs.Apart.{meet};
 ghost use Rattle.command_rules.specs.ClosedSets.{chosen, closure, either_of};
 ghost use Rattle.command_rules.specs.Items.{of_run};
-ghost use Rattle.command_rules.specs.Rosters.{commands_of, is_run};
+ghost use Rattle.command_rules.specs.Rosters.{commands_of, is_on, is_run};
+ghost use Rattle.home_types.specs.Limits.{most_devices};
 ghost use Rattle.serial_line.specs.Marks.{items_of};
 ghost use Rattle.timeline_scheduler.specs.Bases.{seeds};
 ghost use Rattle.timeline_scheduler.specs.Gathered.{ItemsAreKnown};
+ghost use Rattle.timeline_scheduler.specs.PlannedUses.{planned_again, planned_in_turn, planned_use, use_between};
 ghost use Rattle.timeline_scheduler.specs.Scratches.{HoldsTimes, planned_in};
 ghost use Rattle.timeline_scheduler.specs.Slots.{AreFollowed, RunsAreHomed, is_misfit, passed_set, plan_behind};
 
 use crate::bases::is_needed;
 use crate::gathered::Gathered;
 use crate::slots::Slots;
-use home_types::{DeviceNo, DeviceSet, NoMemory, RunNo};
+use history_book::PlannedUse;
+use home_types::{Command, DeviceNo, DeviceSet, NoMemory, RunNo, limits};
 use lock_leasing::Standing;
 use std::alloc::Global;
 use std::marker::Model;
 
 /// The room in which the timeline looks for the set of items behind which a run is placed, for the
-/// devices of one home and so many items of a line. It holds the last set, and the times of the
-/// last plan.
+/// devices of one home and so many items of a line. It holds the last set, the times of the last
+/// plan, and for how long the run that was placed last is planned to use its devices.
 #[derive(Drop)]
 pub struct Scratch {
     slots: Slots,
     // for each item whether it is in the set
     before: Vec<bool>,
     items: u32,
+    // for each of the 256 devices that a home may have
+    uses: Vec<Option<PlannedUse>>,
 }
 
 impl Model for Scratch {
+    ghost use Rattle.home_types.specs.Limits.{most_devices};
     ghost use Rattle.std.specs.Prelude.{length, vec_capacity, ◌≡◌, ◌≤◌};
     ghost use Rattle.timeline_scheduler.specs.Scratches.{ScratchRoom};
 
     ghost Value = { ScratchRoom };
 
-    ghost view = { λ s. record { slots = s.slots; before = s.before.items; items = s.items } };
+    ghost view = { λ s. record {
+      slots = s.slots;
+      before = s.before.items;
+      items = s.items;
+      uses = s.uses.items;
+    } };
 
     ghost invariant = { λ s. (length s.before.items ≤ s.items)
-        × (s.items ≤ vec_capacity s.before) };
+        × (s.items ≤ vec_capacity s.before) × (length s.uses.items ≡ most_devices) };
 }
 
 impl Scratch {
@@ -50,14 +62,17 @@ impl Scratch {
         ensures items { IfOk result (λ scratch. scratch.items ≡ items) }
     {
         let slots = Slots::open(alloc, devices)?;
+        let uses = no_uses(alloc)?;
         match Vec::with_capacity(alloc, items as usize) {
             Ok(before) => Ok(Scratch {
                 slots,
                 before,
                 items,
+                uses,
             }),
             Err(_) => {
                 drop(slots);
+                drop(uses);
                 Err(NoMemory)
             }
         }
@@ -107,6 +122,57 @@ impl Scratch {
         ensures { result.now ≡ self.now.before }
     {
         self.before.as_slice()
+    }
+
+    /// For how long the run that was placed last is planned to use each of its devices, by the
+    /// number of the device. What is there of any other device means nothing.
+    pub fn uses(&self) -> &[Option<PlannedUse>]
+        ensures { result.now ≡ self.now.uses }
+    {
+        self.uses.as_slice()
+    }
+
+    /// Holds for how long a run with these commands is planned to use its devices, where it waits
+    /// for none: the commands follow one another from this moment on, in ms.
+    pub(crate) fn use_in_turn(&mut self, commands: &[Command], moment: u64)
+        requires { All (λ c. c.device.0 < most_devices) commands.now }
+        ensures uses { (d : ℕ) → list_any (is_on d) commands.now ≡ true → slice_get self.new.uses d
+            ≡ Some (planned_use (planned_in_turn moment commands.now) d) }
+        ensures rest { self.new ≡ record self.old { uses = self.new.uses } }
+    {
+        self.forget_uses(commands);
+        let mut clock = moment;
+        'commands: for command in commands {
+            let from = clock;
+            clock = clock.saturating_add(command.ms as u64);
+            let d = command.device.0 as usize;
+            self.uses[d] = Some(used_again(self.uses[d], from, clock));
+        }
+    }
+
+    /// No use of the devices of these commands is held.
+    fn forget_uses(&mut self, commands: &[Command])
+        requires { All (λ c. c.device.0 < most_devices) commands.now }
+        ensures uses { (d : ℕ) → list_any (is_on d) commands.now ≡ true
+            → slice_get self.new.uses d ≡ Some None }
+        ensures rest { self.new ≡ record self.old { uses = self.new.uses } }
+    {
+        'commands: for command in commands {
+            self.uses[command.device.0 as usize] = None;
+        }
+    }
+
+    /// Holds for how long a run with these commands is planned to use its devices by the last plan.
+    pub(crate) fn use_as_planned(&mut self, commands: &[Command])
+        requires { All (λ c. c.device.0 < most_devices) commands.now }
+        ensures uses { (d : ℕ) → list_any (is_on d) commands.now ≡ true → slice_get self.new.uses d
+            ≡ Some (option_map use_between (planned_in self.old.slots d)) }
+        ensures rest { self.new ≡ record self.old { uses = self.new.uses } }
+    {
+        'commands: for command in commands {
+            let d = command.device;
+            self.uses[d.0 as usize] = use_between(self.slots.planned(d));
+        }
     }
 
     /// How many items are in the set.
@@ -208,6 +274,42 @@ impl Scratch {
             some = true;
         }
         some
+    }
+}
+
+/// No use of any of the devices that a home may have.
+fn no_uses(alloc: Global) -> Result<Vec<Option<PlannedUse>>, NoMemory>
+    ensures { IfOk result (λ uses. length uses.items ≡ most_devices) }
+{
+    let Ok(mut uses) = Vec::with_capacity(alloc, limits::DEVICES as usize) else {
+        return Err(NoMemory);
+    };
+    'devices: for _ in 0..limits::DEVICES {
+        uses.push_reserved(None);
+    }
+    Ok(uses)
+}
+
+/// The use of a device with one more command, which is planned from and to these times.
+fn used_again(used: Option<PlannedUse>, from: u64, to: u64) -> PlannedUse
+    ensures { result ≡ planned_again used from to }
+{
+    match used {
+        Some(used) => PlannedUse {
+            from: used.from,
+            to,
+        },
+        None => PlannedUse { from, to },
+    }
+}
+
+/// The use of a device that is planned from and to these times, in ms.
+fn use_between(planned: Option<(u64, u64)>) -> Option<PlannedUse>
+    ensures { result ≡ option_map use_between planned }
+{
+    match planned {
+        Some((from, to)) => Some(PlannedUse { from, to }),
+        None => None,
     }
 }
 

@@ -30,7 +30,7 @@ use Rattle.std.proofs.lemmas.List.Sums.{fold-append, sum_by-cons}
 use Rattle.std.proofs.lemmas.List.{take-append-drop}
 use Rattle.std.specs.List.{list_any}
 use Rattle.std.specs.Option.{option_or}
-use Rattle.std.specs.Prelude.{Bool, List, None, Option, Some, [], count_by, drop, false, fold, if◌then◌else◌, is_none, is_some, length, not, option_map, slice_get, suc, take, true, unwrap_or, zero, ℕ, ◌&&◌, ◌++◌, ◌+◌, ◌<◌, ◌||◌, ◌∷◌, ◌≡◌, ◌≢◌, ◌≤◌}
+use Rattle.std.specs.Prelude.{Bool, List, None, Option, Some, [], count_by, drop, false, fold, if◌then◌else◌, is_none, is_some, length, not, option_map, slice_get, suc, take, true, unwrap_or, zero, ℕ, ◌&&◌, ◌++◌, ◌+◌, ◌<◌, ◌||◌, ◌∷◌, ◌≡◌, ◌≢◌}
 use Rattle.window_order.proofs.AccessLists.{SameBut, along_absent, along_but, along_lacks, along_parts, along_there, any_but, distinct_parts, from_between, front_accesses, front_but, front_in, front_lacks, lacks_none, put_between}
 use Rattle.window_order.proofs.ClearLines.{clear_run, clear_written}
 use Rattle.window_order.proofs.ReadFacts.{IsRead, lacks_count, runs_distinct}

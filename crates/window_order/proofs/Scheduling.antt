@@ -2,6 +2,8 @@
 use Rattle.command_rules.specs.Rosters.{device_no, is_on, run_no}
 use Rattle.history_book.proofs.Cited.{among_more, differ, is_among}
 use Rattle.history_book.specs.declared.planned_uses.PlannedUse.{PlannedUse}
+use Rattle.home_types.proofs.Cited.{contains_insert}
+use Rattle.home_types.specs.DeviceSets.{Devices}
 use Rattle.home_types.specs.declared.commands.Command.{Command}
 use Rattle.home_types.specs.declared.items.Item.TheVariants.{Back, Failed, Ran}
 use Rattle.home_types.specs.declared.items.Item.{Item}
@@ -10,27 +12,33 @@ use Rattle.lineage_table.specs.Accesses.{has_access, status_of}
 use Rattle.lineage_table.specs.Lineages.{LineageState, accesses_at, lineage_at, no_lineage, scheduled, with_lineage}
 use Rattle.lineage_table.specs.declared.accesses.Access.{Access}
 use Rattle.lineage_table.specs.declared.accesses.Status.TheVariants.{Scheduled}
-use Rattle.std.proofs.Common.{ap, arith, refl, set, subst, sym, ◌∙◌}
+use Rattle.std.proofs.Common.{ap, arith, refl, subst, sym, ◌∙◌}
 use Rattle.std.proofs.Math.Bool.{or-false, or-true}
 use Rattle.std.proofs.lemmas.Bool.{eqb-true, or_left}
 use Rattle.std.proofs.lemmas.Grind.{common_steps}
 use Rattle.std.proofs.lemmas.List.Folds.{list_any-append}
 use Rattle.std.proofs.lemmas.List.{drop_all, drop_more, get_or-set_other, get_or-set_same, length-set, take-append-drop}
 use Rattle.std.proofs.lemmas.Option.{same_Some, slice_get-get_or, slice_get_within}
+use Rattle.std.specs.FinSet as set
+use Rattle.std.specs.Ordering.{nat_cmp}
 use Rattle.std.specs.List.{list_any}
 use Rattle.std.specs.Option.{ForSome, option_or}
-use Rattle.std.specs.Prelude.{Bool, List, None, Option, Some, [], drop, false, get_or, if◌then◌else◌, is_some, length, nat_lt, option_to_list, slice_get, suc, take, true, zero, ℕ, ◌+◌, ◌<◌, ◌==◌, ◌||◌, ◌∷◌, ◌≡◌, ◌≤◌}
+use Rattle.std.specs.Prelude.{Bool, List, None, Option, Some, [], drop, false, get_or, if◌then◌else◌, is_some, length, nat_lt, option_to_list, slice_get, take, true, ℕ, ◌+◌, ◌<◌, ◌==◌, ◌||◌, ◌∷◌, ◌≡◌, ◌≤◌}
 use Rattle.window_order.proofs.AgainAccesses.{MayStand, may_stand}
 use Rattle.window_order.proofs.NotedAnswers.{lineage_set}
 use Rattle.window_order.proofs.TableSteps.{with_both}
 use Rattle.window_order.specs.KeptOrders.{scheduled_so}
 use Rattle.window_order.specs.TableChanges.{IsNewOn, first_with_access, rescheduled}
 
--- after so many commands the uses of their devices are taken, and the run has its access there
-pub record IsScheduledTo (k : ℕ) (commands : List Command) (given : List (Option PlannedUse)) (r : ℕ) (back : List Item) (uses : List (Option PlannedUse)) (old new : List LineageState) : Type 0 where
+-- after so many commands their devices are done, and the run has its access there
+pub record IsScheduledTo (k : ℕ) (commands : List Command) (given : List (Option PlannedUse)) (r : ℕ) (back : List Item) (done : Devices) (old new : List LineageState) : Type 0 where
   pub devices : length new ≡ length old
-  pub left : (d : ℕ) → d < 256 → get_or uses d None ≡ (if is_among d k commands then None else get_or given d None)
+  pub done_are : (d : ℕ) → set.contains done d ≡ is_among d k commands
   pub each : (d : ℕ) → lineage_at new d ≡ (if is_among d k commands then scheduled_so r back (get_or given d None) (lineage_at old d) else lineage_at old d)
+
+-- before the first command none is done
+pub schedules_start : (commands : List Command) (given : List (Option PlannedUse)) (r : ℕ) (back : List Item) (done : Devices) (old : List LineageState) → done ≡ set.empty → IsScheduledTo 0 commands given r back done old old
+schedules_start commands given r back done old empty = record { devices = refl; done_are = λ d. ap (λ (s : Devices). set.contains s d) empty ∙ set.contains-empty nat_cmp d; each = λ d. refl }
 
 -- a command is one on its device
 pub on_command : (k : ℕ) (commands : List Command) (e : Command) → k < length commands → list_any (is_on (get_or commands k e).device.0) commands ≡ true
@@ -44,38 +52,47 @@ on_command k commands e within =
     self : (x : Bool) (y : ℕ) → (x || (y == y)) ≡ true
     self x y = grind (arith, common_steps)
 
--- a device that has its use has had no command
-pub record IsUnused (k d : ℕ) (commands : List Command) (given : List (Option PlannedUse)) (used : PlannedUse) : Type 0 where
-  pub among : is_among d k commands ≡ false
-  pub use_is : get_or given d None ≡ Some used
-
-pub unused : (k d : ℕ) (commands : List Command) (given : List (Option PlannedUse)) (used : PlannedUse) → (if is_among d k commands then None else get_or given d None) ≡ Some used → IsUnused k d commands given used
-unused k d commands given used has = by_command (is_among d k commands) refl has
+-- where the device of a command has had one before, it is as after one more
+among_again : (k : ℕ) (commands : List Command) (e : Command) → k < length commands → is_among (get_or commands k e).device.0 k commands ≡ true → (d : ℕ) → is_among d (k + 1) commands ≡ is_among d k commands
+among_again k commands e within again d = among_more d k commands e within ∙ by_device (c.device.0 == d) refl
   where
-    by_command : (b : Bool) → is_among d k commands ≡ b → (if b then None else get_or given d None) ≡ Some used → IsUnused k d commands given used
-    by_command true e h = absurd (cc)
-    by_command false e h = record { among = e; use_is = h }
+    c : Command
+    c = get_or commands k e
 
--- a use that is taken is gone
-taken_use : (uses : List (Option PlannedUse)) (d : ℕ) → get_or (set uses d None) d None ≡ None
-taken_use [] d = refl
-taken_use (u ∷ us) zero = refl
-taken_use (u ∷ us) (suc d) = taken_use us d
+    by_device : (b : Bool) → (c.device.0 == d) ≡ b → (is_among d k commands || b) ≡ is_among d k commands
+    by_device true h = or-true (is_among d k commands) ∙ sym (ap (λ x. is_among x k commands) (sym (eqb-true c.device.0 d h)) ∙ again)
+    by_device false h = or-false (is_among d k commands)
+
+-- the device of a command is done with it
+done_next : (k : ℕ) (commands : List Command) (e : Command) (done : Devices) → k < length commands → ((d : ℕ) → set.contains done d ≡ is_among d k commands) → (d : ℕ)
+    → set.contains (set.insert done (get_or commands k e).device.0) d ≡ is_among d (k + 1) commands
+done_next k commands e done within same d =
+    contains_insert done c.device.0 d ∙ ap (λ b. (d == c.device.0) || b) (same d) ∙ turned (d == c.device.0) (is_among d k commands) ∙ ap (λ b. is_among d k commands || b) (both_ways d c.device.0) ∙ sym (among_more d k commands e within)
+  where
+    c : Command
+    c = get_or commands k e
+
+    turned : (x y : Bool) → (x || y) ≡ (y || x)
+    turned true y = sym (or-true y)
+    turned false y = sym (or-false y)
+
+    both_ways : (x y : ℕ) → (x == y) ≡ (y == x)
+    both_ways x y = grind (arith, common_steps)
 
 -- its lineage is as it was
-pub unused_same : (k d : ℕ) (commands : List Command) (given : List (Option PlannedUse)) (r : ℕ) (back : List Item) (uses : List (Option PlannedUse))
-    (old new : List LineageState) → IsScheduledTo k commands given r back uses old new → is_among d k commands ≡ false → lineage_at new d ≡ lineage_at old d
-unused_same k d commands given r back uses old new so none = so.each d ∙ (λ i. if none i then scheduled_so r back (get_or given d None) (lineage_at old d) else lineage_at old d)
+pub unused_same : (k d : ℕ) (commands : List Command) (given : List (Option PlannedUse)) (r : ℕ) (back : List Item) (done : Devices)
+    (old new : List LineageState) → IsScheduledTo k commands given r back done old new → is_among d k commands ≡ false → lineage_at new d ≡ lineage_at old d
+unused_same k d commands given r back done old new so none = so.each d ∙ (λ i. if none i then scheduled_so r back (get_or given d None) (lineage_at old d) else lineage_at old d)
 
 -- once those behind its place wait the run may be scheduled on the device of the next command
 pub record MaySchedule (r d : ℕ) (first : Option RunNo) (table : List LineageState) : Type 0 where
   pub none : has_access r (accesses_at table d) ≡ false
   pub waits : ForSome first (λ q. status_of q.0 (accesses_at table d) ≡ Some Scheduled)
 
-pub may_schedule : (k : ℕ) (commands : List Command) (given : List (Option PlannedUse)) (r : ℕ) (back : List Item) (uses : List (Option PlannedUse)) (old new after : List LineageState) (e : Command) (used : PlannedUse) (first : Option RunNo)
-    → IsScheduledTo k commands given r back uses old new → k < length commands → ((x : Command) → (get_or commands k x).device.0 < length old) → length old ≤ 256 → get_or uses (get_or commands k e).device.0 None ≡ Some used
+pub may_schedule : (k : ℕ) (commands : List Command) (given : List (Option PlannedUse)) (r : ℕ) (back : List Item) (done : Devices) (old new after : List LineageState) (e : Command) (first : Option RunNo)
+    → IsScheduledTo k commands given r back done old new → ((x : Command) → (get_or commands k x).device.0 < length old) → is_among (get_or commands k e).device.0 k commands ≡ false
     → IsNewOn r back (lineage_at old (get_or commands k e).device.0) → first ≡ first_with_access (accesses_at new (get_or commands k e).device.0) back → after ≡ with_lineage new (get_or commands k e).device.0 (rescheduled first) → MaySchedule r (get_or commands k e).device.0 first after
-may_schedule k commands given r back uses old new after e used first so within homed few has is_new named waiting = record {
+may_schedule k commands given r back done old new after e first so homed off is_new named waiting = record {
   none = ap (λ (s : LineageState). has_access r s.accesses) here ∙ stands.none;
   waits = subst (λ (s : LineageState). ForSome first (λ q. status_of q.0 s.accesses ≡ Some Scheduled)) (sym here) stands.waits;
 }
@@ -86,11 +103,8 @@ may_schedule k commands given r back uses old new after e used first so within h
     there : d < length old
     there = homed e
 
-    is : IsUnused k d commands given used
-    is = unused k d commands given used (sym (so.left d (omega (arith, there, few))) ∙ has)
-
     now : lineage_at new d ≡ lineage_at old d
-    now = unused_same k d commands given r back uses old new so is.among
+    now = unused_same k d commands given r back done old new so off
 
     here : lineage_at after d ≡ rescheduled first (lineage_at new d)
     here = ap (λ (t : List LineageState). lineage_at t d) waiting ∙ lineage_set new d (rescheduled first) (omega (arith, there, so.devices))
@@ -99,14 +113,14 @@ may_schedule k commands given r back uses old new after e used first so within h
     stands = subst (λ o. MayStand r o (lineage_at new d)) (sym named) (may_stand r back (lineage_at new d) (subst (IsNewOn r back) (sym now) is_new))
 
 -- the run has its access on the device of the next command
-pub schedules : (k : ℕ) (commands : List Command) (given : List (Option PlannedUse)) (r : ℕ) (back : List Item) (uses : List (Option PlannedUse)) (old new : List LineageState) (e : Command) (used : PlannedUse)
-    → IsScheduledTo k commands given r back uses old new → k < length commands → ((x : Command) → (get_or commands k x).device.0 < length old) → length old ≤ 256 → get_or uses (get_or commands k e).device.0 None ≡ Some used
-    → IsScheduledTo (k + 1) commands given r back (set uses (get_or commands k e).device.0 None) old
+pub schedules : (k : ℕ) (commands : List Command) (given : List (Option PlannedUse)) (r : ℕ) (back : List Item) (done : Devices) (old new : List LineageState) (e : Command) (used : PlannedUse)
+    → IsScheduledTo k commands given r back done old new → k < length commands → ((x : Command) → (get_or commands k x).device.0 < length old) → is_among (get_or commands k e).device.0 k commands ≡ false → get_or given (get_or commands k e).device.0 None ≡ Some used
+    → IsScheduledTo (k + 1) commands given r back (set.insert done (get_or commands k e).device.0) old
     (with_lineage (with_lineage new (get_or commands k e).device.0 (rescheduled (first_with_access (lineage_at new (get_or commands k e).device.0).accesses back))) (get_or commands k e).device.0
     (scheduled (first_with_access (lineage_at new (get_or commands k e).device.0).accesses back) (record { run = run_no r; status = Scheduled; view = None; wrote = None; from = used.from; to = used.to })))
-schedules k commands given r back uses old new e used so within homed few has = subst (IsScheduledTo (k + 1) commands given r back (set uses c.device.0 None) old) (sym (with_both new c.device.0 (rescheduled first) (scheduled first access) (omega (arith, there, so.devices)))) (record {
+schedules k commands given r back done old new e used so within homed off has = subst (IsScheduledTo (k + 1) commands given r back (set.insert done c.device.0) old) (sym (with_both new c.device.0 (rescheduled first) (scheduled first access) (omega (arith, there, so.devices)))) (record {
   devices = length-set new c.device.0 (change (lineage_at new c.device.0)) ∙ so.devices;
-  left = λ d lt. left_at d lt (c.device.0 == d) refl;
+  done_are = done_next k commands e done within so.done_are;
   each = λ d. each_at d (c.device.0 == d) refl;
 })
   where
@@ -115,9 +129,6 @@ schedules k commands given r back uses old new e used so within homed few has = 
 
     there : c.device.0 < length old
     there = homed e
-
-    is : IsUnused k c.device.0 commands given used
-    is = unused k c.device.0 commands given used (sym (so.left c.device.0 (omega (arith, there, few))) ∙ has)
 
     access : Access
     access = record { run = run_no r; status = Scheduled; view = None; wrote = None; from = used.from; to = used.to }
@@ -131,25 +142,15 @@ schedules k commands given r back uses old new e used so within homed few has = 
     among : (d : ℕ) (b : Bool) → (c.device.0 == d) ≡ b → is_among d (k + 1) commands ≡ (is_among d k commands || b)
     among d b h = among_more d k commands e within ∙ ap (λ x. is_among d k commands || x) h
 
-    left_at : (d : ℕ) → d < 256 → (b : Bool) → (c.device.0 == d) ≡ b → get_or (set uses c.device.0 None) d None ≡ (if is_among d (k + 1) commands then None else get_or given d None)
-    left_at d lt true h =
-        ap (λ x. get_or (set uses c.device.0 None) x None) (sym (eqb-true c.device.0 d h))
-        ∙ taken_use uses c.device.0
-        ∙ (λ i. if sym (among d true h ∙ or-true (is_among d k commands)) i then None else get_or given d None)
-    left_at d lt false h =
-        get_or-set_other uses c.device.0 d None None (differ c.device.0 d h)
-        ∙ so.left d lt
-        ∙ (λ i. if sym (among d false h ∙ or-false (is_among d k commands)) i then None else get_or given d None)
-
     first_is : lineage_at new c.device.0 ≡ lineage_at old c.device.0
-    first_is = unused_same k c.device.0 commands given r back uses old new so is.among
+    first_is = unused_same k c.device.0 commands given r back done old new so off
 
     each_at : (d : ℕ) (b : Bool) → (c.device.0 == d) ≡ b → lineage_at (with_lineage new c.device.0 change) d ≡ (if is_among d (k + 1) commands then scheduled_so r back (get_or given d None) (lineage_at old d) else lineage_at old d)
     each_at d true h =
         ap (lineage_at (with_lineage new c.device.0 change)) (sym (eqb-true c.device.0 d h))
         ∙ get_or-set_same new c.device.0 (change (lineage_at new c.device.0)) no_lineage (omega (arith, there, so.devices))
         ∙ ap (scheduled_so r back (Some used)) first_is
-        ∙ ap (λ o. scheduled_so r back o (lineage_at old c.device.0)) (sym is.use_is)
+        ∙ ap (λ o. scheduled_so r back o (lineage_at old c.device.0)) (sym has)
         ∙ ap (λ x. scheduled_so r back (get_or given x None) (lineage_at old x)) (eqb-true c.device.0 d h)
         ∙ (λ i. if sym (among d true h ∙ or-true (is_among d k commands)) i then scheduled_so r back (get_or given d None) (lineage_at old d) else lineage_at old d)
     each_at d false h =
@@ -157,12 +158,12 @@ schedules k commands given r back uses old new e used so within homed few has = 
         ∙ so.each d
         ∙ (λ i. if sym (among d false h ∙ or-false (is_among d k commands)) i then scheduled_so r back (get_or given d None) (lineage_at old d) else lineage_at old d)
 
--- .. or has it already, or no use of it is planned
-pub schedules_no_more : (k : ℕ) (commands : List Command) (given : List (Option PlannedUse)) (r : ℕ) (back : List Item) (uses : List (Option PlannedUse)) (old new : List LineageState) (e : Command)
-    → IsScheduledTo k commands given r back uses old new → k < length commands → ((x : Command) → (get_or commands k x).device.0 < 256) → get_or uses (get_or commands k e).device.0 None ≡ None → IsScheduledTo (k + 1) commands given r back uses old new
-schedules_no_more k commands given r back uses old new e so within homed none = record {
+-- .. or no use of it is planned
+pub schedules_none : (k : ℕ) (commands : List Command) (given : List (Option PlannedUse)) (r : ℕ) (back : List Item) (done : Devices) (old new : List LineageState) (e : Command)
+    → IsScheduledTo k commands given r back done old new → k < length commands → is_among (get_or commands k e).device.0 k commands ≡ false → get_or given (get_or commands k e).device.0 None ≡ None → IsScheduledTo (k + 1) commands given r back (set.insert done (get_or commands k e).device.0) old new
+schedules_none k commands given r back done old new e so within off none = record {
   devices = so.devices;
-  left = λ d lt. left_at d lt (c.device.0 == d) refl;
+  done_are = done_next k commands e done within so.done_are;
   each = λ d. each_at d (c.device.0 == d) refl;
 }
   where
@@ -172,23 +173,23 @@ schedules_no_more k commands given r back uses old new e so within homed none = 
     among : (d : ℕ) (b : Bool) → (c.device.0 == d) ≡ b → is_among d (k + 1) commands ≡ (is_among d k commands || b)
     among d b h = among_more d k commands e within ∙ ap (λ x. is_among d k commands || x) h
 
-    none_at : (d : ℕ) → (c.device.0 == d) ≡ true → get_or uses d None ≡ None
-    none_at d h = ap (λ x. get_or uses x None) (sym (eqb-true c.device.0 d h)) ∙ none
-
-    none_given : (d : ℕ) → (c.device.0 == d) ≡ true → is_among d k commands ≡ false → get_or given d None ≡ None
-    none_given d h off = sym (so.left d (subst (λ x. x < 256) (eqb-true c.device.0 d h) (homed e)) ∙ (λ i. if off i then None else get_or given d None)) ∙ none_at d h
-
-    left_at : (d : ℕ) → d < 256 → (b : Bool) → (c.device.0 == d) ≡ b → get_or uses d None ≡ (if is_among d (k + 1) commands then None else get_or given d None)
-    left_at d lt true h = none_at d h ∙ (λ i. if sym (among d true h ∙ or-true (is_among d k commands)) i then None else get_or given d None)
-    left_at d lt false h = so.left d lt ∙ (λ i. if sym (among d false h ∙ or-false (is_among d k commands)) i then None else get_or given d None)
-
-    as_given : (d : ℕ) → (c.device.0 == d) ≡ true → (b : Bool) → is_among d k commands ≡ b → (if b then scheduled_so r back (get_or given d None) (lineage_at old d) else lineage_at old d) ≡ scheduled_so r back (get_or given d None) (lineage_at old d)
-    as_given d h true e = refl
-    as_given d h false e = ap (λ o. scheduled_so r back o (lineage_at old d)) (sym (none_given d h e))
+    as_given : (d : ℕ) → (c.device.0 == d) ≡ true → lineage_at old d ≡ scheduled_so r back (get_or given d None) (lineage_at old d)
+    as_given d h = ap (λ o. scheduled_so r back o (lineage_at old d)) (sym (ap (λ x. get_or given x None) (sym (eqb-true c.device.0 d h)) ∙ none))
 
     each_at : (d : ℕ) (b : Bool) → (c.device.0 == d) ≡ b → lineage_at new d ≡ (if is_among d (k + 1) commands then scheduled_so r back (get_or given d None) (lineage_at old d) else lineage_at old d)
-    each_at d true h = so.each d ∙ as_given d h (is_among d k commands) refl ∙ (λ i. if sym (among d true h ∙ or-true (is_among d k commands)) i then scheduled_so r back (get_or given d None) (lineage_at old d) else lineage_at old d)
+    each_at d true h =
+        ap (lineage_at new) (sym (eqb-true c.device.0 d h)) ∙ unused_same k c.device.0 commands given r back done old new so off ∙ ap (lineage_at old) (eqb-true c.device.0 d h) ∙ as_given d h
+        ∙ (λ i. if sym (among d true h ∙ or-true (is_among d k commands)) i then scheduled_so r back (get_or given d None) (lineage_at old d) else lineage_at old d)
     each_at d false h = so.each d ∙ (λ i. if sym (among d false h ∙ or-false (is_among d k commands)) i then scheduled_so r back (get_or given d None) (lineage_at old d) else lineage_at old d)
+
+-- .. or it is done already
+pub schedules_again : (k : ℕ) (commands : List Command) (given : List (Option PlannedUse)) (r : ℕ) (back : List Item) (done : Devices) (old new : List LineageState) (e : Command)
+    → IsScheduledTo k commands given r back done old new → k < length commands → is_among (get_or commands k e).device.0 k commands ≡ true → IsScheduledTo (k + 1) commands given r back done old new
+schedules_again k commands given r back done old new e so within again = record {
+  devices = so.devices;
+  done_are = λ d. so.done_are d ∙ sym (among_again k commands e within again d);
+  each = λ d. so.each d ∙ (λ i. if sym (among_again k commands e within again d) i then scheduled_so r back (get_or given d None) (lineage_at old d) else lineage_at old d);
+}
 
 -- past the end there is no item
 beyond : (items : List Item) (k : ℕ) → slice_get items k ≡ None → length items ≤ k

@@ -11,7 +11,7 @@ use Rattle.history_book.specs.declared.planned_uses.PlannedUse.{PlannedUse}
 use Rattle.lineage_table.specs.Accesses.{is_scheduled, status_of}
 use Rattle.lineage_table.specs.Lineages.{LineageState, released, removed, scheduled}
 use Rattle.lineage_table.specs.declared.accesses.Status.TheVariants.{Acquired, Scheduled}
-use Rattle.serial_line.specs.Marks.{Marked, front_of, items_of, stands}
+use Rattle.serial_line.specs.Marks.{Marked, front_of, items_of}
 use Rattle.std.specs.Prelude.{Bool, List, None, Option, Some, false, get_or, if◌then◌else◌, length, option_map, true, unwrap_or, ℕ, ◌≡◌}
 use Rattle.window_order.specs.TableChanges.{IsWaiting, answer_noted, first_with_access, passed_if, rescheduled}
 

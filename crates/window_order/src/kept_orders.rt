@@ -1,5 +1,5 @@
 //! The serialization line of a window and its lineage table.
-ghost use Rattle.std.specs.Prelude.{IfOk, IsTrue, None, Some, [], drop, false, if◌then◌else◌, length, true, ℕ, ◌+◌, ◌<◌, ◌^◌, ◌∷◌, ◌≡◌, ◌≤◌};
+ghost use Rattle.std.specs.Prelude.{IfOk, IsTrue, None, Some, [], drop, false, get_or, if◌then◌else◌, length, true, ℕ, ◌+◌, ◌<◌, ◌^◌, ◌∷◌, ◌≡◌, ◌≤◌};
 ghost use Rattle.std.specs.List.{All};
 ghost use Rattle.abort_rollback.specs.Undos.{next_undo};
 ghost use Rattle.command_rules.specs.Footprints.{FitsIndex};
@@ -23,7 +23,7 @@ use abort_rollback::{Undo, withdraw};
 use command_rules::Roster;
 use commit_compaction::commit;
 use history_book::PlannedUse;
-use home_types::{Answer, DeviceNo, Item, NoMemory, RunNo, Scheduler, Value, View, World};
+use home_types::{Answer, DeviceNo, DeviceSet, Item, NoMemory, RunNo, Scheduler, Value, View, World};
 use lineage_table::{Access, Status, Table};
 use lock_leasing::Purpose;
 use serial_line::Line;
@@ -97,7 +97,7 @@ impl KeptOrder {
     /// devices, with these uses of them. There it stands before the first access of a run behind
     /// it, which waits, as do those behind it: those that were passed wait again. What stands
     /// before the first live run is sealed then. Takes no memory.
-    pub fn join(&mut self, roster: &Roster, r: RunNo, at: u32, uses: [Option<PlannedUse>; 256])
+    pub fn join(&mut self, roster: &Roster, r: RunNo, at: u32, uses: &[Option<PlannedUse>])
         requires run { IsTrue (is_run (runs_of roster.now) r.0) }
         requires few { length self.old.table ≤ most_devices }
         requires homed { All (λ c. c.device.0 < length self.old.table)
@@ -116,7 +116,8 @@ impl KeptOrder {
         ensures sealed { IsSealed self.new.line }
         ensures kept { self.new.line.runs ≡ self.old.line.runs }
         ensures table { ChangesEach
-            (scheduled_with (runs_of roster.now) r.0 uses (drop at (items_of self.old.line.marks)))
+            (scheduled_with (runs_of roster.now) r.0 uses.now
+            (drop at (items_of self.old.line.marks)))
             self.old.table self.new.table }
     {
         schedule(&mut self.table, &self.line, at, roster, r, uses);
@@ -259,7 +260,7 @@ fn schedule(
     at: u32,
     roster: &Roster,
     r: RunNo,
-    uses: [Option<PlannedUse>; 256],
+    uses: &[Option<PlannedUse>],
 )
     requires run { IsTrue (is_run (runs_of roster.now) r.0) }
     requires few { length table.old ≤ most_devices }
@@ -268,20 +269,32 @@ fn schedule(
     requires new { (d : ℕ) → d < length table.old → touches (runs_of roster.now) r.0 d ≡ true
         → IsNewOn r.0 (drop at (items_of line.now.marks)) (lineage_at table.old d) }
     ensures { ChangesEach
-        (scheduled_with (runs_of roster.now) r.0 uses (drop at (items_of line.now.marks)))
+        (scheduled_with (runs_of roster.now) r.0 uses.now (drop at (items_of line.now.marks)))
         table.old table.new }
 {
     let commands = roster.commands(r);
-    let mut left = uses;
+    let mut done = DeviceSet::none();
     'commands: for command in commands {
         let d = command.device;
-        // A later command on the device finds no use any more.
-        if let Some(used) = left[d.0 as usize] {
-            left[d.0 as usize] = None;
+        if done.has(d) {
+            continue;
+        }
+        done.add(d);
+        if let Some(used) = use_of(uses, d) {
             let before = first_behind(line, table, at, d);
             wait_again(table, d, before);
             table.schedule(d, before, waiting(r, used));
         }
+    }
+}
+
+/// The use of the device among these, which stand by the number of their device.
+fn use_of(uses: &[Option<PlannedUse>], d: DeviceNo) -> Option<PlannedUse>
+    ensures { result ≡ get_or uses.now d.0 None }
+{
+    match uses.get(d.0 as usize) {
+        Some(used) => *used,
+        None => None,
     }
 }
 

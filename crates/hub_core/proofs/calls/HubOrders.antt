@@ -306,10 +306,10 @@ pub record IsJoined {D : Type 0} (h t : Inside D) (r at m : ℕ) : Type 0 where
 pub joins_planned : {D : Type 0} (h : Inside D) (s : OpenHub D) (r at m now : ℕ) (room : ScratchRoom) (uses : List (Option PlannedUse)) (runs : List Run) (back : List Item) (later : List LineageState) → open_of h ≡ s → HoldsPlan room (configuration_of s) r (max s.moment m) at → now ≡ max h.moment m
     → ((front : List Item)
     → (scheduler_of h.history.setting.mode ≡ Timeline → HoldsTimes room.slots (planned_times h.history.setting (read_in h.history) r front now))
-    → AreUsesOf uses (planned_times h.history.setting (read_in h.history) r front now)) → runs ≡ h.history.setting.runs → length h.order.table ≤ 256
+    → AreUsesOf h.history.setting.runs r uses (planned_times h.history.setting (read_in h.history) r front now)) → runs ≡ h.history.setting.runs
     → ChangesEach (scheduled_with runs r uses back) h.order.table later → ChangesEach (scheduled_on h.history.setting.runs r (planned_times h.history.setting (read_in h.history) r (front_for h.history.setting (read_in h.history) r at (max h.moment m)) (max h.moment m)) back) h.order.table later
-joins_planned {D = D} h s r at m now room uses runs back later seen holds is planned same few changes =
-    scheduled_as_planned w.runs r uses (times (max h.moment m)) back h.order.table later few are (λ d. planned_devices w n r (front_for w n r at (max h.moment m)) (max h.moment m) d) (subst (λ (x : List Run). ChangesEach (scheduled_with x r uses back) h.order.table later) same changes)
+joins_planned {D = D} h s r at m now room uses runs back later seen holds is planned same changes =
+    scheduled_as_planned w.runs r uses (times (max h.moment m)) back h.order.table later are (λ d. planned_devices w n r (front_for w n r at (max h.moment m)) (max h.moment m) d) (subst (λ (x : List Run). ChangesEach (scheduled_with x r uses back) h.order.table later) same changes)
   where
     w : Setting
     w = h.history.setting
@@ -326,8 +326,8 @@ joins_planned {D = D} h s r at m now room uses runs back later seen holds is pla
     holds_here : scheduler_of w.mode ≡ Timeline → HoldsTimes room.slots (times (max h.moment m))
     holds_here timed = (subst (λ (x : OpenHub D). HoldsPlan room (configuration_of x) r (max x.moment m) at) (sym seen) holds timed).times
 
-    are : AreUsesOf uses (times (max h.moment m))
-    are = subst (λ t. AreUsesOf uses (times t)) is (planned front (subst (λ t. scheduler_of w.mode ≡ Timeline → HoldsTimes room.slots (times t)) (sym is) holds_here))
+    are : AreUsesOf w.runs r uses (times (max h.moment m))
+    are = subst (λ t. AreUsesOf w.runs r uses (times t)) is (planned front (subst (λ t. scheduler_of w.mode ≡ Timeline → HoldsTimes room.slots (times t)) (sym is) holds_here))
 
 pub joins_whole : {D : Type 0} {shows : D → Shown} (h t : Inside D) (r at m : ℕ)
     → IsEntered h t r m (Placed (run_no r) at (max h.moment m) ∷ []) Going → IsJoined h t r at m → is_weak h.history.setting.mode ≡ false

@@ -5,4 +5,4 @@ use Rattle.std.proofs.Common.{drop}
 
 -- the run has its access on the devices of the commands up to here
 abbrev pub invariant-commands : goal.invariant-commands
-invariant-commands l = IsScheduledTo l.command-index l.commands l.fn.uses l.r.0 (drop l.at (items_of l.line.marks)) l.left l.initial.table l.table
+invariant-commands l = IsScheduledTo l.command-index l.commands l.uses l.r.0 (drop l.at (items_of l.line.marks)) l.done l.initial.table l.table

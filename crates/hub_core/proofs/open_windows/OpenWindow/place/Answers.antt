@@ -5,18 +5,21 @@ use Rattle.hub_core.proofs.calls.HubOrders.{hub_arranged, hub_arranges, hub_join
 use Rattle.hub_core.proofs.kept.Arranged.{long_arranged}
 use Rattle.hub_core.proofs.open_windows.OpenWindow.place.Goals as goal
 use Rattle.window_order.specs.KeptOrders.{MayArrange, scheduled_with}
-use Rattle.history_book.specs.ReadHistories.{with_entry}
+use Rattle.history_book.specs.Plans.{planned_times}
+use Rattle.history_book.specs.ReadHistories.{read_in, with_entry}
 use Rattle.hub_core.specs.declared.decisions.Chosen.TheVariants.{Joins}
 use Rattle.serial_line.specs.Marks.{Mark, items_of, stands, with_item}
 use Rattle.home_types.specs.declared.items.Item.TheVariants.{Ran}
 use Rattle.lineage_table.specs.Lineages.{LineageState}
 use Rattle.std.proofs.Common.{ap, arith, drop, false, length, subst, subst₂, sym, ◌∙◌}
 use Rattle.std.specs.Prelude.{List}
+use Rattle.timeline_scheduler.specs.PlannedUses.{AreUsesOf}
+use Rattle.timeline_scheduler.specs.Scratches.{ScratchRoom}
 use Rattle.window_order.specs.TableChanges.{ChangesEach}
 
 pub arrange-requires-clause-flags : goal.arrange-requires-clause-flags
 arrange-requires-clause-flags g c =
-    λ timed. subst (λ bs. MayArrange bs c.self.inside.order.line) (sym c.flags.ensures) (hub_arranges c.self.inside c.args.self.now c.args.r.0 c.args.at
+    λ timed. subst (λ bs. MayArrange bs c.self.inside.order.line) (sym (c.flags.ensures ∙ ap (λ (room : ScratchRoom). room.before) c.plan_uses.ensures.rest)) (hub_arranges c.self.inside c.args.self.now c.args.r.0 c.args.at
     c.args.moment c.args.scratch.now c.self.view_is c.requires.planned (sym c.scheduler.ensures ∙ timed) c.self.invariant)
 
 pub arrange-requires-clause-sealed : goal.arrange-requires-clause-sealed
@@ -49,7 +52,7 @@ join-requires-clause-known g c = ap (λ runs. is_run runs c.args.r.0) c.arrange.
 
 pub join-requires-clause-absent : goal.join-requires-clause-absent
 join-requires-clause-absent g c =
-    let marks = hub_arranged c.self.inside c.args.self.now c.args.r.0 c.args.at c.args.moment c.args.scratch.now _ _ _ c.self.view_is c.requires.planned c.scheduler.ensures c.flags.ensures c.arrange.ensures.marks in
+    let marks = hub_arranged c.self.inside c.args.self.now c.args.r.0 c.args.at c.args.moment c.args.scratch.now _ _ _ c.self.view_is c.requires.planned c.scheduler.ensures (c.flags.ensures ∙ ap (λ (room : ScratchRoom). room.before) c.plan_uses.ensures.rest) c.arrange.ensures.marks in
     ap (stands (Ran c.args.r)) marks ∙ (hub_joins c.self.inside c.args.r.0 c.args.at c.args.moment
     (chosen_here c.self.inside c.args.self.now c.args.r.0 c.args.moment (Joins c.args.at) c.self.view_is c.requires.chosen)
     (strong_here c.self.inside c.args.self.now false c.self.view_is c.requires.strong) c.self.invariant).absent
@@ -68,7 +71,7 @@ join-requires-clause-homed g c =
 
 pub join-requires-clause-new : goal.join-requires-clause-new
 join-requires-clause-new g c =
-    let marks = hub_arranged c.self.inside c.args.self.now c.args.r.0 c.args.at c.args.moment c.args.scratch.now _ _ _ c.self.view_is c.requires.planned c.scheduler.ensures c.flags.ensures c.arrange.ensures.marks in
+    let marks = hub_arranged c.self.inside c.args.self.now c.args.r.0 c.args.at c.args.moment c.args.scratch.now _ _ _ c.self.view_is c.requires.planned c.scheduler.ensures (c.flags.ensures ∙ ap (λ (room : ScratchRoom). room.before) c.plan_uses.ensures.rest) c.arrange.ensures.marks in
     rw (c.arrange.ensures.table, c.roster.ensures, marks) ((hub_joins c.self.inside c.args.r.0 c.args.at c.args.moment
     (chosen_here c.self.inside c.args.self.now c.args.r.0 c.args.moment (Joins c.args.at) c.self.view_is c.requires.chosen)
     (strong_here c.self.inside c.args.self.now false c.self.view_is c.requires.strong) c.self.invariant).new)
@@ -79,8 +82,8 @@ push-requires-clause-room g c = has_place c.self.inside c.args.r.0 c.args.moment
 pub push-requires-clause-follows : goal.push-requires-clause-follows
 push-requires-clause-follows g c = rw c.max-self-inside.ensures (follows_here c.self.inside c.args.r.0 c.args.moment _ Going (chosen_here c.self.inside c.args.self.now c.args.r.0 c.args.moment (Joins c.args.at) c.self.view_is c.requires.chosen) c.self.invariant)
 
-pub planned_uses-uses-requires-clause-homed : goal.planned_uses-uses-requires-clause-homed
-planned_uses-uses-requires-clause-homed g c =
+pub plan_uses-requires-clause-homed : goal.plan_uses-requires-clause-homed
+plan_uses-requires-clause-homed g c =
     λ k e within. let joins = (hub_joins c.self.inside c.args.r.0 c.args.at c.args.moment
     (chosen_here c.self.inside c.args.self.now c.args.r.0 c.args.moment (Joins c.args.at) c.self.view_is c.requires.chosen)
     (strong_here c.self.inside c.args.self.now false c.self.view_is c.requires.strong) c.self.invariant) in
@@ -92,13 +95,11 @@ pub invariant_of-self : goal.invariant_of-self
 invariant_of-self g c =
     let chosen = (chosen_here c.self.inside c.args.self.now c.args.r.0 c.args.moment (Joins c.args.at) c.self.view_is c.requires.chosen) in
     let new = c.push.ensures ∙ ap (λ m. with_entry c.self.inside.history c.args.r.0 (Placed c.args.r c.args.at m)) c.max-self-inside.ensures in
-    let marks = hub_arranged c.self.inside c.args.self.now c.args.r.0 c.args.at c.args.moment c.args.scratch.now _ _ _ c.self.view_is c.requires.planned c.scheduler.ensures c.flags.ensures c.arrange.ensures.marks in
-    let changes = subst₂ (λ (ms : List Mark) (ls : List LineageState). ChangesEach (scheduled_with (runs_of c.roster.result.now) c.args.r.0 c.planned_uses-uses.result (drop c.args.at (items_of ms))) ls c.join.new.self.table) marks c.arrange.ensures.table c.join.ensures.table in
+    let marks = hub_arranged c.self.inside c.args.self.now c.args.r.0 c.args.at c.args.moment c.args.scratch.now _ _ _ c.self.view_is c.requires.planned c.scheduler.ensures (c.flags.ensures ∙ ap (λ (room : ScratchRoom). room.before) c.plan_uses.ensures.rest) c.arrange.ensures.marks in
+    let changes = subst₂ (λ (ms : List Mark) (ls : List LineageState). ChangesEach (scheduled_with (runs_of c.roster.result.now) c.args.r.0 c.uses.result.now (drop c.args.at (items_of ms))) ls c.join.new.self.table) marks c.arrange.ensures.table c.join.ensures.table in
     let table = joins_planned c.self.inside c.args.self.now c.args.r.0 c.args.at c.args.moment c.max-self-inside.result c.args.scratch.now
-    c.planned_uses-uses.result (runs_of c.roster.result.now) (drop c.args.at (items_of (marks_then c.self.inside c.args.r.0 c.args.moment)))
-    c.join.new.self.table c.self.view_is c.requires.planned c.max-self-inside.ensures c.planned_uses-uses.ensures c.roster.ensures (hub_joins c.self.inside
-    c.args.r.0 c.args.at c.args.moment (chosen_here c.self.inside c.args.self.now c.args.r.0 c.args.moment (Joins c.args.at) c.self.view_is c.requires.chosen)
-    (strong_here c.self.inside c.args.self.now false c.self.view_is c.requires.strong) c.self.invariant).few changes in
+    c.uses.result.now (runs_of c.roster.result.now) (drop c.args.at (items_of (marks_then c.self.inside c.args.r.0 c.args.moment)))
+    c.join.new.self.table c.self.view_is c.requires.planned c.max-self-inside.ensures (λ front held. subst (λ us. AreUsesOf c.self.inside.history.setting.runs c.args.r.0 us (planned_times c.self.inside.history.setting (read_in c.self.inside.history) c.args.r.0 front c.max-self-inside.result)) (sym c.uses.ensures) (c.plan_uses.ensures.uses front held)) c.roster.ensures changes in
     joins_whole c.self.inside _ c.args.r.0 c.args.at c.args.moment (record {
       chosen = chosen;
       new = λ i. record c.self.inside { history = new i; moment = c.max-self-inside.ensures i; order = c.join.new.self };

@@ -29,6 +29,7 @@ items-init c =
       room = refl;
       slots = refl;
       items = refl;
+      uses = refl;
     }
 
 pub unwrap-item-requires : goal.unwrap-item-requires
@@ -80,10 +81,11 @@ items-preserved c =
       room = c.items.invariant.room;
       slots = c.items.invariant.slots;
       items = c.items.invariant.items;
+      uses = c.items.invariant.uses;
     }
 
 pub returns : goal.returns
 returns c =
     let done = all_closed (meet c.args.s.now.runs) c.self.inside.before.items (items_of c.args.s.now.line) c.items.self-inside.before.items c.items.at (omega (arith, c.items-test.false)) c.items.invariant.closed in
-    (λ i. record { slots = c.items.invariant.slots i; before = done i; items = c.items.invariant.items i })
+    (λ i. record { slots = c.items.invariant.slots i; before = done i; items = c.items.invariant.items i; uses = (c.items.invariant.uses i).items })
     ∙ ap (λ (s : ScratchRoom). record s { before = closure (meet c.args.s.now.runs) s.before (items_of c.args.s.now.line) }) c.self.view_is

@@ -16,6 +16,7 @@ invariant-items l = record {
   room : vec_capacity l.self-inside.before ≡ vec_capacity l.initial.self-inside.before;
   slots : l.self-inside.slots ≡ l.initial.self-inside.slots;
   items : l.self-inside.items ≡ l.initial.self-inside.items;
+  uses : l.self-inside.uses ≡ l.initial.self-inside.uses;
 }
 
 abbrev pub decreases-items : goal.decreases-items

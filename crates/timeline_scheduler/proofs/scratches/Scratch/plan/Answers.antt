@@ -24,6 +24,7 @@ items-init c = record {
   slots = sym (ap (fold (λ ss i. passed_item c.args.s.now.table c.args.s.now.history c.args.s.now.runs c.args.r.0 i ss) c.clear.new.self) (first_chosen c.self.inside.before.items (items_of c.args.s.now.line)));
   before = refl;
   items = refl;
+  uses = refl;
 }
 
 pub items-preserved-then-not-index : goal.items-preserved-then-not-index
@@ -40,6 +41,7 @@ items-preserved-then-not-index c =
           ∙ sym (ap (fold (λ ss i. passed_item c.args.s.now.table c.args.s.now.history c.args.s.now.runs c.args.r.0 i ss) c.clear.new.self) (chosen_same start (items_of c.args.s.now.line) c.items.at within flag));
       before = c.items.invariant.before;
       items = c.items.invariant.items;
+      uses = c.items.invariant.uses;
     }
 
 pub unwrap-item-requires : goal.unwrap-item-requires
@@ -72,6 +74,7 @@ items-preserved c =
           ∙ sym (ap (fold step c.clear.new.self) more ∙ fold-append step c.clear.new.self (chosen (take c.items.at start) (take c.items.at items)) _);
       before = c.items.invariant.before;
       items = c.items.invariant.items;
+      uses = c.items.invariant.uses;
     }
 
 pub plan-requires-clause-homed : goal.plan-requires-clause-homed
@@ -105,7 +108,7 @@ returns-clause-times c =
 
 pub returns-clause-rest : goal.returns-clause-rest
 returns-clause-rest c =
-    (λ i. record { slots = c.plan.new.self; before = (c.items.invariant.before i).items; items = c.items.invariant.items i }) ∙ ap (λ (s : ScratchRoom). record s { slots = c.plan.new.self }) c.self.view_is
+    (λ i. record { slots = c.plan.new.self; before = (c.items.invariant.before i).items; items = c.items.invariant.items i; uses = (c.items.invariant.uses i).items }) ∙ ap (λ (s : ScratchRoom). record s { slots = c.plan.new.self }) c.self.view_is
 
 pub returns-clause-size : goal.returns-clause-size
 returns-clause-size c =

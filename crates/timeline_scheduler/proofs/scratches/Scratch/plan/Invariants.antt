@@ -12,4 +12,5 @@ invariant-items l = record {
       ≡ fold (λ ss i. passed_item l.s.table l.s.history l.s.runs l.r.0 i ss) l.initial.self-inside.slots (chosen (take l.at l.initial.self-inside.before.items) (take l.at (items_of l.s.line)));
   before : l.self-inside.before ≡ l.initial.self-inside.before;
   items : l.self-inside.items ≡ l.initial.self-inside.items;
+  uses : l.self-inside.uses ≡ l.initial.self-inside.uses;
 }

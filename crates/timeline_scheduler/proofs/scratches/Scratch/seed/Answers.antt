@@ -15,6 +15,7 @@ items-preserved c = record {
   room = c.push_reserved.ensures.capacity ∙ c.items.invariant.room;
   slots = c.items.invariant.slots;
   items = c.items.invariant.items;
+  uses = c.items.invariant.uses;
 }
 
 pub returns-clause-flags : goal.returns-clause-flags
@@ -22,7 +23,7 @@ returns-clause-flags c =
     let all = seeds_length c.args.s.now.history c.args.s.now.runs c.args.r.0 c.args.s.now.line in
     let end = (c.len-at-end.ensures.len ∙ ap (λ (p : WindowParts). length p.line) c.s.view_is) in
     let flags = c.items.invariant.flags ∙ take_all c.items.at (seeds c.args.s.now.history c.args.s.now.runs c.args.r.0 c.args.s.now.line) (omega (arith, all, end, c.items-test.false)) in
-    (λ i. record { slots = c.items.invariant.slots i; before = flags i; items = c.items.invariant.items i })
+    (λ i. record { slots = c.items.invariant.slots i; before = flags i; items = c.items.invariant.items i; uses = (c.items.invariant.uses i).items })
     ∙ ap (λ (s : ScratchRoom). record s { before = seeds c.args.s.now.history c.args.s.now.runs c.args.r.0 c.args.s.now.line }) c.self.view_is
 
 pub returns-clause-few : goal.returns-clause-few

@@ -31,6 +31,7 @@ items-preserved-then-index c =
       room = c.items.invariant.room;
       slots = c.items.invariant.slots;
       items = c.items.invariant.items;
+      uses = c.items.invariant.uses;
     }
 
 pub unwrap-item-requires : goal.unwrap-item-requires
@@ -57,6 +58,7 @@ items-preserved-then-not-is_misfit c =
       room = c.items.invariant.room;
       slots = c.is_misfit.ensures.slots ∙ c.items.invariant.slots;
       items = c.items.invariant.items;
+      uses = c.items.invariant.uses;
     }
 
 pub items-preserved : goal.items-preserved
@@ -78,6 +80,7 @@ items-preserved c =
       room = c.items.invariant.room;
       slots = c.is_misfit.ensures.slots ∙ c.items.invariant.slots;
       items = c.items.invariant.items;
+      uses = c.items.invariant.uses;
     }
 
 pub returns-clause-flags : goal.returns-clause-flags
@@ -88,5 +91,5 @@ returns-clause-flags c =
     let size = c.items.invariant.taken.size in
     let end = (c.len-at-end.ensures.len ∙ ap (λ (p : WindowParts). length p.line) c.s.view_is) in
     let all = all_taken test (items_of c.args.s.now.line) c.self.inside.before.items c.items.self-inside.before.items c.items.at c.items.some (omega (arith, own, many)) c.items.invariant.taken (omega (arith, own, size, end, c.items-test.false)) in
-    (λ i. record { slots = c.items.invariant.slots i; before = all i; items = c.items.invariant.items i })
+    (λ i. record { slots = c.items.invariant.slots i; before = all i; items = c.items.invariant.items i; uses = (c.items.invariant.uses i).items })
     ∙ ap (λ (s : ScratchRoom). record s { before = either_of s.before (map (of_run (is_misfit c.args.s.now.table c.args.s.now.runs c.args.r.0 s.slots)) (items_of c.args.s.now.line)) }) c.self.view_is

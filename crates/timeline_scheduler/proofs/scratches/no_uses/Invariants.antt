@@ -1,0 +1,5 @@
+use Rattle.std.proofs.Common.{length, ◌≡◌, ◌≤◌}
+use Rattle.timeline_scheduler.proofs.scratches.no_uses.Given as goal
+
+abbrev pub invariant-devices : goal.invariant-devices
+invariant-devices l = (length l.uses.items ≡ l.counter) × (256 ≤ l.uses.cap)
