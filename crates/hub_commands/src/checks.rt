@@ -15,7 +15,7 @@ use day_clock::{InputFault, Sink, Source, read_to_end, write_all};
 use device_states::Device;
 use home_types::{NoMemory, Text, limits};
 use order_checker::{Place, Verdict, check_record};
-use routine_reader::{Count, ReadFault, Script, read_script};
+use routine_reader::{Count, ReadFault, Script, read_script_once};
 use std::alloc::Global;
 
 /// The refusal of an input with more bytes than a script and its record may have.
@@ -72,7 +72,7 @@ fn judge_input<S: Source>(alloc: Global, source: &mut S) -> Result<(), Fault>
         Err(InputFault::NoMemory) => return Err(Fault::Memory),
     };
     let (text, printed) = divide(&bytes);
-    match read_script(alloc, text) {
+    match read_script_once(alloc, text) {
         Ok(script) => judge_record(alloc, &script, printed),
         Err(ReadFault::NoMemory) => Err(Fault::Memory),
         Err(fault) => Err(Fault::Script(fault)),

@@ -7,7 +7,7 @@ ghost use Rattle.routine_reader.specs.Sound.{IsSound};
 use crate::faults::Fault;
 use day_clock::{InputFault, Source, read_to_end};
 use home_types::limits;
-use routine_reader::{Count, ReadFault, Script, read_script};
+use routine_reader::{Count, ReadFault, Script, read_script_once};
 use std::alloc::Global;
 
 /// The refusal of an input with more bytes than a script may have.
@@ -31,7 +31,7 @@ pub fn read_input<S: Source>(alloc: Global, source: &mut S) -> Result<Script, Fa
         Err(InputFault::Failed) => return Err(Fault::Read),
         Err(InputFault::NoMemory) => return Err(Fault::Memory),
     };
-    match read_script(alloc, &bytes) {
+    match read_script_once(alloc, &bytes) {
         Ok(script) => Ok(script),
         Err(ReadFault::NoMemory) => Err(Fault::Memory),
         Err(fault) => Err(Fault::Script(fault)),

@@ -15,6 +15,6 @@ mod windows;
 
 pub use faults::{Count, Part, ReadFault, Spot};
 pub use homes::{script_kinds, start_world};
-pub use readers::read_script;
+pub use readers::{read_script, read_script_once};
 pub use rosters::roster;
 pub use scripts::{DeviceText, RoutineText, RunText, Script, WindowText};

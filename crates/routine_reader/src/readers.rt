@@ -18,6 +18,7 @@ use crate::windows::read_windows;
 use home_types::limits;
 use serde_json::Value as Json;
 use std::alloc::Global;
+use std::mem;
 
 /// The value of these bytes.
 fn read_value(alloc: Global, bytes: &[u8]) -> Result<Json, ReadFault>
@@ -141,10 +142,41 @@ fn read_top(alloc: Global, value: &Json) -> Result<Script, ReadFault>
 ///   turn `Shape` and `BadTurn`, and at each run `Shape`, `UnknownName` and `BadFollow`.
 ///
 /// `NoMemory` may come at any point.
-#[tactic(auto, unfolding(crate::specs::Readings::script_reading))]
 pub fn read_script(alloc: Global, bytes: &[u8]) -> Result<Script, ReadFault>
     ensures reading { IfOk result (λ script. script_reading bytes.now ≡ Ok (plain_script script)) }
     ensures sound { IfOk result (λ script. IsSound (plain_script script)) }
+    ensures refused { IfErr result
+        (λ fault. is_memory fault ≡ false → script_reading bytes.now ≡ Err fault) }
+{
+    let value = read_bytes(alloc, bytes)?;
+    read_top(alloc, &value)
+}
+
+/// Reads a script as `read_script` does, for a program that ends when it is done with the script.
+///
+/// The value that the bytes make on the way is never let go, so that nothing walks over it once
+/// more: its memory goes back to the system when the program ends. A process that lives on reads by
+/// `read_script`.
+///
+/// # Errors
+///
+/// Those of `read_script`.
+pub fn read_script_once(alloc: Global, bytes: &[u8]) -> Result<Script, ReadFault>
+    ensures reading { IfOk result (λ script. script_reading bytes.now ≡ Ok (plain_script script)) }
+    ensures sound { IfOk result (λ script. IsSound (plain_script script)) }
+    ensures refused { IfErr result
+        (λ fault. is_memory fault ≡ false → script_reading bytes.now ≡ Err fault) }
+{
+    let value = read_bytes(alloc, bytes)?;
+    let read = read_top(alloc, &value);
+    mem::forget(value);
+    read
+}
+
+/// The value of these bytes, where they are not too many.
+#[tactic(auto, unfolding(crate::specs::Readings::script_reading))]
+fn read_bytes(alloc: Global, bytes: &[u8]) -> Result<Json, ReadFault>
+    ensures reading { IfOk result (λ value. script_reading bytes.now ≡ value_reading (view value)) }
     ensures refused { IfErr result
         (λ fault. is_memory fault ≡ false → script_reading bytes.now ≡ Err fault) }
 {
@@ -155,6 +187,5 @@ pub fn read_script(alloc: Global, bytes: &[u8]) -> Result<Script, ReadFault>
             limit: limits::SCRIPT_BYTES,
         });
     }
-    let value = read_value(alloc, bytes)?;
-    read_top(alloc, &value)
+    read_value(alloc, bytes)
 }
