@@ -6,8 +6,8 @@
  * output, no clock and no thread inside. What a step does is proved; README.md beside this file says what of it.
  *
  * Every call but lazbendix_version answers a status. Where it is not LAZBENDIX_DONE, the home is as it was, and so is all that the call would
- * have written; the one exception is the fault of a script that is refused. LAZBENDIX_NO_MEMORY is told only where no other
- * status of the call holds, but by lazbendix_open. A call on a closed handle writes nothing, not to the handle either.
+ * have written; the exceptions are the fault of a script that is refused, and what is good of a log of which a call is. LAZBENDIX_NO_MEMORY is told only where no other
+ * status of the call holds, but by lazbendix_open and lazbendix_reopen. A call on a closed handle writes nothing, not to the handle either.
  *
  * Numbers: devices, routines, windows, commands and entries count from 0, runs from 1. Moments are ms from the beginning
  * of the window, by the caller's clock; one that is earlier than the last counts as the last.
@@ -73,7 +73,8 @@ enum {
     LAZBENDIX_NO_RECORD = 15,  /* no window was closed since the last one was begun or opened */
     LAZBENDIX_BAD_TIME = 16,   /* no time, or one that is not later than that of the window before */
     LAZBENDIX_BAD_FOLLOW = 17, /* the run that is to be followed is none of those before */
-    LAZBENDIX_NO_VALUE = 18    /* the device has no such value */
+    LAZBENDIX_NO_VALUE = 18,   /* the device has no such value */
+    LAZBENDIX_NO_CALL = 19     /* a call of the log is refused */
 };
 
 /* How the runs of a window see each other, and how a run gets its place. The last two schedulers go with the eventual
@@ -195,6 +196,13 @@ typedef struct lazbendix_counts_told { uint64_t devices, routines, windows; } la
    opened in this mode. OPEN, MODE, REFUSED (the fault tells why), NO_MEMORY (of any script, since reading takes memory). */
 int32_t lazbendix_open(lazbendix_hub *h, const uint8_t *script, size_t len, uint32_t model, uint32_t scheduler,
                        lazbendix_fault *fault);
+/* Opens the home of the script as lazbendix_open does, and makes the calls of the log on it, one after the other: it is the
+   home on which they were made, also in the middle of a window. The log has 24 bytes for each call that changed the home, as
+   docs/CALL-LOG.md says, and is read up to the first that is cut off or of no call; good tells how many bytes that are. With
+   NO_CALL a call that is read is refused, and good tells how many bytes stand before it: the log is of another script, model
+   or scheduler, or it lacks calls. OPEN, MODE, REFUSED (the fault tells why), NO_CALL, NO_MEMORY. */
+int32_t lazbendix_reopen(lazbendix_hub *h, const uint8_t *script, size_t len, const uint8_t *log, size_t log_len, uint32_t model,
+                         uint32_t scheduler, lazbendix_fault *fault, uint64_t *good);
 /* Closes the handle and frees all behind it, whatever is open or out. CLOSED. */
 int32_t lazbendix_end(lazbendix_hub *h);
 /* Answers the version of the library, as LAZBENDIX_VERSION has it, and no status. */

@@ -18,7 +18,7 @@
 #define HANDLES 4
 #define MOST_SCRIPT 2048
 #define ROOM 64
-#define STATUSES 19
+#define STATUSES 20
 #define ANSWERED 64
 #define FINAL 16
 

@@ -455,6 +455,65 @@ static void a_device_that_is_out_in_a_later_window(void) {
     IS(DONE, lazbendix_end(&hub));
 }
 
+/* A call as a log has it: kind, sort, device, value, then two words, the low bytes first. */
+static void write_call(uint8_t *at, uint8_t kind, uint8_t sort, uint16_t device, uint32_t value, uint64_t first, uint64_t second) {
+    at[0] = kind;
+    at[1] = sort;
+    for (int i = 0; i < 2; i++)
+        at[2 + i] = (uint8_t)(device >> 8 * i);
+    for (int i = 0; i < 4; i++)
+        at[4 + i] = (uint8_t)(value >> 8 * i);
+    for (int i = 0; i < 8; i++) {
+        at[8 + i] = (uint8_t)(first >> 8 * i);
+        at[16 + i] = (uint8_t)(second >> 8 * i);
+    }
+}
+
+static int32_t reopen(const uint8_t *log, size_t len, uint32_t model, lazbendix_fault *fault, uint64_t *good) {
+    return lazbendix_reopen(&hub, SCRIPT, log, len, model, LAZBENDIX_FCFS, fault, good);
+}
+
+/* The home is opened again in mid-window, with the first device out. */
+static void a_home_that_is_opened_again(void) {
+    enum { CALL = 24, CALLS = 5 };
+    uint8_t log[CALLS * CALL];
+    lazbendix_fault fault, before;
+    lazbendix_turn turn, out;
+    uint64_t good = 77;
+    uint32_t calls = 1;
+    IS(DONE, lazbendix_window(&hub, 0));
+    write_call(log, 3, 0, 0, 0, 0, 0);
+    do {
+        IS(DONE, lazbendix_take(&hub, 1, 9, &turn));
+        WANT(calls < CALLS);
+        write_call(log + CALL * calls++, 4, 0, 0, 1, 0, 9);
+    } while (turn.kind != LAZBENDIX_GO);
+    memset(&fault, 0x55, sizeof fault);
+    before = fault;
+    IS(OPEN, reopen(log, calls * CALL, LAZBENDIX_EVENTUAL, &fault, &good));
+    IS(DONE, lazbendix_end(&hub));
+    IS(MODE, reopen(log, calls * CALL, 4, &fault, &good));
+    WANT(memcmp(&fault, &before, sizeof fault) == 0 && good == 77);
+    IS(REFUSED, lazbendix_reopen(&hub, log, 1, log, calls * CALL, LAZBENDIX_EVENTUAL, LAZBENDIX_FCFS, &fault, &good));
+    WANT(fault.kind == LAZBENDIX_FAULT_NOT_JSON && good == 77);
+    fault = before;
+    IS(DONE, reopen(log, calls * CALL, LAZBENDIX_EVENTUAL, &fault, &good));
+    WANT(good == calls * CALL && memcmp(&fault, &before, sizeof fault) == 0);
+    IS(DONE, lazbendix_out(&hub, turn.device, &out));
+    WANT(memcmp(&out, &turn, sizeof out) == 0);
+    give(&out);
+    IS(DONE, lazbendix_end(&hub));
+    IS(DONE, reopen(log, calls * CALL - 1, LAZBENDIX_EVENTUAL, &fault, &good)); /* torn: the last call does not count */
+    WANT(good == (calls - 1) * CALL);
+    IS(NOT_OUT, lazbendix_out(&hub, turn.device, &out));
+    IS(DONE, lazbendix_end(&hub));
+    write_call(log + CALL, 7, 0, 0, 0, 0, 0); /* the window would be closed with runs that have not ended */
+    good = 77;
+    IS(NO_CALL, reopen(log, calls * CALL, LAZBENDIX_EVENTUAL, &fault, &good));
+    WANT(good == CALL && memcmp(&fault, &before, sizeof fault) == 0);
+    IS(CLOSED, lazbendix_end(&hub));
+}
+
 int main(void) {
     size_t len;
     lazbendix_fault fault;
@@ -488,6 +547,8 @@ int main(void) {
     what_is_asked_of_a_window();
     IS(DONE, lazbendix_open(&hub, SCRIPT, LAZBENDIX_EVENTUAL, LAZBENDIX_FCFS, &fault));
     a_device_that_is_out_in_a_later_window();
+    IS(DONE, lazbendix_open(&hub, SCRIPT, LAZBENDIX_EVENTUAL, LAZBENDIX_FCFS, &fault));
+    a_home_that_is_opened_again();
     WANT(lazbendix_version() == LAZBENDIX_VERSION);
     puts("each export answers each of its statuses");
     return 0;

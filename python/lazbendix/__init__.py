@@ -18,6 +18,7 @@ from typing import TYPE_CHECKING
 
 from lazbendix.told import (
     Answer,
+    CallRefused,
     Cause,
     Counts,
     Dead,
@@ -61,6 +62,7 @@ def __getattr__(name: str) -> object:
 
 __all__ = [
     "Answer",
+    "CallRefused",
     "Cause",
     "Counts",
     "Dead",

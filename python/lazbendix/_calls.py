@@ -72,6 +72,7 @@ ROOM = [POINTER(c_uint8), c_size_t]
 # The arguments behind the handle; the version alone is asked for without one.
 EXPORTS: dict[str, list[Any]] = {
     "open": [*BYTES, c_uint32, c_uint32, POINTER(ToldFault)],
+    "reopen": [*BYTES, *BYTES, c_uint32, c_uint32, POINTER(ToldFault), POINTER(c_uint64)],
     "end": [],
     "window": [c_uint32],
     "take": [c_uint32, c_uint64, POINTER(ToldTurn)],

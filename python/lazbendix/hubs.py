@@ -18,6 +18,7 @@ from lazbendix._calls import (
 )
 from lazbendix.told import (
     Answer,
+    CallRefused,
     Cause,
     Counts,
     Dead,
@@ -71,27 +72,46 @@ class Hub:
     ) -> None:
         """Opens the home: every device up at its start, and no window open. Raises `ScriptRefused`,
         or `Refused` with MODE or NO_MEMORY."""
-        self._handle = Handle(0, None)
-        self._lock = threading.RLock()
-        data, fault = script.encode() if isinstance(script, str) else bytes(script), ToldFault()
+        self._handle, self._lock = Handle(0, None), threading.RLock()
+        data, fault = _bytes(script), ToldFault()
+        status = LIBRARY.lazbendix_open(
+            byref(self._handle), data, len(data), model, scheduler, byref(fault)
+        )
+        _opened(Status(status), "open", fault)
+
+    @classmethod
+    def reopen(
+        cls,
+        script: bytes | str,
+        log: bytes,
+        model: Model = Model.EVENTUAL,
+        scheduler: Scheduler = Scheduler.FCFS,
+    ) -> tuple["Hub", int]:
+        """Opens the home of the script and makes the calls of the log on it (`lazbendix.logged` has
+        their bytes): it is the home on which they were made, also in the middle of a window. The
+        log is read up to the first call that is cut off or is none; answers also how many bytes
+        that are. Raises `CallRefused` where a call that is read is refused, and as an opening does.
+        """
+        hub = cls.__new__(cls)
+        hub._handle, hub._lock = Handle(0, None), threading.RLock()
+        data, fault, good = _bytes(script), ToldFault(), c_uint64()
         status = Status(
-            LIBRARY.lazbendix_open(
-                byref(self._handle), data, len(data), model, scheduler, byref(fault)
+            LIBRARY.lazbendix_reopen(
+                byref(hub._handle),
+                data,
+                len(data),
+                log,
+                len(log),
+                model,
+                scheduler,
+                byref(fault),
+                byref(good),
             )
         )
-        if status is Status.REFUSED:
-            raise ScriptRefused(
-                Fault(
-                    FaultKind(fault.kind),
-                    Part(fault.part),
-                    fault.outer,
-                    fault.inner,
-                    fault.count,
-                    fault.limit,
-                )
-            )
-        if status is not Status.DONE:
-            raise Refused(status, "open")
+        if status is Status.NO_CALL:
+            raise CallRefused(good.value)
+        _opened(status, "reopen", fault)
+        return hub, good.value
 
     def close(self) -> None:
         """Frees the home. One that is closed stays closed, and its other calls raise `Refused` with
@@ -311,6 +331,27 @@ class Hub:
         room, size = (c_uint8 * LONGEST_NAME)(), c_size_t()
         self._call(name, *words, room, LONGEST_NAME, byref(size))
         return bytes(room[: size.value]).decode()
+
+
+def _bytes(script: bytes | str) -> bytes:
+    return script.encode() if isinstance(script, str) else bytes(script)
+
+
+def _opened(status: Status, call: str, fault: ToldFault) -> None:
+    """Raises why no home was opened, where none was."""
+    if status is Status.REFUSED:
+        raise ScriptRefused(
+            Fault(
+                FaultKind(fault.kind),
+                Part(fault.part),
+                fault.outer,
+                fault.inner,
+                fault.count,
+                fault.limit,
+            )
+        )
+    if status is not Status.DONE:
+        raise Refused(status, call)
 
 
 def library_version() -> str:

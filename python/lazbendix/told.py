@@ -26,6 +26,7 @@ class Status(IntEnum):
     BAD_TIME = 16
     BAD_FOLLOW = 17
     NO_VALUE = 18
+    NO_CALL = 19
 
 
 class Model(IntEnum):
@@ -51,6 +52,14 @@ class Refused(Exception):
     def __init__(self, status: Status, call: str) -> None:
         super().__init__(f"{call}: {status.name}")
         self.status, self.call = status, call
+
+
+class CallRefused(Refused):
+    """A home that was not opened again: it refuses the call of the log behind so many bytes."""
+
+    def __init__(self, good: int) -> None:
+        super().__init__(Status.NO_CALL, "reopen")
+        self.good = good
 
 
 class FaultKind(IntEnum):

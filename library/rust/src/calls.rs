@@ -167,6 +167,17 @@ extern "C" {
         scheduler: u32,
         fault: *mut ToldFault,
     ) -> i32;
+    fn lazbendix_reopen(
+        h: *mut Handle,
+        script: *const u8,
+        len: usize,
+        log: *const u8,
+        log_len: usize,
+        model: u32,
+        scheduler: u32,
+        fault: *mut ToldFault,
+        good: *mut u64,
+    ) -> i32;
     fn lazbendix_begin_window(h: *mut Handle, at: *const u8, at_len: usize, probes: u32, number: *mut u32) -> i32;
     fn lazbendix_read(h: *mut Handle, from: usize, room: *mut u8, room_len: usize, got: *mut usize) -> i32;
     fn lazbendix_device_name(h: *mut Handle, device: u32, room: *mut u8, room_len: usize, len: *mut usize) -> i32;
@@ -185,6 +196,18 @@ pub(crate) fn version() -> i32 {
 pub(crate) fn open(h: &mut Handle, script: &[u8], model: u32, scheduler: u32, fault: &mut ToldFault) -> i32 {
     // SAFETY: as this module says.
     unsafe { lazbendix_open(h, script.as_ptr(), script.len(), model, scheduler, fault) }
+}
+
+pub(crate) fn reopen(
+    h: &mut Handle,
+    script: &[u8],
+    log: &[u8],
+    mode: (u32, u32),
+    fault: &mut ToldFault,
+    good: &mut u64,
+) -> i32 {
+    // SAFETY: as this module says.
+    unsafe { lazbendix_reopen(h, script.as_ptr(), script.len(), log.as_ptr(), log.len(), mode.0, mode.1, fault, good) }
 }
 
 pub(crate) fn begin_window(h: &mut Handle, at: &[u8], probes: u32, number: &mut u32) -> i32 {

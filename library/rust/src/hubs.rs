@@ -41,6 +41,21 @@ impl Hub {
         }
     }
 
+    /// Opens the home of the script and makes the calls of the log on it: it is the home on which they were made, also in
+    /// the middle of a window. The log has 24 bytes for each call that changed the home, as the project's page on a log of
+    /// calls says, and is read up to the first that is cut off or of no call; answers also how many bytes that are.
+    ///
+    /// [`Status::Refused`], [`Status::NoCall`], [`Status::NoMemory`].
+    pub fn reopen(script: &[u8], log: &[u8], mode: Mode) -> Result<(Hub, u64), Refused> {
+        let mut hub = Hub { handle: Handle::closed() };
+        let (mut fault, mut good) = (ToldFault::default(), 0);
+        match calls::reopen(&mut hub.handle, script, log, mode.numbers(), &mut fault, &mut good) {
+            3 => Err(Refused(Status::Refused(fault.into()))),
+            19 => Err(Refused(Status::NoCall(good))),
+            status => done(status).map(|()| (hub, good)),
+        }
+    }
+
     // A window.
 
     /// Opens the script's window of this number, from 0.

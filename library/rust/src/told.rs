@@ -38,6 +38,8 @@ pub enum Status {
     BadFollow,
     /// The device has no such value.
     NoValue,
+    /// A call of the log is refused: the one behind so many bytes.
+    NoCall(u64),
     /// A status that this crate does not know: the library is of another version.
     Unknown(i32),
 }

@@ -61,6 +61,47 @@ fn names_and_numbers() {
     assert_eq!((hub.run_count(0), hub.run_count(1)), (Ok(2), Ok(0)));
 }
 
+/// A call as a log has it, of kind, sort, device, value, and two words.
+fn logged(kind: u8, sort: u8, device: u16, value: u32, first: u64, second: u64) -> Vec<u8> {
+    let mut bytes = vec![kind, sort];
+    bytes.extend(device.to_le_bytes());
+    bytes.extend(value.to_le_bytes());
+    bytes.extend(first.to_le_bytes());
+    bytes.extend(second.to_le_bytes());
+    bytes
+}
+
+#[test]
+fn a_home_is_opened_again_in_mid_window() {
+    let mut hub = open();
+    let mut log = logged(3, 0, 0, 0, 0, 0);
+    hub.window(0).unwrap();
+    let go = loop {
+        let turn = hub.take(1, 5).unwrap();
+        log.extend(logged(4, 0, 0, 1, 0, 5));
+        if let Turn::Go(go) = turn {
+            break go;
+        }
+    };
+    let (mut again, good) = Hub::reopen(LEAVING, &log, Mode::default()).unwrap();
+    assert_eq!(good, log.len() as u64);
+    assert_eq!(again.out(go.device).unwrap(), go);
+    let count = hub.entry_count().unwrap();
+    assert_eq!(again.entry_count(), Ok(count));
+    for at in 0..count {
+        assert_eq!(again.entry(at), hub.entry(at));
+    }
+    for home in [&mut hub, &mut again] {
+        home.give(go.device, go.ticket, Answer::Worked, 6).unwrap();
+        play_on(home, 0, OPEN);
+    }
+    assert_eq!(again.record(true).unwrap(), hub.record(true).unwrap());
+    let before = log.len() as u64;
+    log.extend(logged(7, 0, 0, 0, 0, 0));
+    let no_call = Hub::reopen(LEAVING, &log, Mode::default()).map(|_| ());
+    assert_eq!(no_call, refused(Status::NoCall(before)));
+}
+
 #[test]
 fn a_script_is_refused_with_its_fault() {
     let script = br#"{"safehome": 1, "devices": [], "routines": [], "windows": [{"at": "noon", "runs": []}]}"#;
