@@ -10,7 +10,8 @@ use Rattle.device_gate.specs.declared.slips.Task.{Task}
 use Rattle.device_gate.specs.declared.slips.Told.{Told}
 use Rattle.handed_devices.specs.declared.devices.HandedDevice.{HandedDevice}
 use Rattle.history_book.specs.declared.entries.Entry.{Entry}
-use Rattle.home_states.proofs.SameSteps.{outs_by, outs_of, outs_same, set_out, stood_as}
+use Rattle.history_book.specs.Readings.{put}
+use Rattle.home_states.proofs.SameSteps.{later_same, outs_by, outs_of, outs_same, set_out, stood_as}
 use Rattle.home_states.specs.SameHomes.{OutAs, SameWindowOf, out_as, out_in}
 use Rattle.hub_core.proofs.Cited.{gave_back, gave_probe_back, took_probe}
 use Rattle.hub_core.specs.HubCalls.{IsGiven, IsProbeGiven, IsProbed, carried_by}
@@ -26,7 +27,7 @@ use Rattle.std.proofs.Common.{ap, ap₂, arith, inl, inr, refl, subst, sym, ◌�
 use Rattle.std.proofs.lemmas.Grind.{common_steps}
 use Rattle.std.proofs.lemmas.Bool.{eqb-true}
 use Rattle.std.proofs.lemmas.Option.{slice_get_within}
-use Rattle.std.specs.Prelude.{Bool, IsTrue, List, None, Ok, Option, Some, false, if◌then◌else◌, nat_lt, option_map, slice_get, true, unwrap_or, ℕ, ◌&&◌, ◌+◌, ◌==◌, ◌≡◌}
+use Rattle.std.specs.Prelude.{max, Bool, IsTrue, List, None, Ok, Option, Some, false, if◌then◌else◌, nat_lt, option_map, slice_get, true, unwrap_or, ℕ, ◌&&◌, ◌+◌, ◌-◌, ◌==◌, ◌≡◌, ◌≤◌}
 use Rattle.window_devices.specs.KnownDevices.{grip_in, progress_at}
 
 -- The configuration to which the device has come back: of the detector's grip the moment stays
@@ -117,15 +118,38 @@ come_back hub next d ticket told m made back =
     (subst (λ x. IsBackFrom hub next back.done.slip.device.0 x m) back.told_is
     (elim back.back [ inl given ↦ given_back hub next back.done m made given | inr given ↦ probe_back hub next back.done m made given ]))
 
+-- what an answer comes to at a moment, of a configuration whose moment is an earlier one
+
+twice : (a b : ℕ) → max a b ≡ max (max a b) b
+twice a b = omega arith
+
+later_back : (c : Configuration) (d : ℕ) (told : Told) (n from : ℕ) → from ≤ n
+    → at_moment (back_by c d told n) from ≡ at_moment (back_by (at_moment c from) d told n) from
+later_back c d told n from upto = by_grip (c.grips d)
+  where
+    by_maker : (grip : Grip) (b : Bool) → at_moment (after_give (if b then c else at_moment c n) d grip told) from
+        ≡ at_moment (after_give (if b then at_moment c from else at_moment (at_moment c from) n) d grip told) from
+    by_maker grip true = ap (λ (x : ℕ). record (after_give c d grip told) { moment = x }) (twice c.moment from)
+    by_maker grip false = ap (λ (x : ℕ). record (after_give c d grip told) { moment = max x from }) (later_same c.moment from n upto)
+
+    by_grip : (o : Option Grip) → at_moment (back_with c d told n o) from ≡ at_moment (back_with (at_moment c from) d told n o) from
+    by_grip None = ap (λ (x : ℕ). record c { moment = x }) (twice c.moment from)
+    by_grip (Some grip) = by_maker grip (grip.maker == 0)
+
 -- the answers to the calls of one device, at the same moment, in windows that are the same
-pub same_back : (hub other next after : OpenHub HandedDevice) (d n k : ℕ) (told : Told) (m : ℕ) (made more : List Entry) → SameWindowOf hub other
+pub same_back : (from : ℕ) (hub other next after : OpenHub HandedDevice) (d n k : ℕ) (told : Told) (m : ℕ) (made more : List Entry) → SameWindowOf from hub other → from ≤ m
     → HasComeBack hub d n told m made next → HasComeBack other d k told m more after
-    → next.opened ≡ hub.opened → after.opened ≡ other.opened → SameWindowOf next after
-same_back hub other next after d n k told m made more same back back' opened opened' =
+    → next.opened ≡ hub.opened → after.opened ≡ other.opened → SameWindowOf from next after
+same_back from hub other next after d n k told m made more same upto back back' opened opened' =
     let one = come_back hub next d n told m made back in
     let two = come_back other after d k told m more back' in
     record {
-      configuration = one.configuration ∙ ap (λ c. back_by c d told m) same.configuration ∙ sym two.configuration;
+      configuration =
+          ap (λ c. at_moment c from) one.configuration
+          ∙ later_back (configuration_of hub) d told m from upto
+          ∙ ap (λ c. at_moment (back_by c d told m) from) same.configuration
+          ∙ sym (later_back (configuration_of other) d told m from upto)
+          ∙ sym (ap (λ c. at_moment c from) two.configuration);
       opened = opened ∙ same.opened ∙ sym opened';
       tickets = one.tickets ∙ same.tickets ∙ sym two.tickets;
       out = λ e. one.outs e ∙ ap (λ x. if e == d then None else x) (same.out e) ∙ sym (two.outs e);
@@ -191,18 +215,31 @@ probe_sent hub next d grip sent stood =
     by_test true stands = ap (λ x. Some x) (stands refl)
     by_test false stands = refl
 
+later_probe : (c : Configuration) (d from : ℕ) → at_moment (after_take_probe c d) from ≡ after_take_probe (at_moment c from) d
+later_probe c d from = by_test (may_probe c d)
+  where
+    by_test : (b : Bool) → at_moment (if b then record c { probes = put c.probes d (c.probes d - 1); grips = put c.grips d (Some (probe_grip c d)) } else c) from
+        ≡ (if b then record (at_moment c from) { probes = put c.probes d (c.probes d - 1); grips = put c.grips d (Some (probe_grip c d)) } else at_moment c from)
+    by_test true = refl
+    by_test false = refl
+
 -- the probes of one device in windows that are the same
-pub same_probe : (hub other next after : OpenHub HandedDevice) (d : ℕ) (grip twin : Gripped HandedDevice Ready) → SameWindowOf hub other
+pub same_probe : (from : ℕ) (hub other next after : OpenHub HandedDevice) (d : ℕ) (grip twin : Gripped HandedDevice Ready) → SameWindowOf from hub other
     → IsProbed hub d (Some grip) next → StoodInOrder hub grip.slip grip.task
     → IsProbed other d (Some twin) after → StoodInOrder other twin.slip twin.task
-    → next.opened ≡ hub.opened → after.opened ≡ other.opened → SameWindowOf next after
-same_probe hub other next after d grip twin same sent stood sent' stood' opened opened' =
+    → next.opened ≡ hub.opened → after.opened ≡ other.opened → SameWindowOf from next after
+same_probe from hub other next after d grip twin same sent stood sent' stood' opened opened' =
     let one = probe_sent hub next d grip sent stood in
     let two = probe_sent other after d twin sent' stood' in
     let out : Some (probe_out (configuration_of hub) hub.tickets d) ≡ Some (probe_out (configuration_of other) other.tickets d) =
     ap₂ (λ (c : Configuration) (n : ℕ). Some (probe_out c n d)) same.configuration same.tickets in
     record {
-      configuration = one.configuration ∙ ap (λ c. after_take_probe c d) same.configuration ∙ sym two.configuration;
+      configuration =
+          ap (λ c. at_moment c from) one.configuration
+          ∙ later_probe (configuration_of hub) d from
+          ∙ ap (λ c. after_take_probe c d) same.configuration
+          ∙ sym (later_probe (configuration_of other) d from)
+          ∙ sym (ap (λ c. at_moment c from) two.configuration);
       opened = opened ∙ same.opened ∙ sym opened';
       tickets = one.tickets ∙ ap (λ n. n + 1) same.tickets ∙ sym two.tickets;
       out = λ e.

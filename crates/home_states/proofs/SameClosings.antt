@@ -11,7 +11,7 @@ use Rattle.home_types.specs.declared.modes.Mode.{Mode}
 use Rattle.hub_core.specs.HubCalls.{WindowIsClosed}
 use Rattle.hub_core.specs.Homes.{HomeState}
 use Rattle.hub_core.specs.OpenHubs.{OpenHub}
-use Rattle.hub_core.specs.Steps.{opened}
+use Rattle.hub_core.specs.Steps.{at_moment, opened}
 use Rattle.lock_leasing.specs.Configurations.{Configuration}
 use Rattle.routine_reader.specs.Scripts.{plain_script}
 use Rattle.routine_reader.specs.declared.scripts.Script.{Script}
@@ -64,9 +64,9 @@ pub record SameLeft (home other : HomeState HandedDevice) (one two : WindowRecor
   pub ends : SameEnd one two
 
 -- windows that are the same are closed with the same history, order and last state
-pub same_closed : (hub other : OpenHub HandedDevice) (home after : HomeState HandedDevice) (one two : WindowRecord) → SameWindowOf hub other
+pub same_closed : (from : ℕ) (hub other : OpenHub HandedDevice) (home after : HomeState HandedDevice) (one two : WindowRecord) → SameWindowOf from hub other
     → WindowIsClosed handed_shows hub home one → WindowIsClosed handed_shows other after two → SameLeft home after one two
-same_closed hub other home after one two same closed closed' =
+same_closed from hub other home after one two same closed closed' =
     let setting : hub.setting ≡ other.setting = ap (λ (c : Configuration). c.setting) same.configuration in
     let history : one.history.items ≡ two.history.items = closed.history ∙ ap (λ (c : Configuration). c.history) same.configuration ∙ sym closed'.history in
     let ends = same_end hub.setting other.setting one two setting history closed.legal closed'.legal in
@@ -87,15 +87,15 @@ all_in [] d = refl
 all_in (x ∷ devices) zero = refl
 all_in (x ∷ devices) (suc d) = all_in devices d
 
-pub same_opened : (a b : Script) (v w : Mode) (k : ℕ) (home other : HomeState HandedDevice) (hub twin : OpenHub HandedDevice)
-    → plain_script a ≡ plain_script b → v ≡ w → SameBetween home other → IsOpenedOn a v k home hub → IsOpenedOn b w k other twin → SameWindowOf hub twin
-same_opened a b v w k home other hub twin same mode between one two =
+pub same_opened : (from : ℕ) (a b : Script) (v w : Mode) (k : ℕ) (home other : HomeState HandedDevice) (hub twin : OpenHub HandedDevice)
+    → plain_script a ≡ plain_script b → v ≡ w → SameBetween home other → IsOpenedOn a v k home hub → IsOpenedOn b w k other twin → SameWindowOf from hub twin
+same_opened from a b v w k home other hub twin same mode between one two =
     let runs = same_runs a b k same in
     let setting : live_setting_on a v k home ≡ live_setting_on b w k other =
     λ i. record { runs = runs i; mode = mode i; kinds = between.kinds i; first = between.world i } in
     let rounds : one.window.probes ≡ two.window.probes = same_probes a b k one.window two.window same one.at two.at in
     record {
-      configuration = one.opened.configuration ∙ ap₂ (λ (x : Setting) (n : ℕ). opened x n) setting rounds ∙ sym two.opened.configuration;
+      configuration = ap (λ c. at_moment c from) (one.opened.configuration ∙ ap₂ (λ (x : Setting) (n : ℕ). opened x n) setting rounds ∙ sym two.opened.configuration);
       opened = one.opened.windows ∙ between.opened ∙ sym two.opened.windows;
       tickets = one.opened.tickets ∙ sym two.opened.tickets;
       out = λ d.

@@ -8,22 +8,22 @@ use Rattle.device_gate.specs.declared.slips.Slip.{Slip}
 use Rattle.device_gate.specs.declared.slips.Task.{Task}
 use Rattle.handed_devices.specs.declared.devices.HandedDevice.{HandedDevice}
 use Rattle.home_states.specs.SameHomes.{OutAs, SameWindowOf, out_as, out_in}
-use Rattle.home_types.specs.Numbers.{RunId}
+use Rattle.home_types.specs.Numbers.{Moment, RunId}
 use Rattle.hub_core.proofs.Cited.{took_after, took_choice}
 use Rattle.hub_core.specs.HubCalls.{Answers, DeviceGoesOut, IsTurn}
 use Rattle.hub_core.specs.HubSteps.{IsSlipOf, SlipFits, task_of}
 use Rattle.hub_core.specs.OpenHubs.{OpenHub, configuration_of, hub_state_of}
-use Rattle.hub_core.specs.Steps.{Absent as IsAbsent, Choice, HandsOut, Moves, Over as IsOver, Waits, after_take, choice_of}
+use Rattle.hub_core.specs.Steps.{Absent as IsAbsent, Choice, HandsOut, Moves, Over as IsOver, Waits, after_choice, after_take, at_moment, choice_of, decide}
 use Rattle.hub_core.specs.declared.turns.Turn.TheVariants.{Absent, Go, Moved, Over, Wait}
 use Rattle.hub_core.specs.declared.turns.Turn.{Turn}
 use Rattle.hub_table.specs.Tables.{StoodInOrder, TookInOrder, taken_of}
 use Rattle.lock_leasing.specs.Configurations.{Configuration, point_of}
 use Rattle.lock_leasing.specs.Words.{standing_value}
 use Rattle.lock_leasing.specs.declared.purposes.Purpose.{Purpose}
-use Rattle.std.proofs.Common.{ap, ap₂, inl, inr, refl, subst, sym, ◌∙◌}
+use Rattle.std.proofs.Common.{ap, ap₂, arith, inl, inr, refl, subst, sym, ◌∙◌}
 use Rattle.std.proofs.lemmas.Bool.{eq-eqb, eqb-true}
 use Rattle.std.proofs.lemmas.Option.{slice_get_within}
-use Rattle.std.specs.Prelude.{Bool, IsTrue, List, None, Option, Some, false, if◌then◌else◌, length, slice_get, slice_set, true, ℕ, ◌+◌, ◌<◌, ◌==◌, ◌≡◌}
+use Rattle.std.specs.Prelude.{Bool, IsTrue, List, None, Option, Some, false, if◌then◌else◌, length, max, slice_get, slice_set, true, ℕ, ◌+◌, ◌<◌, ◌==◌, ◌≡◌, ◌≤◌}
 use Rattle.window_devices.proofs.Cited.{get_set}
 
 -- Of a step that hands out a device, what goes out is a function of the configuration, of how many
@@ -135,18 +135,39 @@ pub outs_same : (f g : ℕ → Option OutAs) (out : Option OutAs) → ((d : ℕ)
 outs_same f g None same d = same d
 outs_same f g (Some out) same d = ap (λ x. if d == out.device then Some out else x) (same d)
 
+-- what a step comes to at a moment, of a configuration whose moment is an earlier one: that of the
+-- step counts
+
+pub later_same : (a b n : ℕ) → b ≤ n → max a n ≡ max (max a b) n
+later_same a b n upto = omega (arith, upto)
+
+abbrev taken_at : Configuration → RunId → Moment → Configuration
+taken_at c r x = after_choice (record c { moment = x }) r (decide (point_of c) r x)
+
+later_take : (c : Configuration) (r n from : ℕ) → from ≤ n → after_take c r n ≡ after_take (at_moment c from) r n
+later_take c r n from upto = ap (λ x. taken_at c r x) (later_same c.moment from n upto)
+
+later_out : (c : Configuration) (r tickets n from : ℕ) → from ≤ n
+    → out_by c r tickets (choice_of c r n) ≡ out_by (at_moment c from) r tickets (choice_of (at_moment c from) r n)
+later_out c r tickets n from upto = ap (λ x. out_by c r tickets (decide (point_of c) r x)) (later_same c.moment from n upto)
+
 -- the steps of the run at the same moment, in windows that are the same
-pub same_turn : (hub other next after : OpenHub HandedDevice) (r m : ℕ) (turn twin : Turn HandedDevice) → SameWindowOf hub other
+pub same_turn : (from : ℕ) (hub other next after : OpenHub HandedDevice) (r m : ℕ) (turn twin : Turn HandedDevice) → SameWindowOf from hub other → from ≤ m
     → IsTurn hub r m turn next → TookInOrder hub (taken_of turn)
     → IsTurn other r m twin after → TookInOrder other (taken_of twin)
-    → next.opened ≡ hub.opened → after.opened ≡ other.opened → SameWindowOf next after
-same_turn hub other next after r m turn twin same step stood step' stood' opened opened' =
+    → next.opened ≡ hub.opened → after.opened ≡ other.opened → SameWindowOf from next after
+same_turn from hub other next after r m turn twin same upto step stood step' stood' opened opened' =
     let one = turn_made hub next r m turn step stood in
     let two = turn_made other after r m twin step' stood' in
     let out : out_by (configuration_of hub) r hub.tickets (choice_of (configuration_of hub) r m) ≡ out_by (configuration_of other) r other.tickets (choice_of (configuration_of other) r m) =
-    ap₂ (λ (c : Configuration) (n : ℕ). out_by c r n (choice_of c r m)) same.configuration same.tickets in
+    later_out (configuration_of hub) r hub.tickets m from upto
+    ∙ ap₂ (λ (c : Configuration) (n : ℕ). out_by c r n (choice_of c r m)) same.configuration same.tickets
+    ∙ sym (later_out (configuration_of other) r other.tickets m from upto) in
+    let after_both : configuration_of next ≡ configuration_of after =
+    one.configuration ∙ later_take (configuration_of hub) r m from upto ∙ ap (λ c. after_take c r m) same.configuration
+    ∙ sym (later_take (configuration_of other) r m from upto) ∙ sym two.configuration in
     record {
-      configuration = one.configuration ∙ ap (λ c. after_take c r m) same.configuration ∙ sym two.configuration;
+      configuration = ap (λ c. at_moment c from) after_both;
       opened = opened ∙ same.opened ∙ sym opened';
       tickets = one.tickets ∙ ap₂ (λ (n : ℕ) (o : Option OutAs). tickets_by n o) same.tickets out ∙ sym two.tickets;
       out = λ d.

@@ -18,13 +18,14 @@ use Rattle.home_types.specs.declared.modes.Mode.{Mode}
 use Rattle.hub_core.specs.OpenHubs.{OpenHub, configuration_of}
 use Rattle.hub_core.specs.Steps.{may_probe, not_quiet}
 use Rattle.hub_table.specs.Tables.{SlipAndTask, StoodInOrder, TookInOrder}
+use Rattle.hub_table.specs.declared.told.Taken.TheVariants.{Absent, Moved, Out, Over, Waits}
 use Rattle.hub_table.specs.declared.told.Taken.{Taken}
 use Rattle.live_scripts.specs.Growth.{HasBegun}
 use Rattle.live_scripts.specs.Reasons.{IsRefusedFor}
 use Rattle.logged_calls.specs.declared.calls.Logged.TheVariants.{Added, Began, Closed, Gave, Lost, Opened, Probed, Restood, Took}
 use Rattle.logged_calls.specs.declared.calls.Logged.{Logged}
 use Rattle.routine_reader.specs.declared.scripts.Script.{Script}
-use Rattle.std.specs.Prelude.{Bool, IfSome, List, None, Option, Some, [], is_none, is_some, not, slice_get, take, true, ℕ, ◌∷◌, ◌≡◌}
+use Rattle.std.specs.Prelude.{Bool, IfSome, List, None, Option, Some, [], is_none, is_some, not, slice_get, take, true, ℕ, ⊤, ◌∷◌, ◌≡◌, ◌≤◌}
 
 -- a window without runs is the last one of the script, at this time
 pub record HasBegunAt (s : LiveState) (at : When) (probes k : ℕ) (t : LiveState) : Type 0 where
@@ -146,3 +147,34 @@ pub record IsRefusedAt (script : List ℕ) (mode : Mode) (calls : List Logged)
   pub begins : BeginsAs script mode first
   pub live : IsLive first
   pub refused : AreRefusedAt first calls at
+
+-- Steps that wait
+
+-- the step did nothing: the run waits, or is none of the window
+abbrev pub DidNothing : Taken → Type 0
+DidNothing (Out slip task) = ⊥
+DidNothing (Moved made) = ⊥
+DidNothing (Waits why) = ⊤
+DidNothing (Over end made) = ⊥
+DidNothing Absent = ⊤
+
+pub record HasWaited (s : LiveState) (r m : ℕ) (t : LiveState) : Type 0 where
+  pub taken : Taken
+  pub made : HasTaken s r m taken t
+  pub nothing : DidNothing taken
+
+-- the call is made at no moment before this one
+abbrev pub IsFrom : ℕ → Logged → Type 0
+IsFrom from (Began at rounds) = ⊤
+IsFrom from (Added routine follows) = ⊤
+IsFrom from (Opened number) = ⊤
+IsFrom from (Took run moment) = from ≤ moment
+IsFrom from (Gave device ticket told moment) = from ≤ moment
+IsFrom from (Probed device) = ⊤
+IsFrom from Closed = ⊤
+IsFrom from (Restood device value) = ⊤
+IsFrom from (Lost device) = ⊤
+
+abbrev pub AreFrom : ℕ → List Logged → Type 0
+AreFrom from [] = ⊤
+AreFrom from (call ∷ calls) = IsFrom from call × AreFrom from calls

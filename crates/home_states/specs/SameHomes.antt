@@ -13,6 +13,7 @@ use Rattle.home_types.specs.declared.items.Item.{Item}
 use Rattle.home_types.specs.declared.worlds.Stand.{Stand}
 use Rattle.hub_core.specs.Homes.{HomeState}
 use Rattle.hub_core.specs.OpenHubs.{OpenHub, configuration_of}
+use Rattle.hub_core.specs.Steps.{at_moment}
 use Rattle.hub_table.specs.Tables.{SlipAndTask}
 use Rattle.routine_reader.specs.Scripts.{plain_script}
 use Rattle.std.specs.Prelude.{List, None, Option, Some, if◌then◌else◌, option_map, slice_get, ℕ, ◌≡◌}
@@ -39,10 +40,11 @@ out_as out = record {
 abbrev pub out_in : Option (Place HandedDevice) → Option OutAs
 out_in place = option_map out_as (kept_of place)
 
--- the windows are in the same configuration, with the same numbers of windows before and of calls,
--- and each device is out of both with the same, or of neither
-pub record SameWindowOf (hub other : OpenHub HandedDevice) : Type 0 where
-  pub configuration : configuration_of hub ≡ configuration_of other
+-- from this moment on the windows are in the same configuration, with the same numbers of windows
+-- before and of calls, and each device is out of both with the same, or of neither
+pub record SameWindowOf (from : ℕ) (hub other : OpenHub HandedDevice) : Type 0 where
+  pub configuration : at_moment (configuration_of hub) from
+      ≡ at_moment (configuration_of other) from
   pub opened : hub.opened ≡ other.opened
   pub tickets : hub.tickets ≡ other.tickets
   pub out : (d : ℕ) → out_in (slice_get hub.places d) ≡ out_in (slice_get other.places d)
@@ -54,14 +56,14 @@ pub record SameBetween (home other : HomeState HandedDevice) : Type 0 where
   pub opened : home.opened ≡ other.opened
 
 -- both are between two windows, or in the window of one number
-abbrev pub SamePhase : Phase → Phase → Type 0
-SamePhase (Between home) (Between other) = SameBetween home other
-SamePhase (Between home) (InWindow n other) = ⊥
-SamePhase (Between home) Moving = ⊥
-SamePhase (InWindow k hub) (Between other) = ⊥
-SamePhase (InWindow k hub) (InWindow n other) = (k ≡ n) × SameWindowOf hub other
-SamePhase (InWindow k hub) Moving = ⊥
-SamePhase Moving other = ⊥
+abbrev pub SamePhase : ℕ → Phase → Phase → Type 0
+SamePhase from (Between home) (Between other) = SameBetween home other
+SamePhase from (Between home) (InWindow n other) = ⊥
+SamePhase from (Between home) Moving = ⊥
+SamePhase from (InWindow k hub) (Between other) = ⊥
+SamePhase from (InWindow k hub) (InWindow n other) = (k ≡ n) × SameWindowOf from hub other
+SamePhase from (InWindow k hub) Moving = ⊥
+SamePhase from Moving other = ⊥
 
 -- what is told of a window that was closed
 pub record ClosedAs : Type 0 where
@@ -78,13 +80,17 @@ closed_as window = record {
   last = window.closed.last.devices.items;
 }
 
--- the homes are the same for all who call them: script, mode and draft; between two windows how all
--- devices stand; in a window its configuration, the numbers of its calls, and with what each device
--- is out; and the window that was closed last
-pub record SameHome (s t : LiveState) : Type 0 where
+-- the homes are the same for all who call them from this moment on: script, mode and draft; between
+-- two windows how all devices stand; in a window its configuration, the numbers of its calls, and
+-- with what each device is out; and the window that was closed last
+pub record SameFrom (from : ℕ) (s t : LiveState) : Type 0 where
   pub script : plain_script s.script ≡ plain_script t.script
   pub mode : s.mode ≡ t.mode
-  pub phase : SamePhase s.phase t.phase
+  pub phase : SamePhase from s.phase t.phase
   pub tickets : s.tickets_before ≡ t.tickets_before
   pub draft : s.is_draft ≡ t.is_draft
   pub closed : option_map closed_as s.closed ≡ option_map closed_as t.closed
+
+-- .. from whatever moment on
+abbrev pub SameHome : LiveState → LiveState → Type 0
+SameHome s t = SameFrom 0 s t

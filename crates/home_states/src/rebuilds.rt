@@ -1,8 +1,8 @@
 //! A home that is made again from its script and the calls that were made on it.
 ghost use Rattle.std.specs.Prelude.{◌≡◌, ◌≢◌, ◌*◌, ◌≤◌, Err, IfOk, IsTrue, List, false, length, true, ℕ};
 ghost use Rattle.home_states.specs.LiveHomes.{BeginsAs, IsLive, LiveState};
-ghost use Rattle.home_states.specs.Rebuilt.{AreRefusedAt, IsRebuilt, IsRefusedAt, WasMade, WereMade, draft_not_made, is_refused, opening_not_made};
-ghost use Rattle.home_states.specs.SameHomes.{SameHome};
+ghost use Rattle.home_states.specs.Rebuilt.{AreFrom, AreRefusedAt, HasWaited, IsRebuilt, IsRefusedAt, WasMade, WereMade, draft_not_made, is_refused, opening_not_made};
+ghost use Rattle.home_states.specs.SameHomes.{SameFrom, SameHome};
 ghost use Rattle.home_types.specs.declared.modes.Mode.{Mode};
 ghost use Rattle.hub_core.specs.Openings.{is_mode};
 ghost use Rattle.logged_calls.specs.CallBytes.{call_size, calls_from};
@@ -154,11 +154,19 @@ fn opening_not_made(why: NotOpened) -> NotMade
 }
 
 /// Homes on which the same calls were made are, for all who call them, the same: two that are made
-/// again of one script and the same calls, and two that were the same before.
+/// again of one script and the same calls (`rebuilt`), and two that were the same before (`goes_on`),
+/// as is each home as itself.
+///
+/// A step that waits may be left out (`waits`): from its moment on the home is the same as one that
+/// has not made it, so the same calls, at no earlier moments, leave both the same. With the first
+/// moment no call is earlier (`always`).
 pub fn one_home()
     ensures rebuilt { (script : List ℕ) (mode : Mode) (calls : List Logged) (s t : LiveState)
         → IsRebuilt script mode calls s → IsRebuilt script mode calls t → SameHome s t }
-    ensures goes_on { (calls : List Logged) (s t u v : LiveState) → SameHome s t
-        → WereMade s calls u → WereMade t calls v → SameHome u v }
+    ensures goes_on { (from : ℕ) (calls : List Logged) (s t u v : LiveState) → SameFrom from s t
+        → AreFrom from calls → WereMade s calls u → WereMade t calls v → SameFrom from u v }
+    ensures always { (calls : List Logged) → AreFrom 0 calls }
+    ensures waits { (from : ℕ) (s t u : LiveState) (r m : ℕ) → SameFrom from s t → from ≤ m
+        → HasWaited s r m u → SameFrom m u t }
     ensures itself { (s : LiveState) → IsLive s → SameHome s s }
 {}
