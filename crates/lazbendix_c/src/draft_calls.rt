@@ -73,7 +73,7 @@ fn begin_window(
 /// Appends a run of the routine, counted from 0, to the window that was begun, or to the one that is
 /// open, where it is the script's last one, and tells its number there, from 1. It waits for the end
 /// of the run that it follows, 0 for none. A run that joins an open window has not arrived, and
-/// nothing else of the window changes; who sleeps by `lazbendix_is_blocked` asks again.
+/// nothing else of the window changes; who sleeps by `lazbendix_blocked` asks again.
 ///
 /// Where the answer is not `DONE` nothing has changed.
 #[unsafe(no_mangle)]

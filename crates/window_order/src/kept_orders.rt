@@ -23,7 +23,9 @@ use abort_rollback::{Undo, withdraw};
 use command_rules::Roster;
 use commit_compaction::commit;
 use history_book::PlannedUse;
-use home_types::{Answer, DeviceNo, DeviceSet, Item, NoMemory, RunNo, Scheduler, Value, View, World};
+use home_types::{
+    Answer, DeviceNo, DeviceSet, Item, NoMemory, RunNo, Scheduler, Value, View, World,
+};
 use lineage_table::{Access, Status, Table};
 use lock_leasing::Purpose;
 use serial_line::Line;
