@@ -45,6 +45,7 @@ COMMANDS = (
 )
 LIGHT = example("one-light.json")
 RECORD = example_bytes("one-light.record")
+ABSOLUTE = environment(PYTHONPATH=os.path.realpath(PYTHON))
 
 
 class Words(unittest.TestCase):
@@ -216,6 +217,19 @@ class Played(unittest.TestCase):
             call = called(*words, "/no/such/file")
             self.assertEqual((call.returncode, errors(call).split("\n")[0]), (3, "read"))
             self.assertIn("/no/such/file", errors(call))
+
+    def test_an_example_of_the_package(self) -> None:
+        """Who is not at the top of the repository reads where the package has the day."""
+        with tempfile.TemporaryDirectory() as pages:
+            day = os.path.join(pages, "pages", "examples", "mine.json")
+            os.makedirs(os.path.dirname(day))
+            shutil.copy(LIGHT, day)
+            code = "import sys; from lazbendix import command as it; it.PAGES = 'pages'; "
+            for name, told in (("mine", " (the package has pages/examples/mine.json)"), ("x", "")):
+                words = [sys.executable, "-c", f"{code}it.main(['replay', 'examples/{name}.json'])"]
+                call = subprocess.run(words, cwd=pages, env=ABSOLUTE, capture_output=True)
+                wanted = f"examples/{name}.json: No such file or directory{told}\n"
+                self.assertTrue(call.stderr.decode().endswith(wanted), call.stderr)
 
     def test_rooms_that_cross(self) -> None:
         call = called("rooms", example("leaving.json"))

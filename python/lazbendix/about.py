@@ -55,28 +55,13 @@ def findings() -> list[tuple[str, bool | None, str]]:
     except NoProgram as why:
         told.append(("proved program", False, str(why)))
     browser = next((found for name in CHROMIUMS if (found := shutil.which(name))), None)
-    told.append(
-        (
-            "library",
-            None,
-            library_place() or "none: only makers of hubs want it (library/README.md)",
-        )
-    )
-    told.append(
-        (
-            "PyYAML",
-            None,
-            "for --yaml" if importlib.util.find_spec("yaml") else "none: --yaml wants it",
-        )
-    )
-    told.append(
-        (
-            "browser",
-            None,
-            browser or "none was found: any browser of today shows the page of `view`",
-        )
-    )
-    return told
+    yaml = "for --yaml" if importlib.util.find_spec("yaml") else None
+    wanted = [
+        ("library", library_place(), "none: only makers of hubs want it (library/README.md)"),
+        ("PyYAML", yaml, "none: --yaml wants it"),
+        ("browser", browser, "none was found: any browser of today shows the page of `view`"),
+    ]
+    return told + [(name, True if found else None, found or why) for name, found, why in wanted]
 
 
 def plays_as_the_reference() -> list[tuple[str, bool | None, str]]:

@@ -49,6 +49,7 @@ HELPS = {
 }
 
 
+PAGES = os.path.join(sys.prefix, "share", "doc", "lazbendix")  # of the Debian package
 MOST_SEEDS = 12  # that stand beside each other
 
 
@@ -398,6 +399,13 @@ def asked_of(argv: list[str]) -> argparse.Namespace:
     return asked
 
 
+def packaged(why: OSError) -> str:
+    """Where the package has the file that was looked for here, in words, if it has one."""
+    there = os.path.join(PAGES, str(why.filename))
+    is_there = isinstance(why, FileNotFoundError) and os.path.isfile(there)
+    return f" (the package has {there})" if is_there else ""
+
+
 def acted(argv: list[str]) -> int:
     """Does what the words ask for; the status."""
     try:
@@ -415,10 +423,8 @@ def acted(argv: list[str]) -> int:
     except OSError as why:
         if isinstance(why, BrokenPipeError):
             raise
-        complain(
-            "read",
-            f"lazbendix: {why.filename}: {why.strerror}" if why.filename else f"lazbendix: {why}",
-        )
+        told = f"{why.filename}: {why.strerror}{packaged(why)}" if why.filename else str(why)
+        complain("read", f"lazbendix: {told}")
         return 3
 
 
