@@ -402,7 +402,10 @@ def make_all(release: Release, parts: dict[str, str]) -> list[str]:
         machine = MACHINES[name]
         made += [make_archive(release, machine, at), make_deb(release, machine, at)]
         made += [make_wheel(release, machine, at)]
-    made.append(make_crate(release, parts))
+    if shutil.which("cargo") is None and len(parts) < len(MACHINES):
+        print("release: cargo is not there: there is no crate")
+    else:
+        made.append(make_crate(release, parts))
     for name, text in release.papers.items():
         put(text, f"{release.folder}/{name}")
         made.append(f"{release.folder}/{name}")

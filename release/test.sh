@@ -47,7 +47,7 @@ tries() {
 }
 has() { command -v "$1" >/dev/null || { say "$1 is not there" && return 1; }; }
 wanted=''
-[ -n "$built" ] || for pair in qemu-aarch64-static:qemu-user-static aarch64-linux-gnu-gcc:gcc-aarch64-linux-gnu gcc:gcc \
+[ -n "$built" ] || for pair in qemu-aarch64-static:qemu-user-static aarch64-linux-gnu-gcc:gcc-aarch64-linux-gnu cc:gcc \
     debootstrap:debootstrap cmake:cmake pkg-config:pkg-config musl-gcc:musl-tools unshare:util-linux; do
     command -v "${pair%%:*}" >/dev/null || wanted="$wanted ${pair#*:}"
 done
@@ -98,9 +98,15 @@ plays() {
 # unpacked FOLDER: the command of the Debian package that is unpacked there, and of the wheel, play README's day
 unpacked() {
     plays "the program of the Debian package" "$1/deb/usr/libexec/lazbendix/hub_main"
-    say "x86_64: the wheel"
-    tries "pip" python3 -m pip install --no-index --no-deps --target "$1/wheel" "$(one 'lazbendix-*manylinux*.whl')"
-    for python in "$1/deb/usr/lib/python3/dist-packages" "$1/wheel"; do
+    pythons=$1/deb/usr/lib/python3/dist-packages
+    if python3 -m pip --version >/dev/null 2>&1; then
+        say "x86_64: the wheel"
+        tries "pip" python3 -m pip install --no-index --no-deps --target "$1/wheel" "$(one 'lazbendix-*manylinux*.whl')"
+        pythons="$pythons $1/wheel"
+    else
+        say "pip is not there"
+    fi
+    for python in $pythons; do
         for day in one-light leaving; do
             (cd "$1" && PYTHONPATH=$python python3 -m lazbendix replay --trace "$top/examples/$day.json") >"$room/wrote" ||
                 fail "the command of $python ended with $?"
@@ -124,7 +130,7 @@ tries "what is refused of logs and certificates" env PYTHONPATH="$top" python3 -
 
 for machine in $machines; do
     case $machine in
-    x86_64) debian=amd64 runner=natively cc=gcc qemu='' ;;
+    x86_64) debian=amd64 runner=natively cc=cc qemu='' ;;
     *) debian=arm64 runner=foreign cc=aarch64-linux-gnu-gcc qemu=qemu-aarch64-static ;;
     esac
     own=$room/$machine
