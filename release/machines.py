@@ -321,7 +321,7 @@ class Parts:
             "--gc-sections",
             "--hash-style=gnu",
             "--build-id=sha1",
-            "--strip-debug",
+            "--strip-all",
             *HARDENED,
         ]
         whole = ["--whole-archive", f"{at}/liblazbendix.a", "--no-whole-archive"]

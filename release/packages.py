@@ -4,6 +4,8 @@ Each is the same bytes whenever it is made of the same parts and commit.
 """
 import base64
 import csv
+import datetime
+import email.utils
 import gzip
 import hashlib
 import io
@@ -18,6 +20,7 @@ from dataclasses import dataclass, field
 from release.machines import HERE, MACHINES, PROGRAM, ROOT, Machine, NotMade, run
 
 SHORT = "Plays days of a smart home through a proved hub, and shows what came of them"
+MAINTAINER = "Lazbendix <lazbendix@localhost>"  # the owner's to set
 WHEELS = "manylinux_2_17_{0}.manylinux2014_{0}.musllinux_1_1_{0}"
 SHARES = {  # where a shell looks for completions
     "bash": "bash-completion/completions/lazbendix",
@@ -209,10 +212,29 @@ if [ "$1" = configure ] && command -v py3compile >/dev/null; then
     py3compile -p lazbendix || true
 fi
 """
+# (what is as it is meant to be, to lintian)
+OVERRIDES = """# the very program that the gate proved, built and ran
+lazbendix: unstripped-binary-or-object [usr/libexec/lazbendix/hub_main]
+# one package has the command, the library and what compilers read
+lazbendix: package-name-doesnt-match-sonames *
+lazbendix: link-to-shared-library-in-wrong-package *
+"""
 PRERM = """#!/bin/sh
 set -e
 if command -v py3clean >/dev/null; then py3clean -p lazbendix || true; fi
 """
+
+
+def changes_of(release: Release, version: str) -> bytes:
+    """The changelog that Debian's tools read, packed."""
+    moment = datetime.datetime.fromtimestamp(release.moment, datetime.UTC)
+    text = f"""lazbendix ({version}) unstable; urgency=medium
+
+  * What is new stands in CHANGELOG.md beside this file.
+
+ -- {MAINTAINER}  {email.utils.format_datetime(moment)}
+"""
+    return gzip.compress(text.encode(), 9, mtime=0)
 
 
 def make_deb(release: Release, machine: Machine, parts: str) -> str:
@@ -239,6 +261,9 @@ def make_deb(release: Release, machine: Machine, parts: str) -> str:
     doc = f"{to}/usr/share/doc/lazbendix"
     put_papers(release, doc)
     put(copyright_of(release), f"{doc}/copyright")
+    with open(f"{doc}/changelog.gz", "wb") as file:
+        file.write(changes_of(release, version))
+    put(OVERRIDES, f"{to}/usr/share/lintian/overrides/lazbendix")
     for path in release.files:
         if path in ("README.md", "CHANGELOG.md") or path.startswith(("docs/", "examples/")):
             put_file(f"{ROOT}/{path}", f"{doc}/{path}")
@@ -252,7 +277,7 @@ def make_deb(release: Release, machine: Machine, parts: str) -> str:
     control = f"""Package: lazbendix
 Version: {version}
 Architecture: {machine.debian}
-Maintainer: Lazbendix <lazbendix@localhost>
+Maintainer: {MAINTAINER}
 Installed-Size: {(size + 1023) // 1024}
 Depends: libc6 (>= 2.34), python3 (>= 3.10)
 Suggests: python3-yaml
@@ -268,6 +293,11 @@ Description: smart-home hub core, proved, and a player of days
     put(POSTINST, f"{to}/DEBIAN/postinst", 0o755)
     put(PRERM, f"{to}/DEBIAN/prerm", 0o755)
     put("activate-noawait ldconfig\n", f"{to}/DEBIAN/triggers")
+    major, minor = release.version.split(".")[:2]
+    put(
+        f"liblazbendix {major} lazbendix (>= {major}.{minor})\n",
+        f"{to}/DEBIAN/shlibs",
+    )
     for at, folders, _ in os.walk(to):
         for it in [at, *(f"{at}/{name}" for name in folders)]:
             if not os.path.islink(it):

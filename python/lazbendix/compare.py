@@ -244,8 +244,9 @@ def against(column: Column, base: Column) -> str:
         if round(share)
         else "its day is as long"
     )
+    which = "more" if more > 0 else "fewer"
     runs = (
-        f"{abs(more)} {'more' if more > 0 else 'fewer'} runs are aborted"
+        f"{abs(more)} {which} {'run is' if abs(more) == 1 else 'runs are'} aborted"
         if more
         else "as many runs are aborted"
     )
