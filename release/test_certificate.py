@@ -74,6 +74,12 @@ class Logs(unittest.TestCase):
             "0 verdicts of one",
         )
 
+    def test_a_function_that_is_not_proved_is_refused(self) -> None:
+        self.refused(
+            log_of(["one", "two"]).replace("fn two::call: proved", "fn two::call: not proved"),
+            "says of two: fn two::call: not proved",
+        )
+
     def test_another_logic_is_refused(self) -> None:
         self.refused(
             log_of(["one", "two"], VERDICT.replace("dac8", "0000")), "logic 0000208d650f15bf"
