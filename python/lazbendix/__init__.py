@@ -14,6 +14,7 @@ input, no output, no clock and no thread inside.
         hub.close_window()
         print(hub.record())
 """
+import importlib
 from typing import TYPE_CHECKING
 
 from lazbendix.told import (
@@ -48,24 +49,33 @@ from lazbendix.told import (
 )
 
 if TYPE_CHECKING:
+    from lazbendix.call_log import CallLog, LogFault, LogRefused
     from lazbendix.hubs import Hub, library_version
+    from lazbendix.logged_hubs import Closed, Ended, LetOut, LoggedHub, Report, Triggered
+
+# What wants the library's shared object, or a system's locks: it is loaded where it is asked for.
+LATER = dict.fromkeys(("Hub", "library_version"), "hubs")
+LATER |= dict.fromkeys(("CallLog", "LogFault", "LogRefused"), "call_log")
+LATER |= dict.fromkeys(
+    ("Closed", "Ended", "LetOut", "LoggedHub", "Report", "Triggered"), "logged_hubs"
+)
 
 
 def __getattr__(name: str) -> object:
-    """These two alone want the library's shared object, which is loaded where it is asked for."""
-    if name in ("Hub", "library_version"):
-        from lazbendix import hubs
-
-        return getattr(hubs, name)
+    if name in LATER:
+        return getattr(importlib.import_module(f"lazbendix.{LATER[name]}"), name)
     raise AttributeError(f"module 'lazbendix' has no attribute {name!r}")
 
 
 __all__ = [
     "Answer",
+    "CallLog",
     "CallRefused",
     "Cause",
+    "Closed",
     "Counts",
     "Dead",
+    "Ended",
     "Entry",
     "EntryKind",
     "Fault",
@@ -76,16 +86,22 @@ __all__ = [
     "Item",
     "ItemKind",
     "Left",
+    "LetOut",
+    "LogFault",
+    "LogRefused",
+    "LoggedHub",
     "Model",
     "Moved",
     "NoRun",
     "Over",
     "Refused",
+    "Report",
     "Scheduler",
     "ScriptRefused",
     "Stand",
     "Status",
     "Task",
+    "Triggered",
     "Turn",
     "Waits",
     "Why",

@@ -1,0 +1,117 @@
+"""The calls of a log as values and as bytes, laid out as docs/CALL-LOG.md says.
+
+Kinds from 128 on are a file's own. They are no calls of the home, and stand in records of the same
+size.
+"""
+import struct
+from enum import IntEnum
+from typing import Iterable, NamedTuple
+
+from lazbendix.told import Answer, Dead, Entry, Found, Go, Moved, NoRun, Over, Turn, Waits, Worked
+
+LAYOUT = struct.Struct("<BBHIQQ")
+ENTRY = struct.Struct("<12Q")
+OWN = 128
+WORKED, FOUND, DEAD = 1, 2, 3
+
+
+class CallKind(IntEnum):
+    """What a record says."""
+
+    BEGIN_WINDOW = 1
+    ADD_RUN = 2
+    WINDOW = 3
+    TAKE = 4
+    GIVE = 5
+    PROBE = 6
+    CLOSE_WINDOW = 7
+    RESTAND = 8
+    LOSE = 9
+    STARTED = OWN  # a process opened the log
+    TRIGGERED = OWN + 1  # the trigger `first` asks for the routine `value`
+    RUN_OF = OWN + 2  # the run that is added next is that of the trigger `first`
+    SYNCED = OWN + 3  # the first `first` records were synced when this one was written
+    REPORTED = OWN + 4  # the first `first` reports were handed out, and what became of them is over
+    ANEW = OWN + 5  # the log goes on from: tickets so far, last time, `value` triggers
+
+
+class LoggedCall(NamedTuple):
+    """The six numbers of a record."""
+
+    kind: int
+    sort: int = 0
+    device: int = 0
+    value: int = 0
+    first: int = 0
+    second: int = 0
+
+    def to_bytes(self) -> bytes:
+        return LAYOUT.pack(*self)
+
+
+def began(at: str, probes: int) -> LoggedCall:
+    return LoggedCall(CallKind.BEGIN_WINDOW, value=probes, first=time_number(at))
+
+
+def added(routine: int, follows: int) -> LoggedCall:
+    return LoggedCall(CallKind.ADD_RUN, 1 if follows else 0, value=routine, first=follows)
+
+
+def gave(device: int, ticket: int, answer: Answer, moment: int) -> LoggedCall:
+    match answer:
+        case Worked():
+            sort, value = WORKED, 0
+        case Found(value):
+            sort = FOUND
+        case Dead():
+            sort, value = DEAD, 0
+    return LoggedCall(CallKind.GIVE, sort, device, value, ticket, moment)
+
+
+def answer_of(call: LoggedCall) -> Answer:
+    """The answer of a GIVE."""
+    return Worked() if call.sort == WORKED else Found(call.value) if call.sort == FOUND else Dead()
+
+
+def time_number(at: str) -> int:
+    """The number of a time's digits: 20261201090500 for `2026-12-01T09:05:00`."""
+    return int("".join(filter(str.isdigit, at)))
+
+
+def time_text(number: int) -> str:
+    """The time with these digits."""
+    digits = f"{number:014}"
+    year, rest = digits[:-10], digits[-10:]
+    month, day, hour, minute, second = (rest[at : at + 2] for at in range(0, 10, 2))
+    return f"{year}-{month}-{day}T{hour}:{minute}:{second}"
+
+
+# What a call answered, as bytes to take a checksum of.
+
+
+def entry_bytes(entry: Entry) -> bytes:
+    numbers = entry.kind, entry.run, entry.command, entry.device, entry.place, entry.answer
+    more = entry.value, entry.drove, entry.cause, entry.lender, entry.moment, entry.deadline
+    return ENTRY.pack(*numbers, *more)
+
+
+def entries_bytes(made: Iterable[Entry]) -> bytes:
+    return b"".join(map(entry_bytes, made))
+
+
+def number_bytes(*numbers: int) -> bytes:
+    return struct.pack(f"<{len(numbers)}Q", *numbers)
+
+
+def turn_bytes(turn: Turn) -> bytes:
+    match turn:
+        case Moved(made):
+            return entries_bytes(made)
+        case Go():
+            return number_bytes(
+                turn.device, turn.ticket, turn.run, turn.task, turn.value, turn.stood
+            )
+        case Over(end, made):
+            return entries_bytes((end, *made))
+        case Waits() | NoRun():
+            return b""
