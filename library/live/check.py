@@ -23,30 +23,38 @@ TOLD = re.compile(r"# (?:found ([^=]*)=(.*)|lost (.*))")
 
 
 def windows_of(text: str) -> Iterator[list[str]]:
-    """The lines of each window, with those that stand above it."""
+    """The lines of each window, with those that stand above it; and then the lines below the last one."""
     held: list[str] = []
     for line in text.splitlines()[2:]:
         held.append(line)
         if line.startswith("home "):
             yield held
             held = []
+    yield held
+
+
+def stands_told(script: Any, lines: list[str], stands: list[Any]) -> list[Any]:
+    """How the home stands when it was told what the lines say."""
+    if "# opened" in lines or not stands:
+        stands = [Stand(device.start, True) for device in script.devices]
+    stands, names = list(stands), [device.name for device in script.devices]
+    for told in filter(None, map(TOLD.fullmatch, lines)):
+        device = names.index(told[1] or told[3])
+        found = value_in(script.devices[device], told[2]) if told[1] else None
+        stands[device] = stands[device]._replace(up=False) if found is None else Stand(found, True)
+    return stands
 
 
 def check_day(script: Any, text: str, stands: list[Any]) -> tuple[list[Any], int, int]:
     """How the home stands after the day, its windows and their runs. Raises where the record does not agree."""
-    names = [device.name for device in script.devices]
-    windows = list(windows_of(text))
+    *windows, below = windows_of(text)
     if not 0 <= len(script.windows) - len(windows) <= 1:
         raise Differs(len(windows), "windows")
     for number, lines in enumerate(windows):
-        if "# opened" in lines or not stands:
-            stands = [Stand(device.start, True) for device in script.devices]
-        for told in filter(None, map(TOLD.fullmatch, lines)):
-            device = names.index(told[1] or told[3])
-            found = value_in(script.devices[device], told[2]) if told[1] else None
-            stands[device] = stands[device]._replace(up=False) if found is None else Stand(found, True)
+        stands = stands_told(script, lines, stands)
         checker = WindowChecker(script, number, stands, lines_of("".join(f"{line}\n" for line in lines).encode()))
         stands, _ = checker.check()
+    stands = stands_told(script, below, stands)
     return stands, len(windows), sum(len(window.runs) for window in script.windows[: len(windows)])
 
 

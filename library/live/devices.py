@@ -11,6 +11,7 @@ behind it `worked` or `found VALUE`. A device that fails gives no answer; whethe
 """
 import argparse
 import asyncio
+import contextlib
 import json
 import os
 import random
@@ -33,12 +34,13 @@ class Device:
         self.value, self.late, self.fails, self.draw = value, late, fails, draw
 
     async def serve(self, reader: asyncio.StreamReader, writer: asyncio.StreamWriter) -> None:
-        while line := await reader.readline():
-            number, *request = line.decode().split()
-            await asyncio.sleep(self.draw.uniform(0, self.late))
-            answer = self.answer(request)
-            if answer is not None:
-                writer.write(f"{number} {answer}\n".encode())
+        with contextlib.suppress(ConnectionError):  # a hub that is killed; what it asked for before is done
+            while line := await reader.readline():
+                number, *request = line.decode().split()
+                await asyncio.sleep(self.draw.uniform(0, self.late))
+                answer = self.answer(request)
+                if answer is not None:
+                    writer.write(f"{number} {answer}\n".encode())
         writer.close()
 
     def answer(self, request: list[str]) -> str | None:

@@ -1,11 +1,13 @@
 #!/usr/bin/env python3
 """A small live hub over the library: triggers come at any moment, and devices are called over their sockets.
 
-    python3 library/live/hub.py --devices PORTS [--journal FOLDER] [--limit MS] [--gap MS] [TRIGGERS]
+    python3 library/live/hub.py --devices PORTS [--journal FOLDER] [--limit MS] [--gap MS] [--not-twice NAME,..] [TRIGGERS]
 
 A trigger is a line with a routine's name, of standard input or of the file TRIGGERS; `wait MS` there lets time pass. PORTS is
 what devices.py prints. A device that has not answered when the limit is over counts as dead, and one that is down is probed
-again after the gap. README.md says how it works.
+again after the gap. Prints a line for each trigger that was taken and for each that has ended. Killed, and started again with
+the same folder, it goes on in the window that was open; a call to a device that must not be made twice counts as dead then.
+README.md says how it works.
 """
 import argparse
 import asyncio
@@ -13,7 +15,6 @@ import contextlib
 import datetime
 import os
 import sys
-from collections import deque
 from typing import IO
 
 HERE = os.path.dirname(os.path.abspath(__file__))
@@ -23,31 +24,33 @@ from devices import home
 from journals import Journal
 from wires import Wire
 
-from lazbendix import Answer, Dead, Entry, EntryKind, Found, Go, Hub, Over, Refused, Status, Waits
+from lazbendix import (Answer, CallLog, Closed, Dead, Ended, Entry, EntryKind, Found, Go, LoggedHub, LogRefused, Over, Refused, Report,
+                       Status, Stood, Triggered, Waits)
 
 MOST_PROBES = 100  # rounds of a window
+MOST_RECORDS = 10000  # of a log, before it is begun anew
 PATIENCE = 0.1  # s: two waits of a run end by time alone, so it is taken again after so long
 SECOND = datetime.timedelta(seconds=1)
+
+ENDS = (EntryKind.COMMITTED, EntryKind.ABORTED)
 
 Call = asyncio.Task[tuple[Go, Answer]]
 
 
 class LiveHub:
-    def __init__(self, hub: Hub, wires: list[Wire], journal: Journal, gap: float) -> None:
-        self.hub, self.wires, self.journal = hub, wires, journal
-        self.gap = gap  # s: the time between two probes of a device that is down
+    def __init__(self, log: CallLog, hub: LoggedHub, wires: list[Wire], journal: Journal, asked: argparse.Namespace) -> None:
+        self.log, self.hub, self.wires, self.journal, self.asked = log, hub, wires, journal, asked
+        self.gap = asked.gap / 1000  # s: the time between two probes of a device that is down
         self.names = [hub.device_name(d) for d in range(hub.counts().devices)]
-        self.routines = {hub.routine_name(r): r for r in range(hub.counts().routines)}
-        self.triggers: deque[str] = deque()  # those that are no runs yet
+        self.routines = [hub.routine_name(r) for r in range(hub.counts().routines)]
         self.has_all = False
         self.news = asyncio.Event()  # a trigger came, or an answer
-        self.last = datetime.datetime.min
         self.turned: dict[int, int] = {}
 
     def trigger(self, routine: str) -> bool:
         """Takes a trigger; false where there is no such routine."""
         if routine in self.routines:
-            self.triggers.append(routine)
+            self.hub.trigger(self.routines.index(routine))
             self.news.set()
         return routine in self.routines
 
@@ -57,62 +60,110 @@ class LiveHub:
         self.news.set()
 
     async def live(self) -> None:
-        """A window from a trigger to the next quiet moment, and again, until the end."""
+        """The window that was open as the hub was killed; then a window from a trigger to the next quiet moment, and again, until
+        the end."""
+        if self.hub.opened is not None or self.hub.begun is not None:
+            await self.go_on()
         while await self.is_triggered():
             await self.look()
             await self.play()
+        self.let_out(set())
         self.journal.end_day()
 
     async def is_triggered(self) -> bool:
         """Waits for a trigger; false where no more come."""
-        while not self.triggers and not self.has_all:
+        while not self.hub.queue and not self.has_all:
             await self.news.wait()
             self.news.clear()
-        return bool(self.triggers)
+        return bool(self.hub.queue)
+
+    # What leaves the hub.
+
+    def let_out(self, calls: set[Call]) -> None:
+        """Starts the calls that are to be made and hands the reports on. The log is synced before, where one of them asks for it."""
+        out = self.hub.let_out()
+        calls |= {self.start(go) for go in out.calls}
+        for report in out.reports:
+            self.report(report)
+
+    def start(self, go: Go) -> Call:
+        async def made() -> tuple[Go, Answer]:
+            return go, await self.wires[go.device].call(go)
+
+        call = asyncio.create_task(made())
+        call.add_done_callback(lambda _: self.news.set())
+        return call
+
+    def report(self, report: Report) -> None:
+        match report:
+            case Triggered():
+                print(report.trigger, self.routines[report.routine], "taken", flush=True)
+            case Ended():
+                print(report.trigger, report.end.kind.name.lower(), flush=True)
+            case Stood():
+                name, stand = self.names[report.device], report.stand
+                if stand.up:
+                    value = self.hub.value_name(report.device, stand.value) or str(stand.value)
+                    self.journal.found(report.number, name, value)
+                else:
+                    self.journal.lost(report.number, name)
+            case Closed():
+                runs = [{"routine": self.routines[routine or 0]} for routine in report.routines]
+                window = {"at": report.at, "runs": runs}
+                self.journal.closed(report.number, report.window, window, list(report.triggers), report.text)
+
+    # After a kill.
+
+    async def go_on(self) -> None:
+        """Goes on in the window that was open. A call of the former life may still be on its way to a device, so the time limit is
+        waited out before the first call of this one."""
+        if self.hub.former:
+            await asyncio.sleep(self.asked.limit / 1000)
+        self.hub.call_again([d for d, name in enumerate(self.names) if name in self.asked.not_twice.split(",")])
+        await self.play()
 
     # Between two windows.
 
     async def look(self) -> None:
-        """Tells the home where devices were found that others turned, and which do not answer. One that is counted down is not
-        asked, but left to a probe."""
-        stands = {device: stand.value for device in range(len(self.wires)) if (stand := self.hub.stand(device)).up}
-        found = await asyncio.gather(*(self.wires[device].value() for device in stands))
-        for (device, value), at in zip(stands.items(), found):
-            if at is None:
+        """Tells the home where devices were found that others turned, and which do not answer. One that is counted down is left
+        to a probe."""
+        for device, value in enumerate(await asyncio.gather(*(wire.value() for wire in self.wires))):
+            stand = self.hub.stand(device)
+            if stand.up and value is None:
                 self.hub.lose(device)
-                self.journal.lost(self.names[device])
-            elif at != value:
-                self.restand(device, at)
+            elif stand.up and value is not None and value != stand.value:
+                self.restand(device, value)
 
     def restand(self, device: int, value: int) -> None:
         try:
             self.hub.restand(device, value)
         except Refused as refused:
             if refused.status is not Status.NO_VALUE:
-                raise
-            return  # it stands at what is no value of it: the home keeps its own
-        self.journal.found(self.names[device], self.hub.value_name(device, value) or str(value))
+                raise  # else it stands at what is no value of it: the home keeps its own
 
     def time(self) -> str:
         """The time of the next window: now, or a second after the last one where that is later."""
-        self.last = max(datetime.datetime.now().replace(microsecond=0), self.last + SECOND)
-        return self.last.isoformat()
+        now, last = datetime.datetime.now().replace(microsecond=0), self.hub.last_time
+        return max(now, datetime.datetime.fromisoformat(last) + SECOND if last else now).isoformat()
 
     async def play(self) -> None:
-        """Opens a window with the triggers that have come, closes it at its first quiet moment, and writes its text into the
-        journal."""
-        at, down = self.time(), [d for d in range(len(self.names)) if not self.hub.stand(d).up]
-        number = self.hub.begin_window(at, probes=MOST_PROBES)
-        window = Window(self, down)
-        window.join()
-        self.hub.window(number)
+        """Opens a window with the triggers that have come, or takes the one that a former life has begun or opened. Closes it at its
+        first quiet moment."""
+        if self.hub.opened is None and self.hub.begun is None:
+            self.hub.begin_window(self.time(), probes=MOST_PROBES)
+        window = Window(self)
+        if self.hub.opened is None:
+            window.join()
+            assert self.hub.begun is not None
+            self.hub.window(self.hub.begun)
         await window.steps()
         self.hub.close_window()
-        committed = sum(entry.kind is EntryKind.COMMITTED for entry in self.hub.entries())
-        self.journal.closed(number, at, window.routines, committed, self.hub.record(trace=True))
         for device, value in self.turned.items():
             self.restand(device, value)
         self.turned.clear()
+        self.let_out(set())
+        if self.log.count > self.asked.records:
+            self.hub.begin_anew()
 
     async def wait(self) -> None:
         """Waits for a trigger or an answer, for some time at most."""
@@ -124,27 +175,27 @@ class LiveHub:
 class Window:
     """The window that is open: its runs, the calls that are out, and the devices that are down."""
 
-    def __init__(self, live: LiveHub, down: list[int]) -> None:
+    def __init__(self, live: LiveHub) -> None:
         self.live, self.hub, self.loop = live, live.hub, asyncio.get_running_loop()
-        self.begin = self.loop.time()
-        self.routines: list[str] = []  # of all runs
-        self.runs: list[int] = []  # those that have not ended
+        is_open = self.hub.opened is not None
+        self.begin = self.loop.time() - (self.hub.moment / 1000 if is_open else 0)
+        ended = {entry.run for entry in self.hub.entries() if entry.kind in ENDS} if is_open else set()
+        self.runs = [run for run in self.hub.runs() if run not in ended]  # those that have not ended
         self.calls: set[Call] = set()
-        self.probes = dict.fromkeys(down, self.begin)  # when each device that is down is probed next
+        self.probes = dict.fromkeys(self.hub.down, self.loop.time())  # when each device that is down is probed next
 
     def moment(self) -> int:
         return int((self.loop.time() - self.begin) * 1000)
 
     def join(self) -> None:
         """Makes a run of each trigger that has come. Where the window has all the runs that it may, the others wait for its end."""
-        while self.live.triggers:
+        for trigger in list(self.hub.queue):
             try:
-                self.runs.append(self.hub.add_run(self.live.routines[self.live.triggers[0]]))
+                self.runs.append(self.hub.add_run_of(trigger))
             except Refused as refused:
                 if refused.status is not Status.TOO_MANY:
                     raise
                 return
-            self.routines.append(self.live.triggers.popleft())
 
     async def steps(self) -> None:
         """Triggers join, runs are taken, and the calls that they ask for are made, until nothing is left to do."""
@@ -154,6 +205,7 @@ class Window:
                 return
             self.probe()
             if not self.take():
+                self.live.let_out(self.calls)
                 await self.live.wait()
                 self.give()
 
@@ -162,9 +214,7 @@ class Window:
         has_moved, blocked = False, self.hub.blocked_runs()
         for run in [run for run in self.runs if not blocked >> (run - 1) & 1]:
             turn = self.hub.take(run, self.moment())
-            if isinstance(turn, Go):
-                self.start(turn)
-            elif isinstance(turn, Over):
+            if isinstance(turn, Over):
                 self.runs.remove(run)
             has_moved |= not isinstance(turn, Waits)
         return has_moved
@@ -176,18 +226,10 @@ class Window:
                 continue
             self.probes[device] = self.loop.time() + self.live.gap
             try:
-                self.start(self.hub.probe(device))
+                self.hub.probe(device)
             except Refused as refused:
                 if refused.status is not Status.NO_PROBE:
                     raise
-
-    def start(self, go: Go) -> None:
-        async def made() -> tuple[Go, Answer]:
-            return go, await self.live.wires[go.device].call(go)
-
-        call = asyncio.create_task(made())
-        call.add_done_callback(lambda _: self.live.news.set())
-        self.calls.add(call)
 
     def give(self) -> None:
         """Hands in each answer that has come, and notes which devices are down. One that somebody turned is not probed, since
@@ -198,7 +240,7 @@ class Window:
                 if entry.kind is EntryKind.FELL and entry.device not in self.live.turned:
                     self.probes[entry.device] = self.loop.time() + self.live.gap
                 elif entry.kind is EntryKind.ROSE:
-                    del self.probes[entry.device]
+                    self.probes.pop(entry.device, None)
 
     def given(self, go: Go, answer: Answer) -> tuple[Entry, ...]:
         """Hands the answer in. A sense that finds the device elsewhere is told as dead, and the home after the window."""
@@ -235,13 +277,23 @@ async def main() -> None:
     options.add_argument("--journal", default="journal")
     options.add_argument("--limit", type=float, default=1000, help="the time in which a device has to answer, in ms")
     options.add_argument("--gap", type=float, default=10000, help="the time between two probes of a device that is down, in ms")
+    options.add_argument("--not-twice", default="", help="devices whose calls are not made again after a kill")
+    options.add_argument("--records", type=int, default=MOST_RECORDS, help="of a log, before it is begun anew")
     asked = options.parse_args()
     ports, script = read_ports(asked.devices), home()
-    with open(os.path.join(HERE, "home.json"), "rb") as file, Hub(file.read()) as hub:
+    os.makedirs(asked.journal, exist_ok=True)
+    with open(os.path.join(HERE, "home.json"), "rb") as file:
+        text = file.read()
+    with CallLog(os.path.join(asked.journal, "calls")) as log, log.hub(text) as hub:
         wires = [Wire(ports[device["name"]], asked.limit / 1000) for device in script["devices"]]
-        live = LiveHub(hub, wires, Journal(asked.journal, script, hub.head()), asked.gap / 1000)
+        live = LiveHub(log, hub, wires, Journal(asked.journal, script, hub.head(), hub.is_new), asked)
+        print("started", f"in a window with {len(hub.former)} calls out" if hub.opened is not None else "between windows", flush=True)
         lines = open(asked.triggers, encoding="utf-8") if asked.triggers else sys.stdin
-        await asyncio.gather(read_triggers(live, lines), live.live())
+        try:
+            await asyncio.gather(read_triggers(live, lines), live.live())
+        except LogRefused as refused:
+            print(f"hub: {refused}", file=sys.stderr, flush=True)
+            os._exit(1)  # nothing may leave this home any more; the next start finds what is on the disk
         for wire in wires:
             wire.close()
 

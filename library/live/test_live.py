@@ -49,7 +49,7 @@ def play(folder: str, draw: random.Random) -> str:
         hand = threading.Thread(target=turn_by_hand, args=(draw, devices.stdin, is_over))
         hand.start()
         hub = program("hub.py", "--devices", ports, "--journal", journal, "--limit", "120", "--gap", "400", triggers)
-        subprocess.run(hub, check=True, timeout=300)
+        subprocess.run(hub, check=True, timeout=300, stdout=subprocess.DEVNULL)
         is_over.set()
         hand.join()
         devices.stdin.close()

@@ -137,7 +137,7 @@ done
 say "Python"
 (cd "$library/tests/python" && PYTHONPATH="$root/python" python3 -m unittest discover -s .)
 say "a live hub"
-(cd "$library/live" && python3 -m unittest test_live)
+(cd "$library/live" && python3 -m unittest test_live test_killed)
 
 if has cargo; then
     say "Rust"

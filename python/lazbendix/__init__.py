@@ -51,13 +51,13 @@ from lazbendix.told import (
 if TYPE_CHECKING:
     from lazbendix.call_log import CallLog, LogFault, LogRefused
     from lazbendix.hubs import Hub, library_version
-    from lazbendix.logged_hubs import Closed, Ended, LetOut, LoggedHub, Report, Triggered
+    from lazbendix.logged_hubs import Closed, Ended, LetOut, LoggedHub, Report, Stood, Triggered
 
 # What wants the library's shared object, or a system's locks: it is loaded where it is asked for.
 LATER = dict.fromkeys(("Hub", "library_version"), "hubs")
 LATER |= dict.fromkeys(("CallLog", "LogFault", "LogRefused"), "call_log")
 LATER |= dict.fromkeys(
-    ("Closed", "Ended", "LetOut", "LoggedHub", "Report", "Triggered"), "logged_hubs"
+    ("Closed", "Ended", "LetOut", "LoggedHub", "Report", "Stood", "Triggered"), "logged_hubs"
 )
 
 
@@ -100,6 +100,7 @@ __all__ = [
     "ScriptRefused",
     "Stand",
     "Status",
+    "Stood",
     "Task",
     "Triggered",
     "Turn",

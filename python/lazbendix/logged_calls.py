@@ -32,7 +32,8 @@ class CallKind(IntEnum):
     RUN_OF = OWN + 2  # the run that is added next is that of the trigger `first`
     SYNCED = OWN + 3  # the first `first` records were synced when this one was written
     REPORTED = OWN + 4  # the first `first` reports were handed out, and what became of them is over
-    ANEW = OWN + 5  # the log goes on from: tickets so far, last time, `value` triggers
+    ANEW = OWN + 5  # after `first` tickets, `value` triggers, and a window at the time `second`
+    COUNTED = OWN + 6  # after `first` reports
 
 
 class LoggedCall(NamedTuple):

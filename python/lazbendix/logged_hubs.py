@@ -2,7 +2,8 @@
 import zlib
 from contextlib import contextmanager
 from dataclasses import dataclass, field, replace
-from typing import Any, Collection, Iterator, Union
+from functools import partial
+from typing import Any, Callable, Collection, Iterator
 
 from lazbendix._calls import LIBRARY
 from lazbendix.call_log import CallLog, Head, LogFault, LogRefused, Record, head_of
@@ -32,6 +33,7 @@ from lazbendix.told import (
     Over,
     Refused,
     Scheduler,
+    Stand,
     Status,
     Task,
     Turn,
@@ -46,7 +48,15 @@ ENDS = (EntryKind.COMMITTED, EntryKind.ABORTED)
 
 
 @dataclass(frozen=True)
-class Triggered:
+class Report:
+    """Something to hand on. Reports are numbered from 1 in the order of the calls; one that is
+    handed out once more has its number again."""
+
+    number: int
+
+
+@dataclass(frozen=True)
+class Triggered(Report):
     """A trigger was taken: it is in the queue, and a kill does not lose it."""
 
     trigger: int
@@ -54,7 +64,7 @@ class Triggered:
 
 
 @dataclass(frozen=True)
-class Ended:
+class Ended(Report):
     """A run has ended; `trigger` is 0 where the run is that of none."""
 
     trigger: int
@@ -63,18 +73,23 @@ class Ended:
 
 
 @dataclass(frozen=True)
-class Closed:
+class Closed(Report):
     """A window was closed. `at` is the time of one that was begun; of each of its runs there is the
     trigger, 0 for none, and the routine, none where it is only in the script."""
 
-    number: int
+    window: int
     at: str
     triggers: tuple[int, ...]
     routines: tuple[int | None, ...]
     text: str
 
 
-Report = Union[Triggered, Ended, Closed]
+@dataclass(frozen=True)
+class Stood(Report):
+    """Between two windows the home was told of a device: how it stands from then on."""
+
+    device: int
+    stand: Stand
 
 
 @dataclass(frozen=True)
@@ -128,6 +143,9 @@ class LoggedHub(Hub):
             self.close()
             raise
 
+    def __enter__(self) -> "LoggedHub":
+        return self
+
     def _head(self) -> Head:
         return head_of(self._script, *self._mode, LIBRARY.lazbendix_version())
 
@@ -180,11 +198,11 @@ class LoggedHub(Hub):
         elif self._again != (call, self._answers):
             raise LogRefused(LogFault.DIFFERS, f"{self._again.call} is {call} now")
 
-    def _report(self, report: Report) -> None:
+    def _report(self, make: Callable[[int], Report]) -> None:
         """Reports that were handed on in a former life are not made again."""
         self._made += 1
         if self._made > self._handed:
-            self._reports.append(report)
+            self._reports.append(make(self._made))
 
     def _note(self, made: tuple[Entry, ...]) -> None:
         for entry in made:
@@ -193,7 +211,8 @@ class LoggedHub(Hub):
             elif entry.kind is EntryKind.ROSE:
                 self.down.discard(entry.device)
             elif entry.kind in ENDS:
-                self._report(Ended(self._runs().triggers[entry.run - 1], entry.run, entry))
+                trigger = self._runs().triggers[entry.run - 1]
+                self._report(partial(Ended, trigger=trigger, run=entry.run, end=entry))
 
     def _runs(self) -> Runs:
         """Those of the window that is open, or else begun."""
@@ -234,6 +253,12 @@ class LoggedHub(Hub):
 
     # Triggers.
 
+    def runs(self) -> dict[int, int]:
+        """By run of the window that is open, or else begun, its trigger, 0 for none."""
+        if self.opened is None and self.begun is None:
+            return {}
+        return dict(enumerate(self._runs().triggers, 1))
+
     def trigger(self, routine: int) -> int:
         """Takes a trigger into the queue, and answers its number. ABSENT."""
         with self._logging():
@@ -246,7 +271,7 @@ class LoggedHub(Hub):
         self._triggers = max(self._triggers, trigger)
         self.queue[trigger] = routine
         self._keep(LoggedCall(CallKind.TRIGGERED, value=routine, first=trigger))
-        self._report(Triggered(trigger, routine))
+        self._report(partial(Triggered, trigger=trigger, routine=routine))
 
     def add_run_of(self, trigger: int, follows: int = 0) -> int:
         """`add_run` of a trigger that is in the queue, which then leaves it."""
@@ -349,7 +374,14 @@ class LoggedHub(Hub):
             del self._windows[number]
             self._keep(LoggedCall(CallKind.CLOSE_WINDOW), text.encode())
             self._report(
-                Closed(number, runs.at, tuple(runs.triggers), tuple(runs.routines), text)
+                partial(
+                    Closed,
+                    window=number,
+                    at=runs.at,
+                    triggers=tuple(runs.triggers),
+                    routines=tuple(runs.routines),
+                    text=text,
+                )
             )
 
     def restand(self, device: int, value: int) -> None:
@@ -357,12 +389,14 @@ class LoggedHub(Hub):
             super().restand(device, value)
             self.down.discard(device)
             self._keep(LoggedCall(CallKind.RESTAND, device=device, value=value))
+            self._report(partial(Stood, device=device, stand=self.stand(device)))
 
     def lose(self, device: int) -> None:
         with self._logging():
             super().lose(device)
             self.down.add(device)
             self._keep(LoggedCall(CallKind.LOSE, device=device))
+            self._report(partial(Stood, device=device, stand=self.stand(device)))
 
     # A new life.
 
@@ -420,6 +454,9 @@ class LoggedHub(Hub):
                 self._triggers, self._tickets = call.value, call.first
                 self._base = call.first
                 self.last_time = time_text(call.second) if call.second else None
+            case CallKind.COUNTED:
+                self._made = call.first
+                self._reports.clear()  # of calls that only bring the home to where it was
             case CallKind.SYNCED | CallKind.REPORTED:
                 pass
             case _:
@@ -456,7 +493,7 @@ class LoggedHub(Hub):
                 self._handle, fresh._handle = fresh._handle, self._handle
             self._windows.clear()
             self._answers, self._base = 0, self._tickets
-            self._made = self._handed = self._noted = len(self.queue)
+            self._noted = self._handed = self._made
 
     def _records_anew(self, fresh: Hub) -> list[Record]:
         """The records that bring a home that was just opened to where this one is."""
@@ -472,7 +509,8 @@ class LoggedHub(Hub):
                 calls.append(LoggedCall(CallKind.LOSE, device=device))
             if fresh.stand(device) != stand:
                 raise LogRefused(LogFault.DIFFERS, f"device {device} does not stand at {stand}")
+        calls.append(LoggedCall(CallKind.COUNTED, first=self._made - len(self.queue)))
         for trigger, routine in self.queue.items():
             calls.append(LoggedCall(CallKind.TRIGGERED, value=routine, first=trigger))
-        calls.append(LoggedCall(CallKind.REPORTED, first=len(self.queue)))
+        calls.append(LoggedCall(CallKind.REPORTED, first=self._made))
         return [Record(call, 0) for call in calls]

@@ -1,4 +1,5 @@
 """Calls of a home that keeps a log, drawn: a seed makes the same calls again on a home that shows the same."""
+import datetime
 import json
 import os
 import random
@@ -8,7 +9,7 @@ from typing import Any, Callable, Iterator
 
 from reference import days
 
-from lazbendix import Answer, CallLog, Dead, Found, Go, LoggedHub, Model, Moved, Over, Refused, Scheduler, Status, Task, Worked
+from lazbendix import Answer, CallLog, Dead, Found, Go, LoggedHub, Model, Refused, Scheduler, Status, Task, Worked
 
 MODES = [(Model.EVENTUAL, Scheduler.FCFS), (Model.EVENTUAL, Scheduler.JIT), (Model.EVENTUAL, Scheduler.TIMELINE),
          (Model.PARTITIONED, Scheduler.FCFS), (Model.GLOBAL, Scheduler.FCFS), (Model.WEAK, Scheduler.FCFS)]
@@ -78,7 +79,8 @@ class Play:
         if roll < 0.5:
             return answered(hub.window, self.draw.randrange(hub.counts().windows + 1))
         self.second += 1
-        return answered(hub.begin_window, f"2031-01-{1 + self.second // 3600:02}T00:{self.second // 60 % 60:02}:{self.second % 60:02}", PROBES)
+        time = datetime.datetime(2031, 1, 1) + datetime.timedelta(seconds=self.second)
+        return answered(hub.begin_window, time.isoformat(), PROBES)
 
     def begun(self, hub: LoggedHub) -> Any:
         roll = self.draw.random()
@@ -96,7 +98,7 @@ class Play:
     def in_window(self, hub: LoggedHub) -> Any:
         roll, under_way = self.draw.random(), outs(hub)
         self.clock += self.draw.choice([0, 0, 1, 40, 3000])
-        if roll < 0.04:
+        if roll < 0.02:
             run = self.add(hub)
             self.joined += not isinstance(run, Status)
             return run
@@ -108,7 +110,7 @@ class Play:
             closed = answered(hub.close_window)
             self.played += closed is None
             return closed
-        return answered(hub.take, self.draw.randrange(1, 9), self.clock)
+        return answered(hub.take, self.draw.randrange(1, hub.run_count(hub.opened or 0) + 2), self.clock)
 
     def give(self, hub: LoggedHub, go: Go) -> Any:
         told: Answer = Dead()

@@ -1,14 +1,13 @@
 """A home is made again of its log: at random points it shows the same, and answers the same from then on."""
 import os
-import random
 import sys
 import tempfile
 import unittest
+from unittest import mock
 
 HERE = os.path.dirname(os.path.abspath(__file__))
 sys.path[:0] = [HERE, os.path.join(HERE, "..", "..", ".."), os.path.join(HERE, "..", "..", "..", "python")]
 
-import logged_plays
 from logged_plays import MODES, points, view
 
 POINTS = int(os.environ.get("LAZBENDIX_POINTS", "300"))
@@ -16,6 +15,8 @@ SEED = int(os.environ.get("LAZBENDIX_SEED", "1"))
 A_DAY, AHEAD = 10, 25
 
 
+@mock.patch("lazbendix.call_log.sync_file", lambda file: None)  # no power is cut here
+@mock.patch("lazbendix.call_log.sync_folder", lambda path: None)
 class Rebuilt(unittest.TestCase):
     maxDiff = None
 

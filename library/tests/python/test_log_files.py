@@ -3,7 +3,6 @@ import errno
 import hashlib
 import os
 import random
-import re
 import resource
 import shutil
 import signal
@@ -26,9 +25,18 @@ from lazbendix import (CallLog, Closed, Dead, Ended, EntryKind, Go, LetOut, LogF
                        Refused, Scheduler, Status, Task, Triggered, Worked, call_log, library_version)
 
 HEAD_SIZE, RECORD_SIZE, CALL_SIZE = 64, 32, 24
-SCRIPT = (b'{"safehome": 1, "devices": [{"name": "lamp", "low": 0, "high": 9, "start": 0}, {"name": "heat", "low": 0, "high": 9, "start": 0}],'
-          b'"routines": [{"name": "both", "commands": [{"on": "lamp", "do": "set", "to": 5}, {"on": "heat", "do": "set", "to": 5}]},'
-          b'{"name": "twice", "commands": [{"on": "lamp", "do": "set", "to": 5}, {"on": "lamp", "do": "set", "to": 0}]}], "windows": []}')
+SCRIPT = b"""{"safehome": 1,
+ "devices": [{"name": "lamp", "low": 0, "high": 9, "start": 0}, {"name": "heat", "low": 0, "high": 9, "start": 0}],
+ "routines": [{"name": "both", "commands": [{"on": "lamp", "do": "set", "to": 5}, {"on": "heat", "do": "set", "to": 5}]},
+              {"name": "twice", "commands": [{"on": "lamp", "do": "set", "to": 5}, {"on": "lamp", "do": "set", "to": 0}]}],
+ "windows": []}"""
+HELD = """
+import sys, lazbendix
+try:
+    lazbendix.CallLog(sys.argv[1])
+except lazbendix.LogRefused as refused:
+    print(refused.fault.name)
+"""
 AT, LATER = "2026-12-01T09:05:00", "2026-12-01T09:06:00"
 LAMP, HEAT, BOTH, TWICE = 0, 1, 0, 1
 
@@ -218,8 +226,8 @@ class Foreign(Files):
         log, _ = self.opened()
         self.refuses(LogFault.IN_USE, CallLog, self.path)
         self.refuses(LogFault.IN_USE, log.hub, SCRIPT)
-        script = "import sys, lazbendix\ntry:\n    lazbendix.CallLog(sys.argv[1])\nexcept lazbendix.LogRefused as refused:\n    print(refused.fault.name)"
-        ran = subprocess.run([sys.executable, "-c", script, self.path], env=os.environ | {"PYTHONPATH": PYTHON}, capture_output=True, text=True)
+        words, environment = [sys.executable, "-c", HELD, self.path], os.environ | {"PYTHONPATH": PYTHON}
+        ran = subprocess.run(words, env=environment, capture_output=True, text=True)
         self.assertEqual(ran.stdout, "IN_USE\n")
         log.close()
         CallLog(self.path).close()
@@ -375,7 +383,7 @@ class TwoRules(Files):
                 work(hub, turn)
             self.assertIs(turn.end.kind, EntryKind.COMMITTED)  # and reported
             if is_kept:
-                self.assertIn(Ended(1, 1, turn.end), hub.let_out().reports)
+                self.assertIn(Ended(2, 1, 1, turn.end), hub.let_out().reports)
             end, _, _ = self.after_the_power_was_cut(self.killed(log))
             self.assertEqual(end, "COMMITTED" if is_kept else "ABORTED")
 
@@ -408,7 +416,7 @@ class Lives(Files):
         log, hub = self.opened()
         self.assertTrue(hub.is_new)
         begin(hub, BOTH)
-        self.assertEqual(hub.let_out(), LetOut((), (Triggered(1, BOTH),)))
+        self.assertEqual(hub.let_out(), LetOut((), (Triggered(1, 1, BOTH),)))
         while isinstance(turn := step(hub), Go):
             self.assertEqual(hub.let_out(), LetOut((turn,), ()))
             work(hub, turn)
@@ -420,8 +428,8 @@ class Lives(Files):
             log, hub = self.opened(left)
             self.assertFalse(hub.is_new)
             ended, closed = hub.let_out().reports
-            self.assertEqual(ended, Ended(1, 1, turn.end))
-            self.assertEqual(closed, Closed(0, AT, (1,), (BOTH,), hub.record(trace=True)))
+            self.assertEqual(ended, Ended(2, 1, 1, turn.end))
+            self.assertEqual(closed, Closed(3, 0, AT, (1,), (BOTH,), hub.record(trace=True)))
             self.shut(log)
         log, hub = self.opened(left)
         hub.let_out()
@@ -468,7 +476,7 @@ class Lives(Files):
         stands = [hub.stand(d) for d in (LAMP, HEAT)]
         hub.begin_anew()
         self.assertEqual([hub.stand(d) for d in (LAMP, HEAT)], stands)
-        self.assertEqual(log.count, 4)  # anew, lost, trigger, reported
+        self.assertEqual(log.count, 5)  # anew, lost, counted, trigger, reported: the lamp was undone
         self.shut(log)
         log, hub = self.opened()
         self.assertEqual([hub.stand(d) for d in (LAMP, HEAT)], stands)
@@ -512,7 +520,6 @@ class Lives(Files):
         self.assertEqual(view(self.opened()[1]), kept)
 
 
-SYNCED = re.compile(r"\b(fsync|fdatasync)\(")
 PLAY = """
 import sys
 sys.path.insert(0, sys.argv[1])
@@ -531,7 +538,8 @@ class Syncs(Files):
     @unittest.skipUnless(shutil.which("strace"), "strace is not there")
     def test_when_the_log_is_synced(self) -> None:
         trace = os.path.join(self.folder, "trace")
-        words = ["strace", "-o", trace, "-e", "trace=fsync,fdatasync,rename,pwrite64,write", sys.executable, "-B", "-c", PLAY, HERE, self.path]
+        words = ["strace", "-o", trace, "-e", "trace=fsync,fdatasync,rename,pwrite64,write"]
+        words += [sys.executable, "-B", "-c", PLAY, HERE, self.path]
         ran = subprocess.run(words, capture_output=True, text=True)
         if "ptrace" in ran.stderr:
             self.skipTest("strace may not watch here")
