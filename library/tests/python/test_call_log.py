@@ -27,6 +27,8 @@ class Rebuilt(unittest.TestCase):
             with tempfile.TemporaryDirectory() as folder, self.subTest(mode=mode, seed=SEED + number):
                 for hub, again, play in points(folder, mode, SEED + number, A_DAY):
                     self.assertEqual(view(again), view(hub))
+                    if hub.opened is None:
+                        self.assertEqual(hub.down, {d for d in range(hub.counts().devices) if not hub.stand(d).up})
                     other = play.twin()
                     for _ in range(AHEAD):
                         self.assertEqual(other.step(again), play.step(hub))

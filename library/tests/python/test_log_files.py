@@ -21,8 +21,8 @@ sys.path[:0] = [HERE, os.path.join(HERE, "..", "..", ".."), PYTHON]
 
 from logged_plays import MODES, Play, drawn_script, view
 
-from lazbendix import (CallLog, Closed, Dead, Ended, EntryKind, Go, LetOut, LogFault, LoggedHub, LogRefused, Model, Moved, Over,
-                       Refused, Scheduler, Status, Task, Triggered, Worked, call_log, library_version)
+from lazbendix import (CallLog, Closed, Dead, Ended, EntryKind, Go, LetOut, LogFault, LoggedHub, LogRefused, Model, Moved,
+                       NoRun, Over, Refused, Scheduler, Status, Task, Triggered, Waits, Worked, call_log, library_version)
 
 HEAD_SIZE, RECORD_SIZE, CALL_SIZE = 64, 32, 24
 SCRIPT = b"""{"safehome": 1,
@@ -79,7 +79,7 @@ class Files(unittest.TestCase):
 
     def killed(self, log: CallLog) -> str:
         """The path of what the disk has of the log when the power is cut now: what was synced."""
-        path = os.path.join(self.folder, "left")
+        path = os.path.join(self.folder, f"left-{len(os.listdir(self.folder))}")
         shutil.copyfile(log.path, path)
         return path
 
@@ -128,6 +128,23 @@ class Format(Files):
         self.assertEqual([call for call in calls if call[0] < 128], wanted)
         self.assertEqual([call[4] for call in calls if call[0] == 129], [1])
 
+    def test_a_step_that_waits_is_left_out_and_moments_do_not_fall(self) -> None:
+        log, hub = self.opened()
+        begin(hub, BOTH)
+        go = step(hub)
+        count = log.count
+        self.assertIsInstance(hub.take(1, 500), Waits)
+        self.assertEqual(hub.take(9, 600), NoRun())
+        self.assertEqual(log.count, count)
+        hub.give(go.device, go.ticket, Worked(), 20)
+        hub.take(1, 30)
+        log.sync()
+        with open(self.killed(log), "rb") as file:
+            data = file.read()
+        records = [struct.unpack("<BBHIQQ", data[at : at + CALL_SIZE]) for at in range(HEAD_SIZE, len(data), RECORD_SIZE)]
+        given = [at for at, record in enumerate(records) if record[0] == 5]
+        self.assertEqual([records[at : at + 2] for at in given], [[(5, 1, LAMP, 0, 1, 600), (4, 0, 0, 1, 0, 600)]])
+
     def test_the_calls_of_the_page(self) -> None:
         records = [call_log.Record(call_log.LoggedCall(4, value=1, second=1500), 9), call_log.Record(call_log.LoggedCall(128), 9),
                    call_log.Record(call_log.LoggedCall(5, 1, 3, 0, 7, 1750), 9)]
@@ -164,6 +181,7 @@ class Ends(Files):
             self.write(spoilt)
             log, hub = self.opened()
             self.assertLess(log.durable, (len(data) - HEAD_SIZE) // RECORD_SIZE)
+            self.assertEqual(os.path.getsize(self.path), HEAD_SIZE + RECORD_SIZE * log.durable)
             hub.close()
             log.close()
 
@@ -495,6 +513,39 @@ class Lives(Files):
         kept = view(hub)
         self.shut(log)
         self.assertEqual(view(self.opened()[1]), kept)
+
+    def test_tickets_triggers_and_reports_go_on_in_a_log_that_is_begun_anew(self) -> None:
+        log, hub = self.opened()
+        begin(hub, BOTH)
+        while isinstance(turn := step(hub), Go):
+            last = turn
+            work(hub, turn)
+        hub.close_window()
+        self.assertEqual([report.number for report in hub.let_out().reports], [1, 2, 3])
+        hub.begin_anew()
+        for life in range(2):
+            self.assertEqual((hub.queue, hub.stand(LAMP).value), ({}, 5))
+            with mock.patch.object(log, "sync"):  # this part is not kept
+                begin(hub, TWICE, LATER)
+                go = step(hub)
+                self.assertGreater(go.ticket, last.ticket) if isinstance(go, Go) else self.fail("the run has ended")
+                self.assertEqual(hub.let_out().reports, (Triggered(4, 2, TWICE),))
+            left = self.killed(log)
+            self.shut(log)
+            log, hub = self.opened(left)
+
+    def test_a_probe_is_let_out_at_once_and_a_restart_after_a_sync(self) -> None:
+        log, hub = self.opened()
+        hub.lose(HEAT)
+        begin(hub, BOTH)
+        hub.let_out()
+        for device, task, syncs in [(LAMP, Task.PROBE, 0), (HEAT, Task.RESTORE, 1)]:
+            before, go = log.syncs, hub.probe(device)
+            self.assertIs(go.task, task)
+            self.assertEqual(hub.let_out().calls, (go,))
+            self.assertEqual(log.syncs - before, syncs)
+            work(hub, go)
+        self.assertEqual(hub.down, set())
 
     def test_a_kill_before_the_rename_leaves_the_old_log(self) -> None:
         self.played()
