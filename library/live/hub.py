@@ -299,4 +299,7 @@ async def main() -> None:
 
 
 if __name__ == "__main__":
-    asyncio.run(main())
+    try:
+        asyncio.run(main())
+    except LogRefused as no_log:
+        sys.exit(f"hub: {no_log}")

@@ -6,9 +6,11 @@ syncs seven are left out.
 """
 import collections
 import contextlib
+import functools
 import os
 import random
 import re
+import resource
 import socket
 import struct
 import subprocess
@@ -95,14 +97,27 @@ class Lives:
         while "ready" not in read(self.ports):
             time.sleep(0.02)
 
-    def start(self) -> "subprocess.Popen[str]":
-        """A new life. A report that a kill has torn was not made."""
+    def start(self, room: int | None = None) -> "subprocess.Popen[str]":
+        """A new life, whose files may not become longer than `room`. A report that a kill has torn was not made."""
         if os.path.exists(self.reports):
             os.truncate(self.reports, read(self.reports).rfind("\n") + 1)
         words = [sys.executable, "-c", KILLED, os.path.join(self.folder, "synced"), WRONG, "--devices", self.ports]
         words += ["--journal", os.path.join(self.folder, "journal"), "--limit", str(LIMIT), "--gap", "200", "--records", str(RECORDS)]
         with open(self.reports, "a", encoding="utf-8") as out:
-            return subprocess.Popen(words, stdin=subprocess.PIPE, stdout=out, stderr=subprocess.PIPE, text=True)
+            limit = None if room is None else functools.partial(resource.setrlimit, resource.RLIMIT_FSIZE, (room, room))
+            return subprocess.Popen(words, stdin=subprocess.PIPE, stdout=out, stderr=subprocess.PIPE, text=True, preexec_fn=limit)
+
+    def fill(self, room: int) -> str:
+        """A life on a disk that becomes full. What it said as it ended."""
+        hub = self.start(room)
+        assert hub.stdin is not None and hub.stderr is not None
+        while hub.poll() is None:
+            self.send(hub.stdin, 1)
+            time.sleep(0.02)
+        with hub.stderr, contextlib.suppress(BrokenPipeError):
+            said = hub.stderr.read()
+            hub.stdin.close()
+        return said
 
     def live(self, number: int) -> None:
         """A life with some triggers, and its end by a kill."""
@@ -211,6 +226,18 @@ class Killed(unittest.TestCase):
             said = self.judge(folder, devices)
             self.assertTrue(KILLS < 12 or "started in a window" in read(os.path.join(folder, "reports")))
         print(f"{KILLS} kills, {lives.cuts} of them cut off something; {said}", file=sys.stderr)
+
+    def test_a_hub_whose_disk_is_full_stops_and_goes_on_when_there_is_room(self) -> None:
+        with tempfile.TemporaryDirectory() as folder:
+            lives = Lives(folder, random.Random(1))
+            try:
+                for room in (3000, 8000):
+                    self.assertRegex(lives.fill(room), "FAILED|File too large")
+                devices = lives.end()
+            finally:
+                lives.close()
+            self.assertIn("started in a window", read(os.path.join(folder, "reports")))
+            self.judge(folder, devices)
 
 
 if __name__ == "__main__":

@@ -170,8 +170,8 @@ class LoggedHub(Hub):
 
     @contextmanager
     def _logging(self) -> Iterator[None]:
-        """A call that changes the home, and its record. Where the call was made and its record not
-        the home is ahead of the log, and must not go on."""
+        """A call that changes the home, with its record and its reports. Where the call was made and
+        something hinders these, the home is ahead of the log, and must not go on."""
         with self._lock:
             self._log.may_go_on()
             try:
@@ -194,7 +194,6 @@ class LoggedHub(Hub):
         self._answers = zlib.crc32(answered, self._answers)
         if self._again is None:
             self._log.append(call, self._answers)
-            self._is_ahead = False
         elif self._again != (call, self._answers):
             raise LogRefused(LogFault.DIFFERS, f"{self._again.call} is {call} now")
 
