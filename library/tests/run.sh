@@ -140,8 +140,10 @@ say "a live hub"
 (cd "$library/live" && python3 -m unittest test_live test_killed)
 
 if has cargo; then
-    say "Rust"
-    (cd "$library/rust" && CARGO_TARGET_DIR="$made/target" cargo test -q --offline)
+    say "Rust, and the logs that Python has written"
+    rm -rf "$made/logs"
+    python3 "$tests/python/written_logs.py" "$made/logs"
+    (cd "$library/rust" && LAZBENDIX_LOGS="$made/logs" CARGO_TARGET_DIR="$made/target" cargo test -q --offline)
 else
     say "cargo is not there: the Rust tests were not run"
 fi

@@ -1,4 +1,4 @@
-//! The exports of the library: lazbendix.h in Rust. Here alone is code that is not safe.
+//! The exports of the library: lazbendix.h in Rust, and the lock of a file. Here alone is code that is not safe.
 //!
 //! Each call below is sound for the same reasons. The handle is one of zeros, or one that the library wrote, since its
 //! fields are private, it is neither `Clone` nor `Copy`, and nothing but the library writes into it. Each pointer is made
@@ -6,6 +6,8 @@
 //! call has the handle for itself alone, since it takes `&mut`.
 
 use std::ffi::c_void;
+use std::fs::File;
+use std::os::unix::io::AsRawFd;
 use std::ptr;
 
 /// The handle of a home.
@@ -233,4 +235,16 @@ pub(crate) fn routine_name(h: &mut Handle, routine: u32, room: &mut [u8], len: &
 pub(crate) fn value_name(h: &mut Handle, device: u32, value: u32, room: &mut [u8], len: &mut usize) -> i32 {
     // SAFETY: as this module says.
     unsafe { lazbendix_value_name(h, device, value, room.as_mut_ptr(), room.len(), len) }
+}
+
+extern "C" {
+    fn flock(file: i32, operation: i32) -> i32;
+}
+
+/// Holds the lock of the file until it is dropped; false where another one holds it.
+pub(crate) fn hold(file: &File) -> bool {
+    const EXCLUSIVE: i32 = 2;
+    const AT_ONCE: i32 = 4;
+    // SAFETY: it asks for nothing but numbers.
+    unsafe { flock(file.as_raw_fd(), EXCLUSIVE | AT_ONCE) == 0 }
 }

@@ -11,7 +11,7 @@ const LONGEST_NAME: usize = 32;
 ///
 /// Dropping it frees all that is behind it, whatever is open or out. It may go to another thread.
 pub struct Hub {
-    handle: Handle,
+    pub(crate) handle: Handle,
 }
 
 impl fmt::Debug for Hub {

@@ -4,6 +4,8 @@
 //! ask for, however late and in which order, and give the answers. There is no input, no output, no clock and no thread
 //! inside. What a step does is proved; `library/README.md` says what of it.
 //!
+//! A [`LoggedHub`] is a home whose calls are kept in a file: after a kill it is made again, in the middle of a window.
+//!
 //! ```
 //! use lazbendix::{Answer, Hub, Mode, Task, Turn};
 //!
@@ -30,9 +32,14 @@
 #[allow(unsafe_code)]
 mod calls;
 mod hubs;
+mod log_files;
+mod logged_hubs;
+mod sums;
 mod told;
 
 pub use hubs::{version, Hub};
+pub use log_files::{LogError, LogFault};
+pub use logged_hubs::{LetOut, LoggedHub, Report};
 pub use told::{
     Answer, Cause, Counts, Entry, Fault, FaultKind, Given, Go, Item, Left, Made, Mode, Part, Refused, Spot, Stand, Status,
     Task, Turn, What, Why,
