@@ -380,3 +380,57 @@ fn a_hub_without_a_log_is_as_it_was() {
     let Turn::Moved(made) = hub.take(1, 3).unwrap() else { panic!("the run arrives") };
     assert_eq!(made.entries(), [Entry::Arrived { run: 1, moment: 3 }]);
 }
+
+/// A home of 64 devices and 64 routines, each of which sets 64 devices that are drawn.
+fn large_script() -> String {
+    let mut draw = Draws(3);
+    let devices: Vec<String> = (0..64).map(|d| format!(r#"{{"name": "d{d}", "low": 0, "high": 9, "start": 0}}"#)).collect();
+    let mut command = || format!(r#"{{"on": "d{}", "do": "set", "to": {}}}"#, draw.below(64), draw.below(10));
+    let mut routine = |r| {
+        let commands: Vec<String> = (0..64).map(|_| command()).collect();
+        format!(r#"{{"name": "r{r}", "commands": [{}]}}"#, commands.join(", "))
+    };
+    let routines: Vec<String> = (0..64).map(&mut routine).collect();
+    format!(
+        r#"{{"safehome": 1, "devices": [{}], "routines": [{}], "windows": []}}"#,
+        devices.join(", "),
+        routines.join(", ")
+    )
+}
+
+/// `cargo test --release --test logged -- --ignored --nocapture` says how long a home takes that is made again near the end of
+/// a window of 64 runs of 64 commands.
+#[test]
+#[ignore = "it measures"]
+fn how_long_a_home_takes_that_is_made_again() {
+    let (folder, script) = (Folder::new("time"), large_script());
+    let path = folder.path("calls");
+    let mut hub = LoggedHub::open(&path, script.as_bytes(), Mode::default()).unwrap();
+    let number = hub.begin_window(AT, 0).unwrap();
+    for routine in 0..64 {
+        hub.add_run(routine, None).unwrap();
+    }
+    hub.window(number).unwrap();
+    let mut outs = Vec::new();
+    while hub.records() < 8400 {
+        let mut has_moved = false;
+        for run in 1..=64 {
+            match hub.take(run, hub.moment() + 1).unwrap() {
+                Turn::Go(go) => outs.push(go),
+                turn => has_moved |= matches!(turn, Turn::Moved(_)),
+            }
+        }
+        if !has_moved {
+            outs.drain(..).for_each(|go| work(&mut hub, go));
+        }
+    }
+    hub.sync().unwrap();
+    let took = (0..40).map(|number| {
+        let copy = folder.path(&format!("{number}"));
+        fs::copy(&path, &copy).unwrap();
+        let begun = std::time::Instant::now();
+        assert!(LoggedHub::open(&copy, script.as_bytes(), Mode::default()).unwrap().opened().is_some());
+        begun.elapsed()
+    });
+    println!("{} records: the least of 40 times {:?}", hub.records(), took.min().unwrap());
+}
