@@ -125,14 +125,15 @@ class LiveHub:
     # Between two windows.
 
     async def look(self) -> None:
-        """Tells the home where devices were found that others turned, and which do not answer. One that is counted down is left
-        to a probe."""
-        for device, value in enumerate(await asyncio.gather(*(wire.value() for wire in self.wires))):
-            stand = self.hub.stand(device)
-            if stand.up and value is None:
+        """Tells the home where devices were found that others turned, and which do not answer. One that is counted down is not
+        asked, but left to a probe."""
+        stands = {device: stand.value for device in range(len(self.wires)) if (stand := self.hub.stand(device)).up}
+        found = await asyncio.gather(*(self.wires[device].value() for device in stands))
+        for (device, value), at in zip(stands.items(), found):
+            if at is None:
                 self.hub.lose(device)
-            elif stand.up and value is not None and value != stand.value:
-                self.restand(device, value)
+            elif at != value:
+                self.restand(device, at)
 
     def restand(self, device: int, value: int) -> None:
         try:
