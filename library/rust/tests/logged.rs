@@ -371,6 +371,46 @@ fn a_log_that_can_not_be_begun_anew_goes_on() {
     assert_eq!(open(&folder.path("other/calls")).opened(), Some(0));
 }
 
+/// The other half of the next test: a process whose files may not become longer.
+#[test]
+#[ignore = "the next test calls it"]
+fn a_life_on_a_full_disk() {
+    let Some(path) = std::env::var_os("LAZBENDIX_FULL").map(PathBuf::from) else { return };
+    let mut hub = open(&path);
+    begin(&mut hub, BOTH);
+    let mut kept = 0;
+    let fault = loop {
+        hub.trigger(BOTH).unwrap();
+        match hub.let_out() {
+            Ok(_) => kept += 1,
+            Err(error) => break error,
+        }
+    };
+    assert!(matches!(fault, LogError::Log(LogFault::Failed(_))), "{fault}");
+    assert_eq!(hub.trigger(BOTH), Err(fault));
+    assert_eq!(hub.take(1, 9), Err(fault));
+    assert_eq!(hub.let_out(), Err(fault));
+    fs::write(path.with_extension("kept"), kept.to_string()).unwrap();
+}
+
+#[test]
+fn on_a_full_disk_nothing_is_let_out_any_more() {
+    let folder = Folder::new("full");
+    let path = folder.path("calls");
+    let ran = std::process::Command::new("sh")
+        .args(["-c", "trap '' XFSZ; ulimit -f 2; exec \"$0\" --exact --ignored a_life_on_a_full_disk"])
+        .arg(std::env::current_exe().unwrap())
+        .env("LAZBENDIX_FULL", &path)
+        .output()
+        .unwrap();
+    assert!(ran.status.success(), "{}", String::from_utf8_lossy(&ran.stdout));
+    let kept: usize = fs::read_to_string(path.with_extension("kept")).unwrap().parse().unwrap();
+    let mut hub = open(&path);
+    assert!(kept > 2 && hub.queue().len() >= kept);
+    assert!(step(&mut hub).is_some());
+    assert_eq!(hub.let_out().unwrap().calls.len(), 1);
+}
+
 #[test]
 fn a_hub_without_a_log_is_as_it_was() {
     let mut hub = Hub::open(SCRIPT, Mode::default()).unwrap();
