@@ -280,12 +280,13 @@ async def main() -> None:
     options.add_argument("--gap", type=float, default=10000, help="the time between two probes of a device that is down, in ms")
     options.add_argument("--not-twice", default="", help="devices whose calls are not made again after a kill")
     options.add_argument("--records", type=int, default=MOST_RECORDS, help="of a log, before it is begun anew")
+    options.add_argument("--other-version", action="store_true", help="try a log of another version of the library")
     asked = options.parse_args()
     ports, script = read_ports(asked.devices), home()
     os.makedirs(asked.journal, exist_ok=True)
     with open(os.path.join(HERE, "home.json"), "rb") as file:
         text = file.read()
-    with CallLog(os.path.join(asked.journal, "calls")) as log, log.hub(text) as hub:
+    with CallLog(os.path.join(asked.journal, "calls")) as log, log.hub(text, other_version=asked.other_version) as hub:
         wires = [Wire(ports[device["name"]], asked.limit / 1000) for device in script["devices"]]
         live = LiveHub(log, hub, wires, Journal(asked.journal, script, hub.head(), hub.is_new), asked)
         print("started", f"in a window with {len(hub.former)} calls out" if hub.opened is not None else "between windows", flush=True)

@@ -102,7 +102,8 @@ class Lives:
         if os.path.exists(self.reports):
             os.truncate(self.reports, read(self.reports).rfind("\n") + 1)
         words = [sys.executable, "-c", KILLED, os.path.join(self.folder, "synced"), WRONG, "--devices", self.ports]
-        words += ["--journal", os.path.join(self.folder, "journal"), "--limit", str(LIMIT), "--gap", "200", "--records", str(RECORDS)]
+        words += ["--journal", os.path.join(self.folder, "journal"), "--limit", str(LIMIT), "--gap", "200"]
+        words += ["--records", str(RECORDS), "--not-twice", "door"]
         with open(self.reports, "a", encoding="utf-8") as out:
             limit = None if room is None else functools.partial(resource.setrlimit, resource.RLIMIT_FSIZE, (room, room))
             return subprocess.Popen(words, stdin=subprocess.PIPE, stdout=out, stderr=subprocess.PIPE, text=True, preexec_fn=limit)

@@ -170,8 +170,8 @@ class LoggedHub(Hub):
 
     @contextmanager
     def _logging(self) -> Iterator[None]:
-        """A call that changes the home, with its record and its reports. Where the call was made and
-        something hinders these, the home is ahead of the log, and must not go on."""
+        """A call that changes the home, with its record and its reports. Where the call was made
+        and something hinders these, the home is ahead of the log, and must not go on."""
         with self._lock:
             self._log.may_go_on()
             try:

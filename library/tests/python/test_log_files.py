@@ -23,6 +23,7 @@ from logged_plays import MODES, Play, drawn_script, view
 
 from lazbendix import (CallLog, Closed, Dead, Ended, EntryKind, Go, LetOut, LogFault, LoggedHub, LogRefused, Model, Moved,
                        NoRun, Over, Refused, Scheduler, Status, Task, Triggered, Waits, Worked, call_log, library_version)
+from lazbendix.logged_calls import LoggedCall
 
 HEAD_SIZE, RECORD_SIZE, CALL_SIZE = 64, 32, 24
 SCRIPT = b"""{"safehome": 1,
@@ -54,6 +55,13 @@ def step(hub: LoggedHub) -> Go | Over:
         pass
     assert isinstance(turn, (Go, Over))
     return turn
+
+
+def driven(hub: LoggedHub) -> Go:
+    """The same, where a device goes out."""
+    go = step(hub)
+    assert isinstance(go, Go)
+    return go
 
 
 def work(hub: LoggedHub, go: Go) -> None:
@@ -131,7 +139,7 @@ class Format(Files):
     def test_a_step_that_waits_is_left_out_and_moments_do_not_fall(self) -> None:
         log, hub = self.opened()
         begin(hub, BOTH)
-        go = step(hub)
+        go = driven(hub)
         count = log.count
         self.assertIsInstance(hub.take(1, 500), Waits)
         self.assertEqual(hub.take(9, 600), NoRun())
@@ -146,8 +154,8 @@ class Format(Files):
         self.assertEqual([records[at : at + 2] for at in given], [[(5, 1, LAMP, 0, 1, 600), (4, 0, 0, 1, 0, 600)]])
 
     def test_the_calls_of_the_page(self) -> None:
-        records = [call_log.Record(call_log.LoggedCall(4, value=1, second=1500), 9), call_log.Record(call_log.LoggedCall(128), 9),
-                   call_log.Record(call_log.LoggedCall(5, 1, 3, 0, 7, 1750), 9)]
+        records = [call_log.Record(LoggedCall(4, value=1, second=1500), 9), call_log.Record(LoggedCall(128), 9),
+                   call_log.Record(LoggedCall(5, 1, 3, 0, 7, 1750), 9)]
         page = ("04 00 00 00 01 00 00 00 00 00 00 00 00 00 00 00 dc 05 00 00 00 00 00 00"
                 "05 01 03 00 00 00 00 00 07 00 00 00 00 00 00 00 d6 06 00 00 00 00 00 00")
         self.assertEqual(call_log.calls_of(records), bytes.fromhex(page))
@@ -206,7 +214,7 @@ class Ends(Files):
 
     def test_a_call_that_is_refused_is_refused_with_its_place(self) -> None:
         log, hub = self.opened()
-        log.append(call_log.LoggedCall(6, device=LAMP), 0)
+        log.append(LoggedCall(6, device=LAMP), 0)
         hub.close()
         log.close()
         with CallLog(self.path) as again:
@@ -270,7 +278,7 @@ class Refusing(Files):
         log, hub = self.opened()
         begin(hub, BOTH)
         hub.let_out()
-        go = step(hub)
+        go = driven(hub)
         with mock.patch("lazbendix.call_log.sync_file", side_effect=OSError(errno.EIO, "no")):
             self.refuses(LogFault.FAILED, hub.let_out)
         self.gives_up(log, hub)
@@ -356,7 +364,7 @@ class Refusing(Files):
     def test_a_call_with_other_words_changes_nothing(self) -> None:
         _, hub = self.opened()
         begin(hub, BOTH)
-        go = step(hub)
+        go = driven(hub)
         for answer in (None, 7):
             self.assertRaises(TypeError, hub.give, go.device, go.ticket, answer, 9)
         self.assertRaises(ValueError, hub.take, -1, 9)
@@ -381,10 +389,10 @@ class TwoRules(Files):
         for is_kept in (False, True):
             log, hub = self.opened(f"{self.path}-{is_kept}")
             begin(hub, BOTH)
-            go = step(hub)
+            go = driven(hub)
             hub.let_out()
             work(hub, go)
-            go = step(hub)
+            go = driven(hub)
             self.assertEqual((go.device, go.task, go.value) if isinstance(go, Go) else None, (HEAT, Task.DRIVE, 5))
             if is_kept:  # else the heat is driven at once
                 hub.let_out()
@@ -458,7 +466,7 @@ class Lives(Files):
     def test_what_was_out_is_called_again_but_not_what_must_not_be_done_twice(self) -> None:
         log, hub = self.opened()
         begin(hub, BOTH)
-        go = step(hub)
+        go = driven(hub)
         hub.let_out()
         path = self.killed(log)
         self.shut(log)
@@ -476,11 +484,10 @@ class Lives(Files):
         with self.assertRaises(Refused) as refused:
             hub.begin_anew()
         self.assertIs(refused.exception.status, Status.IN_WINDOW)
-        go = step(hub)
+        go = driven(hub)
         hub.let_out()
         work(hub, go)
-        late = step(hub)
-        assert isinstance(late, Go)
+        late = driven(hub)
         hub.let_out()
         hub.give(HEAT, late.ticket, Dead(), 9)
         while isinstance(turn := step(hub), Go):
@@ -527,8 +534,8 @@ class Lives(Files):
             self.assertEqual((hub.queue, hub.stand(LAMP).value), ({}, 5))
             with mock.patch.object(log, "sync"):  # this part is not kept
                 begin(hub, TWICE, LATER)
-                go = step(hub)
-                self.assertGreater(go.ticket, last.ticket) if isinstance(go, Go) else self.fail("the run has ended")
+                go = driven(hub)
+                self.assertGreater(go.ticket, last.ticket)
                 self.assertEqual(hub.let_out().reports, (Triggered(4, 2, TWICE),))
             left = self.killed(log)
             self.shut(log)
@@ -578,9 +585,9 @@ from test_log_files import *
 import os
 log = CallLog(sys.argv[2]); hub = log.hub(SCRIPT); os.write(2, b"opened\\n")
 begin(hub, BOTH); hub.let_out(); os.write(2, b"trigger reported\\n")
-go = step(hub); hub.let_out(); os.write(2, b"lamp driven\\n")
+go = driven(hub); hub.let_out(); os.write(2, b"lamp driven\\n")
 work(hub, go); hub.probe(LAMP); hub.let_out(); os.write(2, b"lamp probed\\n")
-go = step(hub); hub.let_out(); os.write(2, b"heat driven\\n")
+go = driven(hub); hub.let_out(); os.write(2, b"heat driven\\n")
 work(hub, go); step(hub); hub.let_out(); os.write(2, b"end reported\\n")
 """
 
