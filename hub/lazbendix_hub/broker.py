@@ -159,31 +159,20 @@ def _send_at_once(client: Any, data: Any, sock: Any) -> None:
 
 
 class Link:
-    """What carries the calls to a device: the broker, and for Zigbee2MQTT its bridge. `count` is
-    another number each time that it came back."""
+    """What carries the calls to a device. `count` is another number each time that it came back."""
 
-    def __init__(self, broker: Broker) -> None:
-        self.broker, self.is_bridged = broker, True
-        self.count = 0
-        self.is_up = broker.is_up
+    def __init__(self, is_up: bool = False) -> None:
+        self.is_up, self.count = is_up, 0
         self.up, self.lost = asyncio.Event(), asyncio.Event()
         self.on_up: list[Callable[[], None]] = []
         (self.up if self.is_up else self.lost).set()
-        broker.on_change.append(self._look)
 
-    def bridge(self, topic: str) -> None:
-        """The link has a bridge, which tells in this topic whether it is there."""
-        self.broker.subscribe(topic, self._bridged)
-
-    def _bridged(self, topic: str, payload: bytes, is_retained: bool) -> None:
-        self.is_bridged = b"offline" not in payload
-        self._look(self.broker.is_up)
-
-    def _look(self, is_up: bool) -> None:
-        before, self.is_up = self.is_up, is_up and self.is_bridged
-        if self.is_up == before:
+    def become(self, is_up: bool) -> None:
+        """It is there, or away."""
+        if is_up == self.is_up:
             return
-        if self.is_up:
+        self.is_up = is_up
+        if is_up:
             self.count += 1
             self.lost.clear()
             self.up.set()
@@ -194,5 +183,29 @@ class Link:
             call()
 
     def end(self) -> None:
-        """It hears of the broker no more."""
+        """Nobody hears of it any more."""
+        self.on_up = []
+
+
+class BrokerLink(Link):
+    """The broker, and for Zigbee2MQTT its bridge."""
+
+    def __init__(self, broker: Broker) -> None:
+        super().__init__(broker.is_up)
+        self.broker, self.is_bridged = broker, True
+        broker.on_change.append(self._look)
+
+    def bridge(self, topic: str) -> None:
+        """The link has a bridge, which reports in this topic whether it is there."""
+        self.broker.subscribe(topic, self._bridged)
+
+    def _bridged(self, topic: str, payload: bytes, is_retained: bool) -> None:
+        self.is_bridged = b"offline" not in payload
+        self._look(self.broker.is_up)
+
+    def _look(self, is_up: bool) -> None:
+        self.become(is_up and self.is_bridged)
+
+    def end(self) -> None:
+        super().end()
         self.broker.on_change.remove(self._look)

@@ -10,8 +10,8 @@ from typing import Sequence
 from lazbendix_hub import __version__
 from lazbendix_hub.daemon import BadHome, Daemon, load
 from lazbendix_hub.history import History, why_text
-from lazbendix_hub.home import (BrokerPlace, CronTrigger, DeviceTrigger, Home, RoutineTrigger,
-                                SunTrigger, TopicTrigger, Trigger)
+from lazbendix_hub.home import (BrokerPlace, CronTrigger, DeviceTrigger, EntityTrigger, Home,
+                                RoutineTrigger, SunTrigger, TopicTrigger, Trigger)
 from lazbendix_hub.house import refusal
 from lazbendix_hub.logs import begin_logs
 
@@ -135,6 +135,8 @@ def trigger_text(trigger: Trigger, home: Home) -> str:
             what = f"`{trigger.payload}`" if trigger.payload else "a message"
             of = f" as {trigger.prop}" if trigger.prop else ""
             return f"{what}{of} comes on {trigger.topic}"
+        case EntityTrigger():
+            return f"{trigger.entity} becomes {trigger.to or 'another one'}"
         case CronTrigger():
             return f"it is {trigger.cron} (cron)"
         case SunTrigger():

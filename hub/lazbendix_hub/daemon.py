@@ -15,6 +15,7 @@ from lazbendix_hub.discovery import Discovery
 from lazbendix_hub.figures import Figures
 from lazbendix_hub.history import History
 from lazbendix_hub.home import Home, read_home
+from lazbendix_hub.home_assistant import HomeAssistant
 from lazbendix_hub.house import House, refusal
 from lazbendix_hub.ledger import Ledger, Records
 from lazbendix_hub.live import Ended, LiveHub, Watcher
@@ -76,15 +77,17 @@ class Daemon:
         self.house: House | None = None
         self.discovery: Discovery | None = None
         self.broker: Broker
+        self.assistant: HomeAssistant | None = None
         self.ending = asyncio.Event()
         self.reloading: asyncio.Task[None] | None = None
         self.on_ready: Callable[[], None] = lambda: None
 
     def is_healthy(self) -> bool:
-        """Whether the loop of the hub lives, and the broker is there."""
+        """Whether the loop of the hub lives, and what carries its calls is there."""
         task = self.house.task if self.house is not None else None
         return self.live is not None and task is not None and not task.done() \
-            and self.broker.is_up
+            and (self.broker.is_up or not self.home.broker.host) \
+            and (self.assistant is None or self.assistant.link.is_up)
 
     async def run(self) -> None:
         """Lives until a signal, or `ending`. Raises `OSError` where the page's place is taken."""
@@ -105,9 +108,13 @@ class Daemon:
         await self._close()
 
     def _connect(self) -> Broker:
-        of = self.home.broker
+        of, other = self.home.broker, self.home.assistant
         broker = Broker(f"{self.home.base.replace('/', '-')}-hub", f"{self.home.base}/status")
-        broker.connect(of.host, of.port, of.user, of.password, of.ca)
+        if of.host:
+            broker.connect(of.host, of.port, of.user, of.password, of.ca)
+        if other is not None:
+            self.assistant = HomeAssistant(other.url, other.token)
+            self.assistant.begin()
         return broker
 
     async def _open_first(self) -> None:
@@ -129,7 +136,7 @@ class Daemon:
         self.on_ready()
 
     async def _open(self, half_done: list[str], former: House | None = None) -> None:
-        house = House(self.home, self.broker, self.ledger, self.records)
+        house = House(self.home, self.broker, self.ledger, self.records, None, self.assistant)
         if former is not None:
             house.inherit(former)
         self.figures.begin(self.home)
@@ -169,6 +176,8 @@ class Daemon:
         self.live = None
         await self.web.stop()
         self.broker.close()
+        if self.assistant is not None:
+            await self.assistant.close()
         self.ledger.close()
         self.history.close()
 
@@ -187,9 +196,13 @@ class Daemon:
         except BadHome as bad:
             LOG.error("no reload: %s", bad)
             return
-        if (home.page, home.broker, home.base) != (self.home.page, self.home.broker,
-                                                   self.home.base):
-            LOG.warning("`page`, `broker` and `base` stay as they are until the hub is restarted")
+        fixed = [(of.page, of.broker, of.assistant, of.base) for of in (home, self.home)]
+        if home.assistant is not None and self.assistant is None:
+            LOG.error("no reload: `home-assistant` is new, which wants a restart")
+            return
+        if fixed[0] != fixed[1]:
+            LOG.warning("`page`, `broker`, `home-assistant` and `base` stay as they are until the "
+                        "hub is restarted")
         self.reloading = asyncio.get_running_loop().create_task(self._reload(home))
         self.reloading.add_done_callback(self._reloaded)
 

@@ -20,11 +20,12 @@ from lazbendix_hub.kinds import Payload
 IsIt = Callable[[int], bool]
 
 
-class MqttDriver:
-    """Zigbee2MQTT: TOPIC/set and TOPIC/get, the state as JSON in TOPIC, TOPIC/availability."""
+class DeviceDriver:
+    """A device over some link: what it has shown, and how a call of the core is made of it. What is
+    left open is how it is asked, and sent a command."""
 
-    def __init__(self, device: Device, broker: Broker, link: Link, base: str) -> None:
-        self.device, self.broker, self.link = device, broker, link
+    def __init__(self, device: Device, link: Link) -> None:
+        self.device, self.link = device, link
         self.kind, self.limit = device.kind, device.limit
         self.value: int | None = None
         self.is_away = False
@@ -35,21 +36,8 @@ class MqttDriver:
         self.on_value: list[Callable[[int, int | None], None]] = []
         self.on_shown: list[Callable[[], None]] = []  # any value, in a message of now
         self.on_away: list[Callable[[bool], None]] = []
-        self.begin(f"{base}/{device.topic}")
-
-    def begin(self, topic: str) -> None:
-        """Subscribes to what the device tells."""
-        self.set_topic, self.get_topic = f"{topic}/set", f"{topic}/get"
-        self.broker.subscribe(topic, self._state)
-        self.broker.subscribe(f"{topic}/availability", self._availability)
 
     # -- What it tells
-
-    def _availability(self, topic: str, payload: bytes, is_retained: bool) -> None:
-        told = parsed(payload)
-        word = told.get("state") if isinstance(told, dict) else payload.decode("utf-8", "replace")
-        if word in ("online", "offline"):
-            self.go_away(word == "offline")
 
     def go_away(self, is_away: bool) -> None:
         """The device says that it is away, or back."""
@@ -62,11 +50,6 @@ class MqttDriver:
                     future.set_result(False)
         for call in self.on_away:
             call(is_away)
-
-    def _state(self, topic: str, payload: bytes, is_retained: bool) -> None:
-        told = parsed(payload)
-        if isinstance(told, dict):
-            self.told(told, is_retained)
 
     def told(self, told: Mapping[str, object], is_retained: bool) -> None:
         """The device has told these properties."""
@@ -93,15 +76,14 @@ class MqttDriver:
 
     def ask(self) -> None:
         """Asks it to show itself. One that sleeps would not hear."""
-        if not self.device.is_sleepy:
-            self.broker.publish(self.get_topic, json.dumps(self.kind.asked()))
+        raise NotImplementedError
 
     def send(self, payload: Payload) -> None:
         """Sends a command."""
-        self.broker.publish(self.set_topic, json.dumps(payload))
+        raise NotImplementedError
 
     def is_reachable(self) -> bool:
-        """Whether broker and bridge are there."""
+        """Whether what carries the calls is there."""
         return self.link.is_up
 
     def is_trusted(self) -> bool:
@@ -166,6 +148,39 @@ class MqttDriver:
         return Worked()
 
 
+class MqttDriver(DeviceDriver):
+    """Zigbee2MQTT: TOPIC/set and TOPIC/get, the state as JSON in TOPIC, TOPIC/availability."""
+
+    def __init__(self, device: Device, broker: Broker, link: Link, base: str) -> None:
+        super().__init__(device, link)
+        self.broker = broker
+        self.begin(f"{base}/{device.topic}")
+
+    def begin(self, topic: str) -> None:
+        """Subscribes to what the device tells."""
+        self.set_topic, self.get_topic = f"{topic}/set", f"{topic}/get"
+        self.broker.subscribe(topic, self._state)
+        self.broker.subscribe(f"{topic}/availability", self._availability)
+
+    def _availability(self, topic: str, payload: bytes, is_retained: bool) -> None:
+        told = parsed(payload)
+        word = told.get("state") if isinstance(told, dict) else payload.decode("utf-8", "replace")
+        if word in ("online", "offline"):
+            self.go_away(word == "offline")
+
+    def _state(self, topic: str, payload: bytes, is_retained: bool) -> None:
+        told = parsed(payload)
+        if isinstance(told, dict):
+            self.told(told, is_retained)
+
+    def ask(self) -> None:
+        if not self.device.is_sleepy:
+            self.broker.publish(self.get_topic, json.dumps(self.kind.asked()))
+
+    def send(self, payload: Payload) -> None:
+        self.broker.publish(self.set_topic, json.dumps(payload))
+
+
 class TasmotaDriver(MqttDriver):
     """Tasmota: cmnd/TOPIC/WORD; stat/TOPIC/RESULT and stat/TOPIC/POWER tell; tele/TOPIC/LWT."""
 
@@ -205,6 +220,6 @@ def parsed(payload: bytes) -> Any:
 
 
 def make_driver(device: Device, broker: Broker, links: Mapping[str, Link], base: str) -> MqttDriver:
-    """The driver of a device, by its maker."""
+    """The driver of a device over MQTT, by its maker."""
     of = TasmotaDriver if device.maker == "tasmota" else MqttDriver
     return of(device, broker, links[device.maker], base)

@@ -3,7 +3,7 @@ from __future__ import annotations
 
 import json
 import re
-from dataclasses import dataclass, field
+from dataclasses import dataclass, field, replace
 from typing import Mapping, Union
 
 from croniter import croniter
@@ -21,11 +21,19 @@ LOOPBACK = ("127.0.0.1", "localhost", "::1")
 class BrokerPlace:
     """Where the broker is, and how one speaks to it."""
 
-    host: str = "127.0.0.1"
+    host: str = "127.0.0.1"  # empty: there is none
     port: int = 1883
     user: str = ""
     password: str = ""
     ca: str = ""  # a file of certificates: then TLS
+
+
+@dataclass(frozen=True)
+class AssistantPlace:
+    """Where Home Assistant is, and its long-lived access token."""
+
+    url: str
+    token: str
 
 
 @dataclass(frozen=True)
@@ -44,8 +52,9 @@ class PagePlace:
 
 @dataclass(frozen=True)
 class Device:
-    """A thing of the house. `limit` is the time in which it has to show a value, `age` that after
-    which a sensor that is silent counts as one that does not answer."""
+    """A thing of the house; its topic is an entity where its maker is Home Assistant. `limit` is
+    the time in which it has to show a value, `age` that after which a sensor that is silent counts
+    as one that does not answer."""
 
     name: str
     label: str
@@ -75,6 +84,14 @@ class TopicTrigger:
     topic: str
     payload: str | None
     prop: str | None
+
+
+@dataclass(frozen=True)
+class EntityTrigger:
+    """An entity of Home Assistant comes to a state, or to any other one, as a button does."""
+
+    entity: str
+    to: str
 
 
 @dataclass(frozen=True)
@@ -117,7 +134,8 @@ class RoutineTrigger:
     after: float
 
 
-Trigger = Union[TopicTrigger, CronTrigger, SunTrigger, DeviceTrigger, RoutineTrigger]
+Trigger = Union[TopicTrigger, EntityTrigger, CronTrigger, SunTrigger, DeviceTrigger,
+                RoutineTrigger]
 
 
 @dataclass(frozen=True)
@@ -141,6 +159,7 @@ class Home:
     """The whole file. The devices that routines use come first: these are those of the core."""
 
     broker: BrokerPlace
+    assistant: AssistantPlace | None
     page: PagePlace
     base: str
     zigbee2mqtt: str
@@ -168,13 +187,27 @@ class Home:
                 "must": command.is_must}
 
 
-TOP = ("broker", "page", "base", "zigbee2mqtt", "discovery", "place", "limit", "gather", "devices",
-       "routines")
+TOP = ("broker", "home-assistant", "page", "base", "zigbee2mqtt", "discovery", "place", "limit",
+       "gather", "devices", "routines")
 KINDS = ("switch", "plug", "dimmer", "blinds", "lock", "valve", "climate", "colour-temperature",
          "colour", "contact", "motion", "thermometer", "number", "choice")
 OTHER_NAMES = {"color": "colour", "color-temperature": "colour-temperature", "light": "dimmer",
                "cover": "blinds", "onoff": "switch", "socket": "plug"}
 TASMOTA = ("switch", "plug", "valve", "dimmer", "blinds")
+ASSISTANT = "home-assistant"
+MAKERS = ("zigbee2mqtt", "tasmota", ASSISTANT)
+ENTITY = re.compile(r"[a-z0-9_]+\.[a-z0-9_]+")
+SWITCHED = ("switch", "light", "input_boolean", "fan", "siren", "humidifier", "remote")
+DOMAINS = {"switch": SWITCHED, "plug": SWITCHED, "dimmer": ("light",), "blinds": ("cover",),
+           "lock": ("lock",), "valve": ("valve", "cover", "switch", "input_boolean"),
+           "climate": ("climate",), "colour-temperature": ("light",), "colour": ("light",),
+           "contact": ("binary_sensor",), "motion": ("binary_sensor",), "thermometer": ("sensor",),
+           "number": ("number", "input_number", "fan", "sensor"),
+           "choice": ("select", "input_select", "climate", "sensor", "binary_sensor")}
+# By maker the properties of blinds, climate, thermometer and number.
+STEPPED = {"zigbee2mqtt": ("position", "occupied_heating_setpoint", "temperature", ""),
+           "tasmota": ("ShutterPosition1", "", "", ""),
+           ASSISTANT: ("current_position", "temperature", "number", "number")}
 DO = ("set", "check")
 
 
@@ -196,6 +229,8 @@ class _Reader:
     def home(self, tree: Node) -> Home:
         top = Table(tree, "the file", self.mistakes)
         broker = self.broker(top.get("broker"))
+        assistant = self.assistant(top.get("home-assistant"))
+        self.has_broker, self.has_assistant = bool(broker.host), assistant is not None
         page = self.page(top.get("page"))
         base = self.topic(top, "base", "lazbendix")
         zigbee = self.topic(top, "zigbee2mqtt", "zigbee2mqtt")
@@ -212,7 +247,8 @@ class _Reader:
             self.read_devices(listed, limit)
         routines, order = self.read_routines(top.get("routines", True), place)
         top.end()
-        return self.arrange(Home(broker, page, base, zigbee, prefix, place,
+        return self.arrange(Home(broker, assistant, page, base, zigbee,
+                                 prefix if broker.host else "", place,
                                  None if gather < 0 else gather, (), 0, ()), routines, order)
 
     def arrange(self, home: Home, routines: list[Routine], order: list[str]) -> Home:
@@ -233,8 +269,8 @@ class _Reader:
             arranged.append(Routine(routine.name, routine.label, commands, triggers,
                                     routine.fresh))
         devices = tuple(device for name in kept if (device := self.devices[name]) is not None)
-        return Home(home.broker, home.page, home.base, home.zigbee2mqtt, home.discovery,
-                    home.place, home.gather, devices, len(used), tuple(arranged), numbers)
+        return replace(home, devices=devices, core_count=len(used), routines=tuple(arranged),
+                       numbers=numbers)
 
     def topic(self, table: Table, key: str, default: str) -> str:
         text = table.text(key, default)
@@ -260,10 +296,27 @@ class _Reader:
     def broker(self, node: Node | None) -> BrokerPlace:
         if node is None:
             return BrokerPlace()
+        if node.raw in ("off", "no", "false"):
+            return BrokerPlace("")
         table = Table(node, "`broker`", self.mistakes)
         place = BrokerPlace(table.text("host", "127.0.0.1"),
                             int(table.number("port", 1883, 1, 65535)), table.text("user"),
                             self.secret(table, "password"), table.text("ca"))
+        table.end()
+        return place
+
+    def assistant(self, node: Node | None) -> AssistantPlace | None:
+        if node is None:
+            return None
+        table = Table(node, "`home-assistant`", self.mistakes)
+        place = AssistantPlace(table.text("url", "http://homeassistant.local:8123"),
+                               self.secret(table, "token"))
+        scheme, _, rest = place.url.partition("://")
+        if scheme not in ("http", "https") or not rest.strip("/"):
+            table.wrong(table.rows["url"], "url", "an address as http://homeassistant.local:8123")
+        if not place.token:
+            self.mistakes.add(node.line, "`home-assistant` wants a `token`, or a `token_file`: a "
+                                         "long-lived access token of its user's page")
         table.end()
         return place
 
@@ -320,21 +373,21 @@ class _Reader:
         table = Table(node, f"device `{shown(name)}`", self.mistakes)
         word = table.text("kind", is_wanted=True)
         kind_word = OTHER_NAMES.get(word, word)
-        maker = table.text("maker", "zigbee2mqtt")
-        topic = self.topic(table, "topic", name)
-        label = table.text("label", name)
-        if maker not in ("zigbee2mqtt", "tasmota"):
-            self.mistakes.unknown(table.rows["maker"].line, "maker", maker,
-                                  ("zigbee2mqtt", "tasmota"))
-        relay = ""
+        if word and kind_word not in KINDS:
+            self.mistakes.unknown(table.rows["kind"].line, "kind", word, KINDS)
+        maker = self.maker(table)
+        topic = self.entity(table, kind_word) if maker == ASSISTANT else \
+            self.topic(table, "topic", name)
+        label, relay = table.text("label", name), ""
         if maker == "tasmota":
             relay = str(int(table.number("relay", 0, 0, 32)) or "")
             if kind_word in KINDS and kind_word not in TASMOTA:
                 self.mistakes.add(node.line, f"over Tasmota a device is one of "
                                              f"{', '.join(TASMOTA)}, not {kind_word}")
-        if word and kind_word not in KINDS:
-            self.mistakes.unknown(table.rows["kind"].line, "kind", word, KINDS)
         kind = self.kind(kind_word, table, maker, relay) if kind_word in KINDS else None
+        if kind is not None and topic.startswith(("sensor.", "binary_sensor.")) \
+                and maker == ASSISTANT:
+            kind.is_sensor = True
         is_sleepy = table.flag("sleepy", kind is not None and kind.is_sensor)
         own = table.seconds("limit", (kind.limit if kind else None) or limit, 3600)
         age = table.seconds("age", 86400.0, 30 * 86400)
@@ -344,14 +397,44 @@ class _Reader:
             return None
         return Device(name, label, maker, topic, kind, own, age, is_sleepy, relay)
 
+    def maker(self, table: Table) -> str:
+        maker = table.text("maker", ASSISTANT if table.has("entity") else MAKERS[0])
+        if maker not in MAKERS:
+            self.mistakes.unknown(table.rows["maker"].line, "maker", maker, MAKERS)
+        elif maker != ASSISTANT and not self.has_broker:
+            self.mistakes.add(table.node.line, f"{table.what} is over MQTT, and `broker` is off")
+        elif maker == ASSISTANT and not self.has_assistant:
+            self.mistakes.add(table.node.line, f"{table.what} is an entity: the file wants "
+                                               "`home-assistant: {url: .., token_file: ..}`")
+        return maker
+
+    def entity(self, table: Table, kind: str) -> str:
+        entity = table.text("entity", is_wanted=True)
+        if entity and not ENTITY.fullmatch(entity):
+            table.wrong(table.rows["entity"], "entity", "an entity as light.hall")
+        domain = entity.partition(".")[0]
+        if entity and kind in DOMAINS and domain not in DOMAINS[kind]:
+            self.mistakes.add(table.node.line, f"a {kind} is an entity of "
+                                               f"{', '.join(DOMAINS[kind])}, not {shown(domain)}")
+        return entity
+
+    def entity_kind(self, word: str, table: Table) -> Kind | None:
+        """The kinds whose states are words, as Home Assistant has them, and dimmers."""
+        if word == "dimmer":
+            return kinds.Dimmer(table.number("tolerance", 3, 0, 50), "brightness", "power", 255)
+        states, also = kinds.ENTITY_STATES[word]
+        return kinds.Named("state", states, also, word in ("contact", "motion"))
+
     def kind(self, word: str, table: Table, maker: str, relay: str) -> Kind | None:
+        if maker == ASSISTANT and (word == "dimmer" or word in kinds.ENTITY_STATES):
+            return self.entity_kind(word, table)
         power = f"POWER{relay}" if maker == "tasmota" else table.text("property", "state") \
             if word in ("switch", "plug", "valve", "lock") else "state"
         if word in ("switch", "plug"):
             return kinds.Named(power, kinds.SWITCHES)
         if word == "valve":
             return kinds.Named(power, {"shut": ["OFF", "CLOSE"], "open": ["ON", "OPEN"]},
-                               {"off": "shut", "on": "open", "closed": "shut"})
+                               kinds.VALVES)
         if word == "lock":
             return kinds.Named(power, {"unlocked": ["UNLOCK", "UNLOCKED"],
                                        "locked": ["LOCK", "LOCKED"]})
@@ -366,21 +449,21 @@ class _Reader:
             return kinds.Named(table.text("property", "occupancy"),
                                {"clear": [False], "motion": [True]}, {"none": "clear"}, True)
         if word == "choice":
-            return self.choice(table)
+            return self.choice(table, maker)
         if word == "colour":
             return self.palette(table)
         return self.steps(word, table, maker)
 
     def steps(self, word: str, table: Table, maker: str) -> Kind | None:
-        shutter = "ShutterPosition1" if maker == "tasmota" else "position"
+        shutter, setpoint, degrees, own = STEPPED[maker if maker in STEPPED else MAKERS[0]]
         given: dict[str, tuple[str, float, float, float, float]] = {
             "blinds": (shutter, 0, 100, 1, 2),
-            "climate": ("occupied_heating_setpoint", 5, 30, 0.5, 0),
+            "climate": (setpoint, 5, 30, 0.5, 0),
             "colour-temperature": ("color_temp", 153, 500, 1, 3),
-            "thermometer": ("temperature", -40, 80, 0.1, 0),
-            "number": ("", 0, 100, 1, 0)}
+            "thermometer": (degrees, -40, 80, 0.1, 0),
+            "number": (own, 0, 100, 1, 0)}
         prop, low, high, step, tolerance = given[word]
-        prop = table.text("property", prop, word == "number")
+        prop = table.text("property", prop, not prop)
         low = table.number("low", low, -1e6, 1e6)
         high = table.number("high", high, -1e6, 1e6)
         step = table.number("step", step, 0.001, 1e6)
@@ -395,8 +478,10 @@ class _Reader:
         return kinds.Steps(prop, low, high, step, tolerance, words, is_sensor,
                            40.0 if word == "blinds" else None)
 
-    def choice(self, table: Table) -> Kind | None:
-        prop, is_sensor = table.text("property", is_wanted=True), table.flag("sensor")
+    def choice(self, table: Table, maker: str) -> Kind | None:
+        is_entity = maker == ASSISTANT
+        prop = table.text("property", "state" if is_entity else "", not is_entity)
+        is_sensor = table.flag("sensor")
         node = table.get("values", True)
         if node is None:
             return None
@@ -409,8 +494,8 @@ class _Reader:
                 self.mistakes.add(row.line, f"`{name}` is to be a word, and is {row.what}")
                 continue
             number = row.number
-            plain: object = row.raw if row.is_quoted else words.get(row.raw, row.raw)
-            if number is not None:
+            plain: object = row.raw if row.is_quoted or is_entity else words.get(row.raw, row.raw)
+            if number is not None and not is_entity:
                 plain = int(number) if number == int(number) else number
             states[name] = [plain]
         return kinds.Named(prop, states, None, is_sensor) if self.are_states(states, node) else None
@@ -534,8 +619,8 @@ class _Reader:
         table = Table(item, "a trigger", self.mistakes)
         if item.table is None:
             return None
-        forms = {"topic": self.by_topic, "cron": self.by_cron, "sun": self.by_sun,
-                 "device": self.by_device, "routine": self.by_routine}
+        forms = {"topic": self.by_topic, "entity": self.by_entity, "cron": self.by_cron,
+                 "sun": self.by_sun, "device": self.by_device, "routine": self.by_routine}
         named = [form for form in forms if table.has(form)]
         if len(named) != 1:
             self.mistakes.add(item.line, f"a trigger has one of {', '.join(forms)}")
@@ -550,8 +635,19 @@ class _Reader:
 
     def by_topic(self, table: Table) -> Trigger:
         topic = self.topic(table, "topic", "")
+        if not self.has_broker:
+            self.mistakes.add(table.node.line, "messages come by MQTT, and `broker` is off")
         payload, prop = table.text("payload"), table.text("property")
         return TopicTrigger(topic, payload or None, prop or None)
+
+    def by_entity(self, table: Table) -> Trigger:
+        entity = table.text("entity")
+        if entity and not ENTITY.fullmatch(entity):
+            table.wrong(table.rows["entity"], "entity", "an entity as input_button.night")
+        if not self.has_assistant:
+            self.mistakes.add(table.node.line, "an entity wants `home-assistant: {url: .., "
+                                               "token_file: ..}` in the file")
+        return EntityTrigger(entity, table.text("to"))
 
     def by_cron(self, table: Table) -> Trigger | None:
         cron = table.text("cron")

@@ -9,11 +9,11 @@ from typing import Callable, Sequence
 
 from lazbendix import Hub, ScriptRefused
 
-from lazbendix_hub.broker import Broker, Link
+from lazbendix_hub.broker import Broker, BrokerLink, Link
 from lazbendix_hub.calls import CallLog, Calls, NoLog
-from lazbendix_hub.drivers import MqttDriver, make_driver
-from lazbendix_hub.home import Home
-from lazbendix_hub.kinds import BadWord
+from lazbendix_hub.drivers import DeviceDriver, make_driver
+from lazbendix_hub.home import ASSISTANT, Device, Home
+from lazbendix_hub.home_assistant import EntityDriver, HomeAssistant
 from lazbendix_hub.ledger import Accepted, Ledger, Records
 from lazbendix_hub.live import LiveHub, Watcher
 from lazbendix_hub.triggers import Triggers
@@ -29,17 +29,23 @@ class House:
     calls_of: Callable[[Hub, CallLog], Calls] = Calls
 
     def __init__(self, home: Home, broker: Broker, ledger: Ledger, records: Records,
-                 log: CallLog | None = None) -> None:
+                 log: CallLog | None = None, assistant: HomeAssistant | None = None) -> None:
         self.home, self.broker, self.ledger = home, broker, ledger
         self.records, self.log = records, log or NoLog()
-        self.links = {"zigbee2mqtt": Link(broker), "tasmota": Link(broker)}
+        self.assistant = assistant
+        self.links = {"zigbee2mqtt": BrokerLink(broker), "tasmota": BrokerLink(broker)}
         self.links["zigbee2mqtt"].bridge(f"{home.zigbee2mqtt}/bridge/state")
-        self.drivers = [make_driver(device, broker, self.links, home.zigbee2mqtt)
-                        for device in home.devices]
+        self.drivers = [self._driver(device) for device in home.devices]
         self.live: LiveHub
         self.triggers: Triggers
         self.task: asyncio.Task[None] | None = None
         self.down: set[int] = set()  # of a former house
+
+    def _driver(self, device: Device) -> DeviceDriver:
+        if device.maker == ASSISTANT:
+            assert self.assistant is not None
+            return EntityDriver(device, self.assistant)
+        return make_driver(device, self.broker, self.links, self.home.zigbee2mqtt)
 
     def inherit(self, former: House) -> None:
         """Takes over what a former house has seen of the devices that are the same here, and which
@@ -81,7 +87,7 @@ class House:
                             if device.name in starts})
         self.live.watchers += watchers
         self._wire()
-        self.triggers = Triggers(self.home, self.broker, self.drivers, self.live)
+        self.triggers = Triggers(self.home, self.broker, self.drivers, self.live, self.assistant)
         self.live.watchers.append(self.triggers)
         numbers = {routine.name: at for at, routine in enumerate(self.home.routines)}
         for each in waiting:
@@ -109,8 +115,12 @@ class House:
         return found
 
     async def _settle(self, kept: dict[str, int]) -> None:
-        """Waits for the broker, and asks each device where it is."""
-        await self.broker.up.wait()
+        """Waits for the broker and for Home Assistant, and asks each device where it is."""
+        if self.home.broker.host:
+            await self.broker.up.wait()
+        if any(device.maker == ASSISTANT for device in self.home.devices):
+            assert self.assistant is not None
+            await self.assistant.link.up.wait()
         loop = asyncio.get_running_loop()
         for driver in self.drivers:
             driver.ask()
@@ -138,7 +148,7 @@ class House:
                                    for name, driver, value in back))
         return starts
 
-    async def _drive_back(self, name: str, driver: MqttDriver, value: int, starts: dict[str, int]
+    async def _drive_back(self, name: str, driver: DeviceDriver, value: int, starts: dict[str, int]
                           ) -> None:
         try:
             has_worked = await asyncio.wait_for(driver.drive(value), min(driver.limit, BACKWARDS))
@@ -151,12 +161,16 @@ class House:
     def _wire(self) -> None:
         """Has the hub hear what the devices show of themselves."""
         live = self.live
-        for link in self.links.values():
+        for link in self._all_links():
             link.on_up.append(live.linked)
         for number, driver in enumerate(self.drivers):
             driver.on_shown.append(partial(live.show, number))
             driver.on_value.append(lambda value, before: live.seen())
             driver.on_away.append(partial(self._went, number))
+
+    def _all_links(self) -> list[Link]:
+        more = [] if self.assistant is None else [self.assistant.link]
+        return [*self.links.values(), *more]
 
     def _went(self, number: int, is_away: bool) -> None:
         self.live.seen()
@@ -169,9 +183,11 @@ class House:
         if self.task is not None:
             self.task.cancel()
             await asyncio.gather(self.task, return_exceptions=True)
-        for link in self.links.values():
+        for link in self._all_links():
             link.end()
         self.broker.forget()
+        if self.assistant is not None:
+            self.assistant.forget()
         self.records.end()
         self.live.calls.close()
 

@@ -19,7 +19,7 @@ class BadWord(Exception):
 class Kind:
     """What a device of the core is on the wire. `limit` and `age` are in seconds."""
 
-    is_sensor = False
+    is_sensor: bool = False
     limit: float | None = None
     low = 0
     high = 1
@@ -227,6 +227,15 @@ def number_of(word: str) -> float | None:
 
 
 SWITCHES = {"off": ["OFF"], "on": ["ON"]}
+VALVES = {"off": "shut", "on": "open", "closed": "shut"}
+# The states of an entity of Home Assistant that are words, and other names of them.
+ENTITY_STATES: dict[str, tuple[dict[str, list[str]], dict[str, str]]] = {
+    "switch": ({"off": ["off"], "on": ["on"]}, {}),
+    "plug": ({"off": ["off"], "on": ["on"]}, {}),
+    "valve": ({"shut": ["closed", "off"], "open": ["open", "on"]}, VALVES),
+    "lock": ({"unlocked": ["unlocked", "open"], "locked": ["locked"]}, {}),
+    "contact": ({"open": ["on"], "shut": ["off"]}, {"closed": "shut"}),
+    "motion": ({"clear": ["off"], "motion": ["on"]}, {"none": "clear"})}
 COLOURS = {"white": (0.3127, 0.329), "warm": (0.46, 0.41), "red": (0.68, 0.31),
            "green": (0.17, 0.7), "blue": (0.15, 0.06), "yellow": (0.44, 0.52),
            "orange": (0.57, 0.41), "violet": (0.25, 0.1)}

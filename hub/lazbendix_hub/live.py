@@ -11,7 +11,7 @@ import logging
 import time
 from collections import deque
 from dataclasses import dataclass, field
-from typing import Any, Callable, Protocol
+from typing import Any, Protocol
 
 from lazbendix import (Answer, Dead, Entry, EntryKind, Found, Go, Moved, Over, Refused, Status,
                        Task, Waits)

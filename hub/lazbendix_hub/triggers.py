@@ -9,9 +9,10 @@ import logging
 from typing import Callable
 
 from lazbendix_hub.broker import Broker
-from lazbendix_hub.drivers import MqttDriver, parsed
-from lazbendix_hub.home import (CronTrigger, DeviceTrigger, Home, RoutineTrigger, SunTrigger,
-                                TopicTrigger)
+from lazbendix_hub.drivers import DeviceDriver, parsed
+from lazbendix_hub.home import (CronTrigger, DeviceTrigger, EntityTrigger, Home, RoutineTrigger,
+                                SunTrigger, TopicTrigger)
+from lazbendix_hub.home_assistant import HomeAssistant, State
 from lazbendix_hub.live import Ended, LiveHub, Watcher
 from lazbendix_hub.times import next_time
 
@@ -23,8 +24,8 @@ LATEST = 120.0  # s: a time that passed longer ago, as in a sleep of the machine
 class Triggers(Watcher):
     """Sets all triggers of a home up, and keeps its times."""
 
-    def __init__(self, home: Home, broker: Broker, drivers: list[MqttDriver], live: LiveHub
-                 ) -> None:
+    def __init__(self, home: Home, broker: Broker, drivers: list[DeviceDriver], live: LiveHub,
+                 assistant: HomeAssistant | None = None) -> None:
         self.home, self.broker, self.drivers, self.live = home, broker, drivers, live
         self.loop = asyncio.get_running_loop()
         self.timers: dict[tuple[int, int], asyncio.TimerHandle] = {}
@@ -35,6 +36,8 @@ class Triggers(Watcher):
                 match trigger:
                     case TopicTrigger():
                         broker.subscribe(trigger.topic, self._by_message(routine, trigger))
+                    case EntityTrigger() if assistant is not None:
+                        assistant.hear(trigger.entity, self._by_entity(routine, trigger))
                     case DeviceTrigger():
                         self._by_device(routine, at, trigger)
                     case RoutineTrigger():
@@ -65,6 +68,18 @@ class Triggers(Watcher):
         def heard(topic: str, payload: bytes, is_retained: bool) -> None:
             if not is_retained and matches(trigger, payload):
                 self.live.begin(routine, f"topic {trigger.topic}")
+        return heard
+
+    def _by_entity(self, routine: int, trigger: EntityTrigger) -> Callable[[State, bool], None]:
+        """A button's state is the time at which it was pressed; each other one is a press."""
+        last: list[object] = [None]
+
+        def heard(state: State, is_now: bool) -> None:
+            word = state.get("state")
+            before, last[0] = last[0], word
+            if is_now and word not in (before, None, "unavailable", "unknown") \
+                    and before not in (None, "unavailable") and trigger.to in ("", word):
+                self.live.begin(routine, f"entity {trigger.entity}")
         return heard
 
     # -- States of devices

@@ -18,7 +18,7 @@ from typing import Any
 
 import aiohttp
 
-from lazbendix_hub.broker import Broker, Link
+from lazbendix_hub.broker import Broker, BrokerLink
 from lazbendix_hub.drivers import make_driver
 from lazbendix_hub.history import History
 from lazbendix_hub.home import Home
@@ -154,7 +154,7 @@ class Measure:
         own = Broker("alone", "")
         own.connect("127.0.0.1", self.mosquitto.port)
         await own.up.wait()
-        links = {"zigbee2mqtt": Link(own)}
+        links = {"zigbee2mqtt": BrokerLink(own)}
         drivers = [make_driver(device, own, links, "zigbee2mqtt")
                    for device in self.home.devices if device.name.startswith("lamp")]
         await asyncio.sleep(0.2)

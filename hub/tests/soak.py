@@ -24,7 +24,7 @@ from lazbendix_hub.history import History
 from lazbendix_hub.home import read_home
 from lazbendix_hub.mosquitto import Mosquitto, free_port
 from lazbendix_hub.simulated import Manner, make_devices
-from tests.stage import TOP, until
+from tests.stage import TOP
 
 HOME = """
 limit: 0.4

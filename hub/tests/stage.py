@@ -67,6 +67,14 @@ async def until(holds: Callable[[], Any], seconds: float = 10) -> None:
         await asyncio.sleep(0.005)
 
 
+def checked(folder: str) -> str:
+    """What the reference says of the records of a hub's folder."""
+    ran = subprocess.run([sys.executable, f"{TOP}/library/live/check.py", f"{folder}/journal"],
+                         capture_output=True, text=True)
+    assert ran.returncode == 0, ran.stdout + ran.stderr
+    return ran.stdout.strip()
+
+
 class Stage:
     """`async with Stage() as stage`: all of it, up."""
 
@@ -157,10 +165,7 @@ class Stage:
 
     def check(self) -> str:
         """What the reference says of the records."""
-        ran = subprocess.run([sys.executable, f"{TOP}/library/live/check.py",
-                              f"{self.folder}/journal"], capture_output=True, text=True)
-        assert ran.returncode == 0, ran.stdout + ran.stderr
-        return ran.stdout.strip()
+        return checked(self.folder)
 
     def stands(self) -> dict[str, tuple[str, str, bool]]:
         """Of each device of the core where the home has it, where it is, and whether it is up."""

@@ -12,6 +12,7 @@ from tests.stage import HOME, Stage, until
 PATIENT = HOME.replace("limit: 0.5", "limit: 4s").replace("limit: 3s", "limit: 4s")
 SLOW = HOME.replace("door: {kind: lock}", "door: {kind: lock, limit: 2s}")
 
+
 class Live(unittest.IsolatedAsyncioTestCase):
     async def test_runs(self) -> None:
         async with Stage() as stage:

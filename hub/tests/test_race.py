@@ -10,7 +10,7 @@ import sys
 import unittest
 from typing import Awaitable, Callable
 
-from lazbendix_hub.drivers import MqttDriver
+from lazbendix_hub.drivers import DeviceDriver
 from lazbendix_hub.simulated import Manner
 from tests.stage import Stage
 
@@ -39,7 +39,7 @@ class Race:
                                       "steps that wait for the state": self.waits,
                                       "the hub": self.hub}
 
-    def steps(self, name: str) -> list[tuple[MqttDriver, int]]:
+    def steps(self, name: str) -> list[tuple[DeviceDriver, int]]:
         """The devices of a routine, and their values."""
         of = {routine.name: routine for routine in self.stage.home.routines}[name]
         return [(self.stage.house.drivers[command.device], command.value)
