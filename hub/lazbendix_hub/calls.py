@@ -9,7 +9,7 @@ from __future__ import annotations
 import json
 from typing import Any, Protocol
 
-from lazbendix import (Answer, Entry, Go, Hub, Left, Refused, Stand, Status, Turn, Waits)
+from lazbendix import (Answer, Entry, Go, Hub, Item, Left, Refused, Stand, Status, Turn, Waits)
 
 
 class CallLog(Protocol):
@@ -107,9 +107,13 @@ class Calls:
 
     # -- What only asks
 
-    def is_blocked(self, run: int) -> bool:
-        """Whether the run need not be taken before another step."""
-        return self.hub.is_blocked(run)
+    def blocked_runs(self) -> int:
+        """The runs that need not be taken before another step, the run r as the bit r - 1."""
+        return self.hub.blocked_runs()
+
+    def final_items(self) -> list[Item]:
+        """The items of the open window's order that stay so, whatever comes."""
+        return list(self.hub.final_items())
 
     def left(self) -> Left | None:
         """What is left to do in the window."""

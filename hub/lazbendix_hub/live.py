@@ -13,8 +13,8 @@ from collections import deque
 from dataclasses import dataclass, field
 from typing import Any, Protocol
 
-from lazbendix import (Answer, Dead, Entry, EntryKind, Found, Go, Moved, Over, Refused, Status,
-                       Task, Waits)
+from lazbendix import (Answer, Dead, Entry, EntryKind, Found, Go, ItemKind, Moved, Over, Refused,
+                       Status, Task, Waits)
 
 from lazbendix_hub.calls import Calls
 from lazbendix_hub.home import Home
@@ -26,7 +26,7 @@ LOG = logging.getLogger("lazbendix.hub")
 
 MOST_RUNS = 64  # of a window, as the core has it
 MOST_WAITING = 10  # triggers of one routine that have not begun
-PROBES = 20  # rounds of a window
+PROBES = 100  # rounds of a window, which may live for long
 PATIENCE = 0.1  # s: two waits end by time alone, so a run is taken again after so long
 GATHER = 0.001  # s: where no run can join, a burst of triggers shares a window
 OLDEST = 30.0  # s: where something waits for a quiet moment, an older window takes no more runs
@@ -434,13 +434,14 @@ class LiveHub:
     def _take_runs(self) -> None:
         has_moved = True
         while has_moved:
-            has_moved = False
+            has_moved, blocked = False, self.calls.blocked_runs()
             for run in list(self.runs.values()):
-                if run.outcome or run.holds is not None or self.calls.is_blocked(run.number):
+                if run.outcome or run.holds is not None or blocked >> (run.number - 1) & 1:
                     continue
                 turn = self.calls.take(run.number, self.now())
                 if isinstance(turn, Go):
-                    has_moved |= self._go(run, turn)
+                    has_moved = True
+                    self._go(run, turn)
                 elif isinstance(turn, Waits):
                     self._wait_of(run, turn)
                 elif isinstance(turn, (Moved, Over)):
@@ -457,21 +458,20 @@ class LiveHub:
             run.state = text
             run.step(self.now(), text)
 
-    def _go(self, run: Run, go: Go) -> bool:
-        """A device goes out for the run; true where it is back already."""
+    def _go(self, run: Run, go: Go) -> None:
+        """A device goes out for the run."""
         run.holds = go.device
         self.out[go.device] = Out(go, self.loop.time())
         if run.is_stopped and not run.is_doomed:
             self.lied.add(go.device)
             self._give(go, Dead())
-            return True
+            return
         device = self.home.devices[go.device]
         run.state = f"calls {device.label}" if not run.is_doomed else f"takes {device.label} back"
         text = f"asks {device.label}" if go.task is Task.SENSE else \
             f"{device.label} to {device.kind.word(go.value)}"
         run.step(self.now(), ("back: " if run.is_doomed else "") + text)
         self.ready.append(go)
-        return False
 
     def _ask(self) -> None:
         """Asks the devices that are down, ever more seldom. No window waits for them: the core's
@@ -752,10 +752,28 @@ class LiveHub:
         queue = [{"trigger": each.accepted.number,
                   "routine": self.home.routines[each.routine].name} for each in self.queue]
         return {"open": self.is_open, "window": self.window_at if self.is_open else "",
-                "runs": runs, "order": list(self.order), "queue": queue,
+                "runs": runs, **self._order(), "queue": queue,
                 "devices": [self._device(number) for number in range(len(self.home.devices))],
                 "counts": dict(self.counts), "stopping": self.is_stopping,
                 "reachable": self._is_reachable()}
+
+    def _order(self) -> dict[str, list[str]]:
+        """The order so far: what is final, with the failures of devices, and the runs after it,
+        where they are placed now."""
+        items = self.calls.final_items() if self.is_open else []
+        done = {item.run for item in items if item.kind is ItemKind.RAN}
+        final = []
+        for item in items:
+            if item.kind is ItemKind.RAN:
+                final.append(self._label(item.run))
+            else:
+                word = "fails" if item.kind is ItemKind.FAILED else "is back"
+                final.append(f"{self.home.devices[item.device].label} {word}")
+        return {"final": final, "order": [self._label(run) for run in self.order
+                                          if run not in done]}
+
+    def _label(self, number: int) -> str:
+        return self.home.routines[self.runs[number].trigger.routine].label
 
     def _device(self, number: int) -> dict[str, Any]:
         device, driver, out = self.home.devices[number], self.drivers[number], self.out.get(number)

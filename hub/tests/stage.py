@@ -167,6 +167,12 @@ class Stage:
         """What the reference says of the records."""
         return checked(self.folder)
 
+    def record(self) -> str:
+        """The text of the records of this life."""
+        with open(f"{self.folder}/journal/{self.house.records.day}.record",
+                  encoding="utf-8") as file:
+            return file.read()
+
     def stands(self) -> dict[str, tuple[str, str, bool]]:
         """Of each device of the core where the home has it, where it is, and whether it is up."""
         found = {}
