@@ -1,52 +1,28 @@
-"""The one place through which every call of the library goes.
-
-A log of calls is put under the hub here: each call that changed something is handed to `CallLog`
-with its words and what it answered, and `sync` is called before a device is driven and before
-anything is told.
-"""
+"""The one place through which every call of the library goes. Under it is the log of calls: `sync`
+is called before a device is driven, and before anything is reported."""
 from __future__ import annotations
 
 import json
-from typing import Any, Protocol
+from typing import Any
 
-from lazbendix import (Answer, Entry, Go, Hub, Item, Left, Refused, Stand, Status, Turn, Waits)
+from lazbendix import Answer, Entry, Go, Hub, Item, Left, LoggedHub, Refused, Stand, Status, Turn
 
-
-class CallLog(Protocol):
-    """What is told of the calls that changed something."""
-
-    def called(self, name: str, words: tuple[Any, ...], told: Any) -> None:
-        """A call was made, and answered so."""
-
-    def sync(self) -> None:
-        """What was told so far is on the disk when this returns."""
-
-
-class NoLog:
-    """Keeps nothing: the calls of a window are lost with the process."""
-
-    def called(self, name: str, words: tuple[Any, ...], told: Any) -> None:
-        """Keeps nothing."""
-
-    def sync(self) -> None:
-        """There is nothing to keep."""
+from lazbendix_hub.again import Core
 
 
 class Calls:
-    """The calls of a hub, by name. `can_join` says whether a run may join an open window, and
-    `can_lose` whether a device may be told to be down: both are asked of the library itself."""
+    """The calls of a hub, by name. `can_join` says whether a run may join an open window, which the
+    library itself is asked."""
 
-    def __init__(self, hub: Hub, log: CallLog) -> None:
-        self.hub, self.log = hub, log
+    def __init__(self, core: Core) -> None:
+        self.core = core
+        self.hub: LoggedHub = core.hub
         self.can_join = _can_join()
-        self.can_lose = hasattr(hub, "lose")
         self.made = 0
 
     def _call(self, name: str, *words: Any) -> Any:
         told = getattr(self.hub, name)(*words)
         self.made += 1
-        if not isinstance(told, Waits):  # it changed nothing but the last moment
-            self.log.called(name, words, told)
         return told
 
     # -- What changes something
@@ -98,12 +74,9 @@ class Calls:
         """Tells the home, between two windows, where the device was found."""
         self._call("restand", device, value)
 
-    def lose(self, device: int) -> bool:
-        """Tells the home, between two windows, that the device is down; no where the library has
-        no such call."""
-        if self.can_lose:
-            self._call("lose", device)
-        return self.can_lose
+    def lose(self, device: int) -> None:
+        """Tells the home, between two windows, that the device is down."""
+        self._call("lose", device)
 
     # -- What only asks
 
@@ -133,11 +106,21 @@ class Calls:
 
     def sync(self) -> None:
         """What was decided is on the disk when this returns."""
-        self.log.sync()
+        self.hub.let_out()
+
+    def tidy(self) -> None:
+        """Begins the log anew where it has become long; no window is open."""
+        if self.core.is_long():
+            self.hub.let_out()
+            self.hub.begin_anew()
+
+    def entries(self) -> list[Entry]:
+        """The entries of the open window, or of the one closed last."""
+        return list(self.hub.entries())
 
     def close(self) -> None:
-        """Frees the home."""
-        self.hub.close()
+        """Frees the home, and lets go of its log."""
+        self.core.close()
 
 
 def _can_join() -> bool:

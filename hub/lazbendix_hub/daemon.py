@@ -17,7 +17,7 @@ from lazbendix_hub.history import History
 from lazbendix_hub.home import Home, read_home
 from lazbendix_hub.home_assistant import HomeAssistant
 from lazbendix_hub.house import House, refusal
-from lazbendix_hub.ledger import Ledger, Records
+from lazbendix_hub.ledger import Kept, Ledger, Records
 from lazbendix_hub.live import Ended, LiveHub, Watcher
 from lazbendix_hub.web import Web
 
@@ -118,15 +118,8 @@ class Daemon:
         return broker
 
     async def _open_first(self) -> None:
-        kept = self.ledger.kept
-        await self._open(kept.half_done)
+        await self._open(self.ledger.kept)
         live = self._live()
-        numbers = {routine.name: at for at, routine in enumerate(self.home.routines)}
-        for each in kept.waiting:
-            if each.routine in numbers:
-                live.begin_again(each, numbers[each.routine])
-            else:
-                self.ledger.ended([each.number])
         gc.collect()
         gc.freeze()
         LOG.info("the hub is open: %d devices, %d routines%s", len(self.home.devices),
@@ -135,12 +128,12 @@ class Daemon:
         notify("READY=1")
         self.on_ready()
 
-    async def _open(self, half_done: list[str], former: House | None = None) -> None:
-        house = House(self.home, self.broker, self.ledger, self.records, None, self.assistant)
+    async def _open(self, kept: Kept, former: House | None = None) -> None:
+        house = House(self.home, self.broker, self.ledger, self.records, self.assistant)
         if former is not None:
             house.inherit(former)
         self.figures.begin(self.home)
-        await house.open([], half_done, [self.keeper, self.figures, self.web])
+        await house.open(kept, [self.keeper, self.figures, self.web])
         self.house, self.live = house, house.live
         if self.home.discovery:
             self.discovery = Discovery(self.home, self.broker, house.live)
@@ -223,13 +216,7 @@ class Daemon:
             self.discovery = None
         self.home = home
         await house.close()
-        await self._open([], house)
-        numbers = {routine.name: at for at, routine in enumerate(home.routines)}
-        for each in live.queue:
-            if each.accepted.routine in numbers:
-                self._live().begin_again(each.accepted, numbers[each.accepted.routine])
-            else:
-                self.ledger.ended([each.accepted.number])
+        await self._open(Kept([each.accepted for each in live.queue]), house)
         LOG.info("the home is read again: %d devices, %d routines", len(home.devices),
                  len(home.routines))
         notify("READY=1")

@@ -24,6 +24,8 @@ class DeviceDriver:
     """A device over some link: what it has shown, and how a call of the core is made of it. What is
     left open is how it is asked, and sent a command."""
 
+    is_ordered = True  # a call of a killed hub never arrives after one of the next hub
+
     def __init__(self, device: Device, link: Link) -> None:
         self.device, self.link = device, link
         self.kind, self.limit = device.kind, device.limit

@@ -208,6 +208,8 @@ class HomeAssistant:
 class EntityDriver(DeviceDriver):
     """An entity of Home Assistant."""
 
+    is_ordered = False  # a service that was called may still be under way when the hub is gone
+
     def __init__(self, device: Device, there: HomeAssistant) -> None:
         super().__init__(device, there.link)
         self.there, self.is_assumed = there, False

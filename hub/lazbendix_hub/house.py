@@ -5,16 +5,17 @@ from __future__ import annotations
 import asyncio
 import logging
 from functools import partial
-from typing import Callable, Sequence
+from typing import Sequence
 
 from lazbendix import Hub, ScriptRefused
 
 from lazbendix_hub.broker import Broker, BrokerLink, Link
-from lazbendix_hub.calls import CallLog, Calls, NoLog
+from lazbendix_hub.again import Core, NotKnown, Place, Window
+from lazbendix_hub.calls import Calls
 from lazbendix_hub.drivers import DeviceDriver, make_driver
 from lazbendix_hub.home import ASSISTANT, Device, Home
 from lazbendix_hub.home_assistant import EntityDriver, HomeAssistant
-from lazbendix_hub.ledger import Accepted, Ledger, Records
+from lazbendix_hub.ledger import Kept, Ledger, Records
 from lazbendix_hub.live import LiveHub, Watcher
 from lazbendix_hub.triggers import Triggers
 
@@ -26,13 +27,11 @@ BACKWARDS = 10.0  # s: the longest time for taking back what a killed hub left
 class House:
     """A home that lives: `open` begins it, `close` ends it."""
 
-    calls_of: Callable[[Hub, CallLog], Calls] = Calls
-
     def __init__(self, home: Home, broker: Broker, ledger: Ledger, records: Records,
-                 log: CallLog | None = None, assistant: HomeAssistant | None = None) -> None:
+                 assistant: HomeAssistant | None = None) -> None:
         self.home, self.broker, self.ledger = home, broker, ledger
-        self.records, self.log = records, log or NoLog()
-        self.assistant = assistant
+        self.records, self.assistant = records, assistant
+        self.place = Place(ledger.folder)
         self.links = {"zigbee2mqtt": BrokerLink(broker), "tasmota": BrokerLink(broker)}
         self.links["zigbee2mqtt"].bridge(f"{home.zigbee2mqtt}/bridge/state")
         self.drivers = [self._driver(device) for device in home.devices]
@@ -64,38 +63,79 @@ class House:
                     if at in former.live.down:
                         self.down.add(number)
 
-    async def open(self, waiting: Sequence[Accepted], half_done: Sequence[str],
-                   watchers: Sequence[Watcher] = ()) -> None:
-        """Looks where the devices are, takes back what a killed hub left half done, opens the home
-        there, and begins the triggers that wait."""
-        kept = self._kept()
-        await self._settle(kept)
-        starts = await self._starts(kept, half_done)
-        script = self.home.script(starts)
-        hub = Hub(script)
-        calls = self.calls_of(hub, self.log)
-        self.records.begin(script, calls.head())
-        for number in range(self.home.core_count):
-            driver = self.drivers[number]
-            if driver.is_away or (driver.value is None and driver.link.is_up) \
-                    or (number in self.down and not driver.is_confirmed):
-                if calls.lose(number):
-                    self.records.lost(self.home.devices[number].name)
+    async def open(self, kept: Kept, watchers: Sequence[Watcher] = ()) -> None:
+        """Looks where the devices are, and opens the home there; or else goes on with the home of
+        the log of calls, and with the window that a killed hub left open. Where there is no such
+        log, what a killed hub left half done is taken back. Then the triggers that wait begin."""
+        await self._settle()
+        core, window = self._again(kept)
+        if core is None:
+            starts = await self._starts(self._kept(), kept.half_done)
+            core = self.place.anew(self.home.script(starts))
+        calls = Calls(core)
         self.live = LiveHub(self.home, list(self.drivers), calls, self.ledger, self.records)
-        self.ledger.closed({device.name: self._word(number, starts[device.name]) for number, device
-                            in enumerate(self.home.devices[:self.home.core_count])
-                            if device.name in starts})
         self.live.watchers += watchers
+        if window is not None:
+            self._go_on(window, kept)
+        if not self.live.is_open:
+            self._begin(calls)
         self._wire()
         self.triggers = Triggers(self.home, self.broker, self.drivers, self.live, self.assistant)
         self.live.watchers.append(self.triggers)
-        numbers = {routine.name: at for at, routine in enumerate(self.home.routines)}
-        for each in waiting:
-            if each.routine in numbers:
+        under_way = {each.number for each in window.triggers.values()} if window else set()
+        numbers = self._numbers()
+        for each in kept.waiting:
+            if each.routine in numbers and each.number not in under_way:
                 self.live.begin_again(each, numbers[each.routine])
-            else:
+            elif each.number not in under_way:
                 self.ledger.ended([each.number])
         self.task = asyncio.get_running_loop().create_task(self.live.live())
+
+    def _numbers(self) -> dict[str, int]:
+        return {routine.name: at for at, routine in enumerate(self.home.routines)}
+
+    def _again(self, kept: Kept) -> tuple[Core | None, Window | None]:
+        """The home of the log, where it is this one, and the window that is left in it."""
+        core = self.place.again(self.home)
+        if core is None:
+            return None, None
+        try:
+            return core, self.place.window(core, kept)
+        except NotKnown as unknown:
+            core.close()
+            self.place.set_aside(unknown)
+            return None, None
+
+    def _go_on(self, window: Window, kept: Kept) -> None:
+        """Goes on with the window, and with the pair of records that it belongs to."""
+        LOG.warning("a hub was killed: its window of %s goes on, with %d runs", window.at,
+                    len(window.triggers))
+        if self.records.go_on() and not self.records.has(window.at):
+            for number, value in window.above:
+                name = self.home.devices[number].name
+                if value is None:
+                    self.records.lost(name)
+                else:
+                    self.records.found(name, self._word(number, value))
+        self.live.go_on(window, kept.told, self._numbers())
+
+    def _begin(self, calls: Calls) -> None:
+        """Begins between two windows: new records from where the devices stand, and those that are
+        away or silent are lost."""
+        names = [device.name for device in self.home.devices[: self.home.core_count]]
+        stands = [calls.stand(number) for number in range(self.home.core_count)]
+        starts = {name: stand.value for name, stand in zip(names, stands)}
+        self.records.begin(self.home.script(starts), calls.head())
+        for number, stand in enumerate(stands):
+            driver = self.drivers[number]
+            is_lost = driver.is_away or (driver.value is None and driver.link.is_up) \
+                or (number in self.down and not driver.is_confirmed)
+            if stand.up and is_lost:
+                calls.lose(number)
+            if is_lost or not stand.up:
+                self.records.lost(names[number])
+        self.ledger.closed({name: self._word(number, starts[name])
+                            for number, name in enumerate(names)})
 
     def _word(self, number: int, value: int) -> str:
         kind = self.home.devices[number].kind
@@ -114,7 +154,7 @@ class House:
                 found[device.name] = int(word)
         return found
 
-    async def _settle(self, kept: dict[str, int]) -> None:
+    async def _settle(self) -> None:
         """Waits for the broker and for Home Assistant, and asks each device where it is."""
         if self.home.broker.host:
             await self.broker.up.wait()

@@ -5,6 +5,7 @@ from __future__ import annotations
 import fcntl
 import json
 import os
+import re
 from dataclasses import dataclass, field
 from typing import Any, Iterable, TextIO
 
@@ -25,12 +26,43 @@ class Accepted:
 class Kept:
     """What a former life left: triggers whose window was not closed, the devices which the window
     that was open may have driven, and where all stood when the last window was closed, as words by
-    names."""
+    names. Of the window that was not closed its time, the trigger of each run, and the triggers
+    whose end was told."""
 
     waiting: list[Accepted] = field(default_factory=list)
     half_done: list[str] = field(default_factory=list)
     stands: dict[str, str] = field(default_factory=dict)
     last: int = 0
+    window: str = ""
+    runs: dict[int, int] = field(default_factory=dict)
+    told: set[int] = field(default_factory=set)
+
+    def lines(self) -> list[dict[str, Any]]:
+        """The lines that say so."""
+        found: list[dict[str, Any]] = [{"last": self.last}, {"stands": self.stands}]
+        found += [_line(each) for each in self.waiting]
+        if self.half_done:
+            found.append({"open": self.half_done})
+        if self.window:
+            found.append({"window": self.window})
+        found += [{"run": run, "of": number} for run, number in self.runs.items()]
+        return found + ([{"told": sorted(self.told)}] if self.told else [])
+
+    def read(self, line: dict[str, Any]) -> None:
+        """A line of the file that is not about triggers."""
+        if "run" in line:
+            self.runs[int(line["run"])] = int(line["of"])
+        elif "window" in line:
+            self.window, self.runs, self.told = str(line["window"]), {}, set()
+        elif "told" in line:
+            self.told |= {int(number) for number in line["told"]}
+        elif "open" in line or "stands" in line:
+            self.half_done = [str(each) for each in line.get("open", ())]
+            if "stands" in line:
+                self.stands = {str(name): str(it) for name, it in line["stands"].items()}
+                self.window, self.runs, self.told = "", {}, set()
+        else:
+            self.last = max(self.last, int(line["last"]))
 
 
 class Ledger:
@@ -39,6 +71,7 @@ class Ledger:
 
     def __init__(self, folder: str) -> None:
         os.makedirs(folder, exist_ok=True)
+        self.folder = folder
         self.path = os.path.join(folder, "triggers.log")
         self.lock = open(os.path.join(folder, "lock"), "w", encoding="utf-8")
         try:
@@ -50,17 +83,13 @@ class Ledger:
         self.number, self.stands = self.kept.last, dict(self.kept.stands)
         self.is_dirty = False
         self.syncs = 0
-        self._begin_anew(self.kept.waiting, self.kept.half_done)
+        self._begin_anew(self.kept)
 
-    def _begin_anew(self, waiting: Iterable[Accepted], half_done: list[str]) -> None:
+    def _begin_anew(self, kept: Kept) -> None:
         """Writes what still counts into a new file, and puts it into the place of the old one."""
         with open(self.path + ".new", "w", encoding="utf-8") as file:
-            file.write(json.dumps({"last": self.number}) + "\n")
-            file.write(json.dumps({"stands": self.stands}) + "\n")
-            for each in waiting:
-                file.write(json.dumps(_line(each)) + "\n")
-            if half_done:
-                file.write(json.dumps({"open": half_done}) + "\n")
+            for line in kept.lines():
+                file.write(json.dumps(line) + "\n")
             file.flush()
             os.fsync(file.fileno())
         os.replace(self.path + ".new", self.path)
@@ -85,6 +114,20 @@ class Ledger:
         if listed:
             self._write({"ended": listed})
 
+    def began(self, at: str) -> None:
+        """A window was begun at this time."""
+        self._write({"window": at})
+
+    def joined(self, run: int, trigger: int) -> None:
+        """The window's run is that of the trigger."""
+        self._write({"run": run, "of": trigger})
+
+    def told(self, numbers: Iterable[int]) -> None:
+        """The ends of these triggers were told; their window is not closed yet."""
+        listed = list(numbers)
+        if listed:
+            self._write({"told": listed})
+
     def opened(self, devices: Iterable[str]) -> None:
         """From now on these devices may be driven."""
         self._write({"open": list(devices)})
@@ -107,7 +150,7 @@ class Ledger:
         """Begins the file anew where it has become long; no window is open."""
         if self.lines > 10_000:
             self.file.close()
-            self._begin_anew(waiting, [])
+            self._begin_anew(Kept(list(waiting), [], self.stands, self.number))
 
     def close(self) -> None:
         """Syncs and closes the file, and gives the folder free."""
@@ -140,12 +183,8 @@ def _read(path: str) -> Kept:
             elif "ended" in line:
                 for number in line["ended"]:
                     waiting.pop(number, None)
-            elif "open" in line or "stands" in line:
-                kept.half_done = [str(each) for each in line.get("open", ())]
-                if "stands" in line:
-                    kept.stands = {str(name): str(it) for name, it in line["stands"].items()}
             else:
-                kept.last = max(kept.last, int(line["last"]))
+                kept.read(line)
         except (ValueError, KeyError, TypeError, AttributeError):
             continue
     kept.waiting = list(waiting.values())
@@ -170,7 +209,39 @@ class Records:
         self.day += 1
         self.script, self.head = json.loads(script), head
         self.runs = self.committed = 0
+        self._write_script()
         self._append(head + ("# opened\n" if is_opened else ""))
+
+    def go_on(self) -> bool:
+        """Goes on with the pair of a former life; no where there is none. A window of its script
+        whose text was not written whole is dropped: it is closed once more."""
+        try:
+            with open(self._path("json"), encoding="utf-8") as file:
+                self.script = json.load(file)
+            with open(self._path("record"), encoding="utf-8") as file:
+                lines = file.read().splitlines(keepends=True)
+        except (OSError, ValueError):
+            return False
+        ends = [at for at, line in enumerate(lines) if line.startswith("home ")]
+        text = "".join(lines[: ends[-1] + 1] if ends else
+                       [*lines[:2], *(each for each in lines[2:3] if each == "# opened\n")])
+        with open(self._path("record"), "w", encoding="utf-8") as file:
+            file.write(text)
+        self.script["windows"] = self.script["windows"][: len(ends)]
+        self.head = "".join(lines[:2])
+        self.runs = sum(len(window["runs"]) for window in self.script["windows"])
+        self.committed = len(re.findall(r"^run \d+ \S+ committed", text, re.MULTILINE))
+        return True
+
+    def has(self, at: str) -> bool:
+        """Whether the window of this time is in the pair."""
+        windows = self.script["windows"]
+        return bool(windows) and windows[-1]["at"] == at
+
+    def _write_script(self) -> None:
+        with open(self._path("new"), "w", encoding="utf-8") as file:
+            json.dump(self.script, file)
+        os.replace(self._path("new"), self._path("json"))
 
     def _path(self, ending: str) -> str:
         return os.path.join(self.folder, f"{self.day}.{ending}")
@@ -196,9 +267,7 @@ class Records:
         self.script["windows"].append({"at": at,
                                        "runs": [{"routine": name} for name in routines]})
         self.runs, self.committed = self.runs + len(routines), self.committed + committed
-        with open(self._path("new"), "w", encoding="utf-8") as file:
-            json.dump(self.script, file)
-        os.replace(self._path("new"), self._path("json"))
+        self._write_script()
         self._append(self.above + text)
         self.above = ""
 

@@ -16,6 +16,7 @@ from typing import Any, Protocol
 from lazbendix import (Answer, Dead, Entry, EntryKind, Found, Go, ItemKind, Moved, Over, Refused,
                        Status, Task, Waits)
 
+from lazbendix_hub.again import Window
 from lazbendix_hub.calls import Calls
 from lazbendix_hub.home import Home
 from lazbendix_hub.kinds import Kind
@@ -38,12 +39,14 @@ MOST_STEPS = 400  # of the time line of a run
 
 class Driver(Protocol):
     """The way to one device. `value` is where it was last seen, `is_away` whether it says itself
-    that it is not there."""
+    that it is not there, `is_ordered` whether the way keeps the order of calls over a restart of
+    the hub."""
 
     kind: Kind
     limit: float
     value: int | None
     is_away: bool
+    is_ordered: bool
 
     async def call(self, go: Go) -> Answer:
         """Makes the call. The hub sees to the limit."""
@@ -218,6 +221,7 @@ class LiveHub:
             return False
         self.runs[number] = Run(number, trigger, self.home.routines[trigger.routine].name,
                                 self.loop.time())
+        self.ledger.joined(number, trigger.accepted.number)
         if self.is_open:
             self.counts["joined"] += 1
             self.ledger.opened(self._driven())
@@ -266,7 +270,7 @@ class LiveHub:
 
     async def live(self) -> None:
         """Runs until `stop` has come to its end."""
-        for device in range(self.home.core_count):
+        for device in range(0 if self.is_open else self.home.core_count):
             stand = self.calls.stand(device)
             if not stand.up:
                 self._count(device, False)
@@ -319,6 +323,46 @@ class LiveHub:
                 self._close()
         self.core_seconds += time.perf_counter() - begin
 
+    # -- After a kill
+
+    def go_on(self, window: Window, told: set[int], numbers: dict[str, int]) -> None:
+        """Goes on with the window that a former life left, its end included where the log has it.
+        `numbers` are those of the routines. What was under way is called again: at once where the
+        way to the device keeps the order, or else when its limit is over."""
+        hub = self.calls.hub
+        self.last_time = datetime.datetime.fromisoformat(window.at)
+        self.window_at, self.window_number = window.at, window.number
+        self.began = self.loop.time() - hub.moment / 1000
+        for number, accepted in window.triggers.items():
+            at = self.loop.time() - max(time.time() - accepted.at, 0)
+            trigger = Trigger(accepted, numbers[accepted.routine], at)
+            self.runs[number] = Run(number, trigger, accepted.routine, self.loop.time())
+            self.runs[number].step(hub.moment, "the hub was started anew")
+        for entry in self.calls.entries():
+            self._note(entry)
+        self.to_tell = [each for each in self.to_tell if each.trigger not in told]
+        if hub.opened is None:
+            self._let_out()
+            self._closed()
+            return
+        self.is_open = True
+        self.quiet.clear()
+        for device in range(self.home.core_count):
+            if (device in self.down) != (device in hub.down):
+                self._count(device, device not in hub.down)
+        for go in hub.former:
+            self._call_again(go)
+
+    def _call_again(self, go: Go) -> None:
+        self.out[go.device] = Out(go, self.loop.time())
+        if go.run in self.runs:
+            self.runs[go.run].holds = go.device
+            self.runs[go.run].state = f"calls {self.home.devices[go.device].label} again"
+        if self.drivers[go.device].is_ordered:
+            self.ready.append(go)
+        else:
+            self.loop.call_later(self._limit(go), self._start, go)
+
     # -- Between two windows
 
     def _between(self) -> None:
@@ -341,7 +385,8 @@ class LiveHub:
         away."""
         for device in range(self.home.core_count):
             driver, stand = self.drivers[device], self.calls.stand(device)
-            if driver.is_away and stand.up and self.calls.lose(device):
+            if driver.is_away and stand.up:
+                self.calls.lose(device)
                 self.records.lost(self.home.devices[device].name)
                 self._count(device, False)
             is_turned = device in self.turned and not driver.is_away
@@ -389,6 +434,7 @@ class LiveHub:
         stands = [self.calls.stand(device) for device in range(self.home.core_count)]
         self.believed = {device: stand.value for device, stand in enumerate(stands) if stand.up}
         self.window_number = self.calls.begin_window(self.window_at, PROBES)
+        self.ledger.began(self.window_at)
         self.runs, self.order = {}, []
         while self.queue and self._is_reachable() and self._join(self.queue[0]):
             self.queue.popleft()
@@ -408,11 +454,18 @@ class LiveHub:
 
     def _close(self) -> None:
         self.calls.close_window()
+        self.calls.sync()
+        self._closed()
+        self.calls.tidy()
+
+    def _closed(self) -> None:
+        """The window is closed, and no more can become of it."""
         self.is_open = False
         routines = [self.runs[number].name for number in sorted(self.runs)]
         committed = sum(run.outcome == "committed" for run in self.runs.values())
-        self.records.closed(self.window_number, self.window_at, routines, committed,
-                            self.calls.record())
+        if not self.records.has(self.window_at):
+            self.records.closed(self.window_number, self.window_at, routines, committed,
+                                self.calls.record())
         words = {}
         for device in range(self.home.core_count):
             stand = self.calls.stand(device)
@@ -526,8 +579,8 @@ class LiveHub:
     def _let_out(self) -> None:
         """What was decided goes to the disk, and then to the devices and the world."""
         if self.to_tell or any(go.task in (Task.DRIVE, Task.RESTORE) for go in self.ready):
+            self.ledger.sync()  # it knows the trigger of each run that the log of calls has
             self.calls.sync()
-            self.ledger.sync()
         for go in self.ready:
             self._start(go)
         is_other = bool(self.to_tell or self.ready)
@@ -536,6 +589,7 @@ class LiveHub:
                 watcher.ended(ended)
         # Told first, and noted as done after it: a kill between has it told twice, and not never.
         self.ledger.ended(ended.trigger for ended in self.to_tell if ended.outcome == "aborted")
+        self.ledger.told(ended.trigger for ended in self.to_tell if ended.outcome == "committed")
         self.to_tell, self.ready = [], []
         if is_other:
             self._changed()

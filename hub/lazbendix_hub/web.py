@@ -240,7 +240,6 @@ class Web(Watcher):
         trigger = live.begin(names.index(name), "http")
         if trigger is None:
             return _told(429, f"{name} waits already", {"Retry-After": "2"})
-        live.calls.sync()
         live.ledger.sync()
         return web.json_response({"trigger": trigger.accepted.number}, status=202)
 

@@ -107,7 +107,7 @@ class Stage:
         self.broker = Broker("lazbendix-hub", "lazbendix/status")
         self.broker.connect("127.0.0.1", self.mosquitto.port)
         self.house = House(self.home, self.broker, self.ledger, Records(self.folder))
-        await self.house.open(self.ledger.kept.waiting, self.ledger.kept.half_done, [self.ends])
+        await self.house.open(self.ledger.kept, [self.ends])
         self.live = self.house.live
 
     async def close(self) -> None:
@@ -131,6 +131,7 @@ class Stage:
         self.broker.forget()
         self.broker.client.disconnect()
         self.broker.client.loop_stop()
+        self.live.calls.core.log.fail(OSError("killed"))  # so that nothing more is written
         self.live.calls.close()
         self.ledger.lock.close()
         self.killed.append(self.ledger)  # so that what it has not flushed is not flushed now

@@ -96,8 +96,8 @@ class Scene:
         self.link.begin()
         self.ledger = Ledger(self.room.name)
         self.house = House(self.home, Broker("none", ""), self.ledger, Records(self.room.name),
-                           None, self.link)
-        await self.house.open([], [], [self.ends])
+                           self.link)
+        await self.house.open(self.ledger.kept, [self.ends])
         self.live = self.house.live
         return self
 

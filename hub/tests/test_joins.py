@@ -1,13 +1,12 @@
-"""Runs that join an open window; and the log of calls: what it is told, and that it is synced
-before a device is driven."""
+"""Runs that join an open window; and the log of calls, which is synced before a device is driven
+and before an end is told."""
 import asyncio
 import unittest
-from typing import Any, Callable
-
-from lazbendix import Go
+from typing import Callable
 
 from lazbendix_hub.calls import _can_join
 from lazbendix_hub.kinds import Payload
+from lazbendix_hub.live import Ended, Watcher
 from lazbendix_hub.simulated import Manner
 from tests.stage import HOME, Stage, until
 
@@ -104,35 +103,26 @@ class Lost(unittest.IsolatedAsyncioTestCase):
 
 
 class Logged(unittest.IsolatedAsyncioTestCase):
-    async def test_the_log_is_told_and_synced(self) -> None:
-        told: list[str] = []
-
-        class Log:
-            def called(self, name: str, words: tuple[Any, ...], answer: Any) -> None:
-                told.append(f"go {answer.task.name}" if isinstance(answer, Go) else name)
-
-            def sync(self) -> None:
-                told.append("sync")
+    async def test_the_log_is_on_the_disk_before_a_device_is_driven_and_an_end_told(self) -> None:
         async with Stage(SLOW) as stage:
-            stage.live.calls.log = Log()
-            sent: list[int] = []
+            log = stage.live.calls.core.log
+            sent: list[bool] = []
 
             def noting(send: Callable[[Payload], None]) -> Callable[[Payload], None]:
                 def noted(payload: Payload) -> None:
-                    sent.append(len(told))
+                    sent.append(log.durable == log.count)
                     send(payload)
                 return noted
+
+            class Watching(Watcher):
+                def ended(self, ended: Ended) -> None:
+                    sent.append(log.durable == log.count)
             for driver in stage.house.drivers:
                 setattr(driver, "send", noting(driver.send))
+            stage.live.watchers.append(Watching())
             await stage.run("evening")
-            self.assertEqual(told[:2], ["begin_window", "add_run"])
-            self.assertEqual(told[-1], "close_window")
-            self.assertEqual((told.count("go DRIVE"), told.count("give")), (3, 3))
-            for at in sent:  # synced behind the last drive that was decided
-                last = max(i for i in range(at) if told[i] == "go DRIVE")
-                self.assertIn("sync", told[last:at])
-            end = len(told) - 1 - told[::-1].index("sync")
-            self.assertGreater(end, max(i for i, it in enumerate(told) if it == "give"))
+            self.assertEqual(sent, [True] * 4)
+            self.assertLessEqual(log.syncs, 6)
 
 
 if __name__ == "__main__":

@@ -201,8 +201,11 @@ class Live(unittest.IsolatedAsyncioTestCase):
             await stage.open()
             self.assertEqual([each.number for each in stage.ledger.kept.waiting], [number])
             self.assertIn("lamp", stage.ledger.kept.half_done)
+            self.assertTrue(stage.live.is_open)  # the same window
+            self.assertEqual([each.number for each in stage.live.runs.values()], [1])
             await stage.quiet()
             self.assertEqual([each.outcome for each in stage.ends.all], ["committed"])
+            self.assertEqual(stage.ends.all[0].trigger, number)
             self.assertEqual(stage.stands()["door"], ("locked", "locked", True))
             self.assertIn("runs agree", stage.check())
 
