@@ -111,6 +111,11 @@ class Calls:
     def tidy(self) -> None:
         """Begins the log anew where it has become long; no window is open."""
         if self.core.is_long():
+            self.begin_anew()
+
+    def begin_anew(self) -> None:
+        """Begins the log anew, where it has a window; none is open. Windows are counted from 0."""
+        if self.hub.last_time is not None:
             self.hub.let_out()
             self.hub.begin_anew()
 

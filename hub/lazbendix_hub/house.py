@@ -78,18 +78,25 @@ class House:
         if window is not None:
             self._go_on(window, kept)
         if not self.live.is_open:
+            calls.begin_anew()
             self._begin(calls)
         self._wire()
         self.triggers = Triggers(self.home, self.broker, self.drivers, self.live, self.assistant)
         self.live.watchers.append(self.triggers)
-        under_way = {each.number for each in window.triggers.values()} if window else set()
+        self._begin_waiting(kept, window)
+        self.task = asyncio.get_running_loop().create_task(self.live.live())
+
+    def _begin_waiting(self, kept: Kept, window: Window | None) -> None:
+        """Begins the triggers that were acknowledged, and have neither a run nor an end."""
+        runs = {each.number for each in window.triggers.values()} if window is not None else set()
         numbers = self._numbers()
         for each in kept.waiting:
-            if each.routine in numbers and each.number not in under_way:
+            if each.number in runs:
+                continue
+            if each.routine in numbers and each.number not in kept.over:
                 self.live.begin_again(each, numbers[each.routine])
-            elif each.number not in under_way:
+            else:
                 self.ledger.ended([each.number])
-        self.task = asyncio.get_running_loop().create_task(self.live.live())
 
     def _numbers(self) -> dict[str, int]:
         return {routine.name: at for at, routine in enumerate(self.home.routines)}

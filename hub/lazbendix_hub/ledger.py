@@ -26,8 +26,8 @@ class Accepted:
 class Kept:
     """What a former life left: triggers whose window was not closed, the devices which the window
     that was open may have driven, and where all stood when the last window was closed, as words by
-    names. Of the window that was not closed its time, the trigger of each run, and the triggers
-    whose end was told."""
+    names. Of the window that was not closed its time, the trigger of each run, the triggers whose
+    end was told, and those of them whose run was taken back."""
 
     waiting: list[Accepted] = field(default_factory=list)
     half_done: list[str] = field(default_factory=list)
@@ -36,6 +36,7 @@ class Kept:
     window: str = ""
     runs: dict[int, int] = field(default_factory=dict)
     told: set[int] = field(default_factory=set)
+    over: set[int] = field(default_factory=set)
 
     def lines(self) -> list[dict[str, Any]]:
         """The lines that say so."""
@@ -46,21 +47,25 @@ class Kept:
         if self.window:
             found.append({"window": self.window})
         found += [{"run": run, "of": number} for run, number in self.runs.items()]
-        return found + ([{"told": sorted(self.told)}] if self.told else [])
+        if self.told:
+            found.append({"told": sorted(self.told), "over": sorted(self.over)})
+        return found
 
     def read(self, line: dict[str, Any]) -> None:
         """A line of the file that is not about triggers."""
         if "run" in line:
             self.runs[int(line["run"])] = int(line["of"])
         elif "window" in line:
-            self.window, self.runs, self.told = str(line["window"]), {}, set()
+            self.window, self.runs = str(line["window"]), {}
+            self.told, self.over = set(), set()
         elif "told" in line:
             self.told |= {int(number) for number in line["told"]}
+            self.over |= {int(number) for number in line["over"]}
         elif "open" in line or "stands" in line:
             self.half_done = [str(each) for each in line.get("open", ())]
             if "stands" in line:
                 self.stands = {str(name): str(it) for name, it in line["stands"].items()}
-                self.window, self.runs, self.told = "", {}, set()
+                self.window, self.runs, self.told, self.over = "", {}, set(), set()
         else:
             self.last = max(self.last, int(line["last"]))
 
@@ -109,7 +114,7 @@ class Ledger:
         return accepted
 
     def ended(self, numbers: Iterable[int]) -> None:
-        """These triggers are done: their window was closed, or their run was told as aborted."""
+        """These triggers are done: their window was closed, or they have become too old."""
         listed = list(numbers)
         if listed:
             self._write({"ended": listed})
@@ -122,11 +127,11 @@ class Ledger:
         """The window's run is that of the trigger."""
         self._write({"run": run, "of": trigger})
 
-    def told(self, numbers: Iterable[int]) -> None:
-        """The ends of these triggers were told; their window is not closed yet."""
-        listed = list(numbers)
-        if listed:
-            self._write({"told": listed})
+    def told(self, numbers: list[int], over: list[int]) -> None:
+        """The ends of these triggers were told, and of those that are over the run was taken back;
+        their window is not closed yet."""
+        if numbers:
+            self._write({"told": numbers, "over": over})
 
     def opened(self, devices: Iterable[str]) -> None:
         """From now on these devices may be driven."""

@@ -470,8 +470,7 @@ class LiveHub:
         for device in range(self.home.core_count):
             stand = self.calls.stand(device)
             words[self.home.devices[device].name] = self._record_word(device, stand.value)
-        self.ledger.ended(run.trigger.accepted.number for run in self.runs.values()
-                          if run.outcome != "aborted")
+        self.ledger.ended(run.trigger.accepted.number for run in self.runs.values())
         self.ledger.closed(words)
         self.ledger.tidy(each.accepted for each in self.queue)
         self.runs, self.order, self.believed = {}, [], {}
@@ -588,8 +587,8 @@ class LiveHub:
             for watcher in self.watchers:
                 watcher.ended(ended)
         # Told first, and noted as done after it: a kill between has it told twice, and not never.
-        self.ledger.ended(ended.trigger for ended in self.to_tell if ended.outcome == "aborted")
-        self.ledger.told(ended.trigger for ended in self.to_tell if ended.outcome == "committed")
+        self.ledger.told([ended.trigger for ended in self.to_tell if ended.run],
+                         [ended.trigger for ended in self.to_tell if ended.outcome == "aborted"])
         self.to_tell, self.ready = [], []
         if is_other:
             self._changed()
