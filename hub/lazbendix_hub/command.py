@@ -62,12 +62,17 @@ def parser() -> argparse.ArgumentParser:
     run.add_argument("--plain", action="store_true", help="logs for a terminal, not as JSON")
     run.add_argument("--level", default="INFO", choices=("DEBUG", "INFO", "WARNING", "ERROR"))
     found = of.add_parser("import", help="writes a home.yaml to begin with, of the devices that "
-                                         "Zigbee2MQTT and Tasmota announce")
+                                         "Zigbee2MQTT and Tasmota announce, or of the entities of "
+                                         "Home Assistant")
     found.set_defaults(does=import_devices)
     found.add_argument("--host", default="127.0.0.1")
     found.add_argument("--port", type=int, default=1883)
     found.add_argument("--user", default="")
     found.add_argument("--password-file", default="", help="its first line is the password")
+    found.add_argument("--home-assistant", default="", metavar="URL", help="its entities, as "
+                       "http://homeassistant.local:8123; wants --token-file")
+    found.add_argument("--token-file", default="", help="its first line is a long-lived access "
+                                                        "token of Home Assistant")
     found.add_argument("--zigbee2mqtt", default="zigbee2mqtt", help="its base topic")
     found.add_argument("--seconds", type=float, default=3, help="so long it listens (default 3)")
     demo = of.add_parser("demo", help="a broker, simulated devices, a hub and its page: no "
@@ -177,14 +182,10 @@ def import_devices(asked: argparse.Namespace) -> int:
     """`import`."""
     from lazbendix_hub.importing import imported, listened
 
-    password = ""
-    if asked.password_file:
-        try:
-            with open(asked.password_file, encoding="utf-8") as file:
-                password = file.readline().strip()
-        except (OSError, UnicodeDecodeError) as error:
-            raise BadHome(f"{asked.password_file}: {error}") from None
     begin_logs(True, "ERROR")
+    if asked.home_assistant:
+        return import_entities(asked)
+    password = first_line(asked.password_file)
     place = BrokerPlace(asked.host, asked.port, asked.user, password)
     told = asyncio.run(listened(place, asked.zigbee2mqtt, asked.seconds))
     if told is None:
@@ -192,6 +193,34 @@ def import_devices(asked: argparse.Namespace) -> int:
         return 1
     print(imported(place, asked.zigbee2mqtt, *told), end="")
     return 0
+
+
+def import_entities(asked: argparse.Namespace) -> int:
+    """`import --home-assistant`."""
+    from lazbendix_hub.importing import entities, imported_entities
+
+    token = first_line(asked.token_file)
+    if not token:
+        print("lazbendix-hub: --home-assistant wants --token-file", file=sys.stderr)
+        return 2
+    states = asyncio.run(entities(asked.home_assistant, token, asked.seconds))
+    if states is None:
+        print("lazbendix-hub: Home Assistant did not answer", file=sys.stderr)
+        return 1
+    path = os.path.abspath(asked.token_file)
+    print(imported_entities(asked.home_assistant, path, states), end="")
+    return 0
+
+
+def first_line(path: str) -> str:
+    """The first line of a file, empty where no file is named. Raises `BadHome`."""
+    try:
+        if path:
+            with open(path, encoding="utf-8") as file:
+                return file.readline().strip()
+    except (OSError, UnicodeDecodeError) as error:
+        raise BadHome(f"{path}: {error}") from None
+    return ""
 
 
 def run_demo(asked: argparse.Namespace) -> int:

@@ -84,6 +84,18 @@ class HomeAssistant:
         self._send({"type": "call_service", "domain": service[0], "service": service[1],
                     "service_data": data, "target": {"entity_id": entity}}, told)
 
+    async def states(self) -> list[State]:
+        """The states of all entities, as they are now."""
+        found: asyncio.Future[list[State]] = asyncio.get_running_loop().create_future()
+
+        def answered(told: Any) -> None:
+            if not found.done():
+                listed = told.get("result")
+                found.set_result([each for each in listed if isinstance(each, dict)]
+                                 if isinstance(listed, list) else [])
+        self._send({"type": "get_states"}, answered)
+        return await found
+
     # -- The connection
 
     async def _live(self) -> None:

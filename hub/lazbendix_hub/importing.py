@@ -1,4 +1,5 @@
-"""A home.yaml to begin with, of what Zigbee2MQTT and Tasmota announce of their devices."""
+"""A home.yaml to begin with: of what Zigbee2MQTT and Tasmota announce of their devices, or of the
+entities of Home Assistant."""
 from __future__ import annotations
 
 import asyncio
@@ -9,6 +10,7 @@ from typing import Any, Iterator
 from lazbendix_hub.broker import Broker
 from lazbendix_hub.drivers import parsed
 from lazbendix_hub.home import BrokerPlace, read_home
+from lazbendix_hub.home_assistant import HomeAssistant
 from lazbendix_hub.kinds import real
 
 Row = tuple[str, dict[str, object]]  # a suffix of the name, and the device's table
@@ -43,27 +45,52 @@ async def listened(place: BrokerPlace, base: str, seconds: float
     return zigbee, tasmota
 
 
+async def entities(url: str, token: str, seconds: float) -> list[Any] | None:
+    """The states of all entities of a Home Assistant, none where it does not answer."""
+    there = HomeAssistant(url, token)
+    there.begin()
+    try:
+        await asyncio.wait_for(there.link.up.wait(), max(seconds, 10))
+        return list(await asyncio.wait_for(there.states(), 10))
+    except asyncio.TimeoutError:
+        return None
+    finally:
+        await there.close()
+
+
 def imported(place: BrokerPlace, base: str, zigbee: list[Any], tasmota: list[Any]) -> str:
     """The text of a home.yaml with these devices. Each device is tried: one that would be a mistake
     is a comment."""
-    lines = [f"broker: {{host: {json.dumps(place.host)}, port: {place.port}"
-             + (f", user: {json.dumps(place.user)}, password_file: FILE" if place.user else "")
-             + "}", f"zigbee2mqtt: {json.dumps(base)}", "devices:"]
-    names: set[str] = set()
-    first = ""
-    for label, rows in [*_zigbee(zigbee), *_tasmota(tasmota)][:MOST]:
+    head = (f"broker: {{host: {json.dumps(place.host)}, port: {place.port}"
+            + (f", user: {json.dumps(place.user)}, password_file: FILE" if place.user else "")
+            + "}\n" + f"zigbee2mqtt: {json.dumps(base)}\n")
+    return head + _devices([*_zigbee(zigbee), *_tasmota(tasmota)], "")
+
+
+def imported_entities(url: str, token_file: str, states: list[Any]) -> str:
+    """The text of a home.yaml with these entities of Home Assistant, and no broker."""
+    head = ("broker: off\n" + f"home-assistant: {{url: {json.dumps(url)}, "
+            f"token_file: {json.dumps(token_file)}}}\n")
+    return head + _devices(list(_entities(states)), "home-assistant: {token: x}\n")
+
+
+def _devices(found: list[tuple[str, list[Row]]], head: str) -> str:
+    """`devices` and a first routine. `head` is what each device needs in front of it."""
+    lines, names, first = ["devices:"], set[str](), ""
+    for label, rows in found[:MOST]:
         for suffix, row in rows:
             name = _name(label + suffix, names)
             table: dict[str, object] = {**row, "label": (label + suffix)[:100]}
             words = ", ".join(f"{key}: {json.dumps(value, ensure_ascii=False)}"
                               for key, value in table.items())
             line = f"  {name}: {{{words}}}"
-            try_it = f"devices:\n{line}\nroutines: {{r: {{do: [{{check: {name}, to: x}}]}}}}"
-            found = [each for each in read_home(try_it)[1] if each.line == 2]
-            lines.append(f"  # {found[0].text}\n  # {line.strip()}" if found else line)
-            if not found and not first and row["kind"] in ("switch", "plug", "dimmer"):
+            try_it = f"{head}devices:\n{line}\nroutines: {{r: {{do: [{{check: {name}, to: x}}]}}}}"
+            at = 2 + head.count("\n")
+            wrong = [each for each in read_home(try_it)[1] if each.line == at]
+            lines.append(f"  # {wrong[0].text}\n  # {line.strip()}" if wrong else line)
+            if not wrong and not first and row["kind"] in ("switch", "plug", "dimmer"):
                 first = name
-    if len(lines) == 3:
+    if len(lines) == 1:
         lines.append("  # none was announced: lamp: {topic: NAME, kind: dimmer}")
     lines += ["routines:", "  first:", "    label: The first one",
               f"    do: [{{set: {first or 'DEVICE'}, to: off}}]"]
@@ -159,3 +186,71 @@ def _tasmota(devices: list[Any]) -> Iterator[tuple[str, list[Row]]]:
                 row["relay"] = at
             rows.append((f" {at}" if len(numbers) > 1 else "", row))
         yield _shown(label), rows
+
+
+CONTACTS = ("door", "window", "opening", "garage_door")
+MOTIONS = ("motion", "occupancy", "presence")
+
+
+def _entities(states: list[Any]) -> Iterator[tuple[str, list[Row]]]:
+    for state in states:
+        entity = state.get("entity_id") if isinstance(state, dict) else None
+        if not isinstance(entity, str) or "." not in entity:
+            continue
+        given = state.get("attributes")
+        attributes = given if isinstance(given, dict) else {}
+        name = attributes.get("friendly_name")
+        rows: list[Row] = []
+        for suffix, row in _entity(entity.partition(".")[0], attributes):
+            rows.append((suffix, {"entity": entity, **row}))
+        if rows:
+            yield _shown(name if isinstance(name, str) and name else entity), rows
+
+
+def _entity(domain: str, of: dict[str, Any]) -> Iterator[Row]:
+    """The devices of an entity of this domain with these attributes."""
+    kind = of.get("device_class")
+    match domain:
+        case "light":
+            yield from _light(of.get("supported_color_modes"))
+        case "switch" | "input_boolean" | "fan" | "siren" | "humidifier":
+            yield "", {"kind": "switch"}
+        case "lock" | "valve":
+            yield "", {"kind": domain}
+        case "cover":
+            yield "", {"kind": "blinds" if "current_position" in of else "valve"}
+        case "climate":
+            yield "", {"kind": "climate", **_range(of, "min_temp", "max_temp", "target_temp_step")}
+        case "number" | "input_number":
+            yield "", {"kind": "number", **_range(of, "min", "max", "step")}
+        case "select" | "input_select":
+            yield from _select(of.get("options"))
+        case "binary_sensor" if kind in CONTACTS or kind in MOTIONS:
+            yield "", {"kind": "contact" if kind in CONTACTS else "motion"}
+        case "sensor" if kind == "temperature":
+            yield "", {"kind": "thermometer"}
+
+
+def _light(given: Any) -> Iterator[Row]:
+    modes = {each for each in (given if isinstance(given, list) else []) if isinstance(each, str)}
+    yield "", {"kind": "dimmer" if modes - {"onoff", "unknown"} else "switch"}
+    if "color_temp" in modes:
+        yield " white", {"kind": "colour-temperature"}
+    if modes & {"xy", "hs", "rgb", "rgbw", "rgbww"}:
+        yield " colour", {"kind": "colour"}
+
+
+def _range(of: dict[str, Any], *keys: str) -> dict[str, object]:
+    """The range that the attributes of these names give, as far as they do."""
+    numbers = [real(of.get(key)) for key in keys]
+    return {word: number for word, number in zip(("low", "high", "step"), numbers)
+            if number is not None}
+
+
+def _select(options: Any) -> Iterator[Row]:
+    names: set[str] = set()
+    listed = [each for each in (options if isinstance(options, list) else [])
+              if isinstance(each, str)]
+    values = {_name(each, names): each for each in listed}
+    if len(values) > 1:
+        yield "", {"kind": "choice", "values": values}

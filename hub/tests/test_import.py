@@ -7,8 +7,9 @@ import unittest
 
 from lazbendix_hub.broker import Broker
 from lazbendix_hub.home import BrokerPlace, read_home
-from lazbendix_hub.importing import imported, listened
-from lazbendix_hub.mosquitto import Mosquitto
+from lazbendix_hub.importing import entities, imported, imported_entities, listened
+from lazbendix_hub.mosquitto import Mosquitto, free_port
+from tests.assistant import TOKEN, Assistant, Attributes
 
 
 def thing(name: str, *exposes: object) -> dict[str, object]:
@@ -34,6 +35,17 @@ ZIGBEE = [
     thing("Door", {"type": "lock", "features": [STATE]}),
     thing('Odd "name" <b>/#', {"type": "lock"}),
 ]
+ENTITIES: dict[str, tuple[str, Attributes]] = {
+    "light.hall": ("on", {"friendly_name": "Hall Lamp",
+                          "supported_color_modes": ["color_temp", "xy"]}),
+    "switch.pump": ("off", {}), "sun.sun": ("above_horizon", {}),
+    "cover.south": ("open", {"current_position": 3, "friendly_name": "South"}),
+    "cover.garage": ("open", {"friendly_name": "Garage"}),
+    "climate.bath": ("heat", {"min_temp": 7, "max_temp": 35, "target_temp_step": 0.5,
+                              "friendly_name": "Bath"}),
+    "select.mode": ("Eco", {"options": ["Eco", "Extra warm"], "friendly_name": "Mode"}),
+    "binary_sensor.door": ("off", {"device_class": "door", "friendly_name": "Front door"}),
+    "binary_sensor.update": ("off", {"device_class": "update"})}
 TASMOTA: list[dict[str, object]] = [
     {"t": "pump", "fn": ["Garden pump", None], "rl": [1, 0]},
     {"t": "strip", "fn": ["Strip"], "rl": [1, 1, 2], "lt_st": 1}]
@@ -69,6 +81,30 @@ class Imports(unittest.IsolatedAsyncioTestCase):
         self.assertEqual(names["bath"].kind.of_word("35"), 60)
         self.assertIn("  # `topic` of device `odd_name_b`", text)
 
+    async def test_entities_of_home_assistant(self) -> None:
+        there = Assistant(free_port(), ENTITIES)
+        await there.start()
+        states = await entities(f"http://127.0.0.1:{there.port}", TOKEN, 5)
+        await there.stop()
+        assert states is not None
+        with tempfile.NamedTemporaryFile("w") as file:
+            file.write(TOKEN)
+            file.flush()
+            text = imported_entities("http://hub.example:8123", file.name, states)
+            home, mistakes = read_home(text)
+        assert home is not None, (text, mistakes)
+        self.assertEqual([(device.name, device.topic, type(device.kind).__name__)
+                          for device in sorted(home.devices, key=lambda each: each.name)], [
+            ("bath", "climate.bath", "Steps"), ("front_door", "binary_sensor.door", "Named"),
+            ("garage", "cover.garage", "Named"), ("hall_lamp", "light.hall", "Dimmer"),
+            ("hall_lamp_colour", "light.hall", "Palette"),
+            ("hall_lamp_white", "light.hall", "Steps"), ("mode", "select.mode", "Named"),
+            ("south", "cover.south", "Steps"), ("switch_pump", "switch.pump", "Named")])
+        mode = home.devices[home.numbers["mode"]].kind
+        self.assertEqual(mode.payload(mode.of_word("extra_warm")), {"state": "Extra warm"})
+        bath = home.devices[home.numbers["bath"]].kind
+        self.assertEqual((bath.of_word("7"), bath.high), (0, 56))
+
     def test_any_announcement(self) -> None:
         draw = random.Random(3)
         parts: list[object] = [None, 1, "x", [], {}, True, 1e300, "state", [1], {"name": []}]
@@ -85,8 +121,15 @@ class Imports(unittest.IsolatedAsyncioTestCase):
                             zigbee if isinstance(zigbee, list) else [],
                             tasmota if isinstance(tasmota, list) else [])
             _, mistakes = read_home(text.replace("DEVICE", "none"))
-            self.assertTrue(all("none" in each.text or "no device" in each.text
+            self.assertTrue(all("none" in each.text or "is nothing" in each.text
                                 or "same thing" in each.text for each in mistakes), mistakes)
+            states = spoil([{"entity_id": entity, "state": state, "attributes": attributes}
+                            for entity, (state, attributes) in ENTITIES.items()])
+            text = imported_entities("http://x", "/none", states if isinstance(states, list)
+                                     else [])
+            _, mistakes = read_home(text.replace("DEVICE", "none"))
+            self.assertTrue(all("none" in each.text or "token" in each.text
+                                or "is nothing" in each.text for each in mistakes), mistakes)
 
 
 if __name__ == "__main__":
