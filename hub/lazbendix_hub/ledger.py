@@ -37,10 +37,12 @@ class Kept:
     runs: dict[int, int] = field(default_factory=dict)
     told: set[int] = field(default_factory=set)
     over: set[int] = field(default_factory=set)
+    later: dict[str, float] = field(default_factory=dict)  # what is to be done, and when
 
     def lines(self) -> list[dict[str, Any]]:
         """The lines that say so."""
-        found: list[dict[str, Any]] = [{"last": self.last}, {"stands": self.stands}]
+        found: list[dict[str, Any]] = [{"last": self.last}, {"stands": self.stands},
+                                       {"later": self.later}]
         found += [_line(each) for each in self.waiting]
         if self.half_done:
             found.append({"open": self.half_done})
@@ -58,6 +60,8 @@ class Kept:
         elif "window" in line:
             self.window, self.runs = str(line["window"]), {}
             self.told, self.over = set(), set()
+        elif "later" in line:
+            self.later = {str(key): float(at) for key, at in line["later"].items()}
         elif "told" in line:
             self.told |= {int(number) for number in line["told"]}
             self.over |= {int(number) for number in line["over"]}
@@ -86,6 +90,7 @@ class Ledger:
             raise BlockingIOError(f"another hub lives in {folder}") from None
         self.kept = _read(self.path)
         self.number, self.stands = self.kept.last, dict(self.kept.stands)
+        self.later = dict(self.kept.later)
         self.is_dirty = False
         self.syncs = 0
         self._begin_anew(self.kept)
@@ -133,6 +138,12 @@ class Ledger:
         if numbers:
             self._write({"told": numbers, "over": over})
 
+    def put_off(self, later: dict[str, float]) -> None:
+        """This is to be done later, and nothing else; the times are of the wall's clock."""
+        self.later = later
+        self._write({"later": later})
+        self.file.flush()
+
     def opened(self, devices: Iterable[str]) -> None:
         """From now on these devices may be driven."""
         self._write({"open": list(devices)})
@@ -155,7 +166,7 @@ class Ledger:
         """Begins the file anew where it has become long; no window is open."""
         if self.lines > 10_000:
             self.file.close()
-            self._begin_anew(Kept(list(waiting), [], self.stands, self.number))
+            self._begin_anew(Kept(list(waiting), [], self.stands, self.number, later=self.later))
 
     def close(self) -> None:
         """Syncs and closes the file, and gives the folder free."""

@@ -6,6 +6,7 @@ import asyncio
 import datetime
 import json
 import logging
+import time
 from typing import Callable
 
 from lazbendix_hub.broker import Broker
@@ -28,6 +29,7 @@ class Triggers(Watcher):
                  assistant: HomeAssistant | None = None) -> None:
         self.home, self.broker, self.drivers, self.live = home, broker, drivers, live
         self.loop = asyncio.get_running_loop()
+        self.due: dict[tuple[int, int], float] = {}  # when each timer is over, on the wall's clock
         self.timers: dict[tuple[int, int], asyncio.TimerHandle] = {}
         self.tasks: list[asyncio.Task[None]] = []
         self.after_routine: list[tuple[int, int, RoutineTrigger]] = []
@@ -47,6 +49,7 @@ class Triggers(Watcher):
                         task.add_done_callback(_told_where_failed)
                         self.tasks.append(task)
             broker.subscribe(f"{home.base}/routine/{of.name}/run", self._by_button(routine))
+        self._put_off_again()
 
     def end(self) -> None:
         """Nothing begins any more."""
@@ -108,14 +111,39 @@ class Triggers(Watcher):
         self._cancel(key)
 
         def due() -> None:
-            self.timers.pop(key, None)
+            self._cancel(key)
             self.live.begin(key[0], source)
         self.timers[key] = self.loop.call_later(seconds, due)
+        self.due[key] = time.time() + seconds
+        self._keep()
 
     def _cancel(self, key: tuple[int, int]) -> None:
         timer = self.timers.pop(key, None)
         if timer is not None:
             timer.cancel()
+            del self.due[key]
+            self._keep()
+
+    def _keep(self) -> None:
+        self.live.ledger.put_off({f"{self.home.routines[routine].name}/{at}": due
+                                  for (routine, at), due in self.due.items()})
+
+    def _put_off_again(self) -> None:
+        """What a former life has put off is due when it was; at once where that has passed, unless
+        it has become too old, or the device has left its value meanwhile."""
+        kept = dict(self.live.ledger.later)
+        for routine, of in enumerate(self.home.routines):
+            for at, trigger in enumerate(of.triggers):
+                due = kept.get(f"{of.name}/{at}")
+                if due is None or time.time() - due > of.fresh:
+                    continue
+                if isinstance(trigger, DeviceTrigger) and trigger.after is not None:
+                    value = self.drivers[trigger.device].value
+                    if value is None or not trigger.holds(value):
+                        continue
+                elif not isinstance(trigger, RoutineTrigger):
+                    continue
+                self._later((routine, at), max(due - time.time(), 0), "put off before a restart")
 
     def begun(self, routine: int) -> None:
         """A new trigger of a routine, a new motion say, puts off what was to be done after it."""

@@ -56,6 +56,24 @@ class Triggered(unittest.IsolatedAsyncioTestCase):
             self.assertEqual(await self.told(stage), ["dark"])
             self.assertEqual(stage.devices["lamp"].value, 0)
 
+    async def test_off_after_is_kept_over_a_restart(self) -> None:
+        text = TRIGGERED.replace("after: 0.4s", "after: 2s")
+        for is_turned in (False, True):
+            async with Stage(text) as stage:
+                hall = stage.devices["hall"]
+                hall.turn(1)
+                await asyncio.sleep(0.1)
+                hall.turn(0)
+                await until(lambda: stage.house.triggers.timers)
+                self.assertEqual(await self.told(stage), ["light"])
+                await stage.kill()
+                if is_turned:
+                    hall.turn(1)  # while the hub is away
+                await stage.open()
+                self.assertEqual(len(stage.house.triggers.timers), 0 if is_turned else 1)
+                await asyncio.sleep(2.2)
+                self.assertEqual(await self.told(stage), [] if is_turned else ["dark"])
+
     async def test_by_messages(self) -> None:
         async with Stage(TRIGGERED) as stage:
             stage.sim.publish("z/button", '{"action": "double"}')

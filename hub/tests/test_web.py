@@ -136,8 +136,9 @@ class Reload(unittest.IsolatedAsyncioTestCase):
             await whole.quiet()
             self.assertEqual(whole.devices["lamp"].value in (76, 77), True)
             _, rows = await whole.ask("/history")
-            self.assertEqual([row["routine"] for row in rows],
-                             ["new", "guests", "film", "evening"])
+            routines = [row["routine"] for row in rows]
+            self.assertEqual(routines[:2], ["new", "guests"])
+            self.assertEqual(set(routines[2:]), {"film", "evening"})
             self.assertEqual({row["outcome"] for row in rows}, {"committed"})
 
     async def test_a_wrong_file_is_not_taken(self) -> None:
