@@ -31,7 +31,7 @@ class Broker:
         self.up = asyncio.Event()
         self.on_change: list[Callable[[bool], None]] = []
         self.heard: dict[str, list[Heard]] = {}
-        self.wild = ""  # a filter with wildcards, whose messages `on_other` hears
+        self.wild: tuple[str, ...] = ()  # filters with wildcards, whose messages `on_other` hears
         self.will, self.sent, self.got, self.dropped, self.failed = will, 0, 0, 0, 0
         self.on_other: Heard = lambda topic, payload, is_retained: None  # topics of wildcards
         self._held: deque[tuple[str, bytes, bool]] = deque()
@@ -91,7 +91,7 @@ class Broker:
         if is_up and self.heard:
             self.client.subscribe([(topic, 0) for topic in self.heard])
         if is_up and self.wild:
-            self.client.subscribe(self.wild, 0)
+            self.client.subscribe([(topic, 0) for topic in self.wild])
         if is_up and self.will:
             self.client.publish(self.will, "online", 1, True)
         if is_up == self.is_up:

@@ -62,8 +62,8 @@ def parser() -> argparse.ArgumentParser:
     run.add_argument("--plain", action="store_true", help="logs for a terminal, not as JSON")
     run.add_argument("--level", default="INFO", choices=("DEBUG", "INFO", "WARNING", "ERROR"))
     found = of.add_parser("import", help="writes a home.yaml to begin with, of the devices that "
-                                         "Zigbee2MQTT and Tasmota announce, or of the entities of "
-                                         "Home Assistant")
+                                         "Zigbee2MQTT, Tasmota and others announce, or of the "
+                                         "entities of Home Assistant")
     found.set_defaults(does=import_devices)
     found.add_argument("--host", default="127.0.0.1")
     found.add_argument("--port", type=int, default=1883)
@@ -74,6 +74,8 @@ def parser() -> argparse.ArgumentParser:
     found.add_argument("--token-file", default="", help="its first line is a long-lived access "
                                                         "token of Home Assistant")
     found.add_argument("--zigbee2mqtt", default="zigbee2mqtt", help="its base topic")
+    found.add_argument("--discovery", default="homeassistant", help="the prefix of what others "
+                                                                    "announce to Home Assistant")
     found.add_argument("--seconds", type=float, default=3, help="so long it listens (default 3)")
     demo = of.add_parser("demo", help="a broker, simulated devices, a hub and its page: no "
                                       "hardware, no file")
@@ -187,11 +189,11 @@ def import_devices(asked: argparse.Namespace) -> int:
         return import_entities(asked)
     password = first_line(asked.password_file)
     place = BrokerPlace(asked.host, asked.port, asked.user, password)
-    told = asyncio.run(listened(place, asked.zigbee2mqtt, asked.seconds))
+    told = asyncio.run(listened(place, asked.zigbee2mqtt, asked.seconds, asked.discovery))
     if told is None:
         print("lazbendix-hub: the broker did not answer", file=sys.stderr)
         return 1
-    print(imported(place, asked.zigbee2mqtt, *told), end="")
+    print(imported(place, asked.zigbee2mqtt, told), end="")
     return 0
 
 

@@ -219,9 +219,3 @@ def parsed(payload: bytes) -> Any:
         return json.loads(payload)
     except (ValueError, RecursionError):  # also of bytes that are no UTF-8
         return None
-
-
-def make_driver(device: Device, broker: Broker, links: Mapping[str, Link], base: str) -> MqttDriver:
-    """The driver of a device over MQTT, by its maker."""
-    of = TasmotaDriver if device.maker == "tasmota" else MqttDriver
-    return of(device, broker, links[device.maker], base)

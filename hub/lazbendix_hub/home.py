@@ -51,6 +51,19 @@ class PagePlace:
 
 
 @dataclass(frozen=True)
+class Wire:
+    """How a device that is neither of Zigbee2MQTT nor of Tasmota is spoken to: where its commands
+    go, the property of JSON that is its value, where it says whether it is there."""
+
+    set: str
+    prop: str
+    is_json: bool
+    availability: str
+    online: str
+    offline: str
+
+
+@dataclass(frozen=True)
 class Device:
     """A thing of the house; its topic is an entity where its maker is Home Assistant. `limit` is
     the time in which it has to show a value, `age` that after which a sensor that is silent counts
@@ -65,6 +78,7 @@ class Device:
     age: float
     is_sleepy: bool
     relay: str = ""
+    wire: Wire | None = None
 
 
 @dataclass(frozen=True)
@@ -195,7 +209,8 @@ OTHER_NAMES = {"color": "colour", "color-temperature": "colour-temperature", "li
                "cover": "blinds", "onoff": "switch", "socket": "plug"}
 TASMOTA = ("switch", "plug", "valve", "dimmer", "blinds")
 ASSISTANT = "home-assistant"
-MAKERS = ("zigbee2mqtt", "tasmota", ASSISTANT)
+PLAIN = "mqtt"
+MAKERS = ("zigbee2mqtt", "tasmota", ASSISTANT, PLAIN)
 ENTITY = re.compile(r"[a-z0-9_]+\.[a-z0-9_]+")
 SWITCHED = ("switch", "light", "input_boolean", "fan", "siren", "humidifier", "remote")
 DOMAINS = {"switch": SWITCHED, "plug": SWITCHED, "dimmer": ("light",), "blinds": ("cover",),
@@ -207,7 +222,8 @@ DOMAINS = {"switch": SWITCHED, "plug": SWITCHED, "dimmer": ("light",), "blinds":
 # By maker the properties of blinds, climate, thermometer and number.
 STEPPED = {"zigbee2mqtt": ("position", "occupied_heating_setpoint", "temperature", ""),
            "tasmota": ("ShutterPosition1", "", "", ""),
-           ASSISTANT: ("current_position", "temperature", "number", "number")}
+           ASSISTANT: ("current_position", "temperature", "number", "number"),
+           PLAIN: ("value", "value", "value", "value")}
 DO = ("set", "check")
 
 
@@ -363,6 +379,7 @@ class _Reader:
             self.devices[name] = device if len(self.mistakes.found) == before else None
             if device is not None:
                 prop = next(iter(device.kind.asked()))
+                prop = f"{prop} {device.wire.prop}" if device.wire is not None else prop
                 key = (device.maker, device.topic, f"{device.relay}{prop}")
                 if key in topics:
                     self.mistakes.add(node.keys[name], f"`{name}` is the same thing as "
@@ -378,6 +395,7 @@ class _Reader:
         maker = self.maker(table)
         topic = self.entity(table, kind_word) if maker == ASSISTANT else \
             self.topic(table, "topic", name)
+        wire = self.wire(table, kind_word) if maker == PLAIN else None
         label, relay = table.text("label", name), ""
         if maker == "tasmota":
             relay = str(int(table.number("relay", 0, 0, 32)) or "")
@@ -388,14 +406,43 @@ class _Reader:
         if kind is not None and topic.startswith(("sensor.", "binary_sensor.")) \
                 and maker == ASSISTANT:
             kind.is_sensor = True
-        is_sleepy = table.flag("sleepy", kind is not None and kind.is_sensor)
+        is_sleepy = table.flag("sleepy", wire is not None or (kind is not None and kind.is_sensor))
+        if wire is not None and not wire.set and kind is not None and not kind.is_sensor:
+            self.mistakes.add(node.line, f"{table.what} has no `set`, the topic of its commands")
         own = table.seconds("limit", (kind.limit if kind else None) or limit, 3600)
         age = table.seconds("age", 86400.0, 30 * 86400)
         if kind is not None:
             table.end()
         if kind is None or own is None or age is None:
             return None
-        return Device(name, label, maker, topic, kind, own, age, is_sleepy, relay)
+        return Device(name, label, maker, topic, kind, own, age, is_sleepy, relay, wire)
+
+    def wire(self, table: Table, kind: str) -> Wire:
+        """The topics and words of a device over MQTT that is of no known maker."""
+        prop, is_json = table.text("property"), table.flag("json", kind in ("dimmer", "colour"))
+        wire = Wire(self.topic(table, "set", ""), prop, is_json,
+                    self.topic(table, "availability", ""), table.text("online", "online"),
+                    table.text("offline", "offline"))
+        if is_json and not prop and kind not in ("dimmer", "colour"):
+            self.mistakes.add(table.node.line, f"{table.what} has JSON, and no `property` of it")
+        return wire
+
+    def plain_kind(self, word: str, table: Table) -> Kind:
+        """A kind with two states, whose words `values` may say: one that is sent, or a list of that
+        and of others that are heard."""
+        given, also = kinds.PLAIN_STATES[word]
+        states: dict[str, list[object]] = {name: list(words) for name, words in given.items()}
+        node = table.get("values")
+        rows = Table(node, f"`values` of {table.what}", self.mistakes).rows if node else {}
+        for name, row in rows.items():
+            words = [each.raw for each in row.items or [row] if each.raw]
+            if name not in states:
+                self.mistakes.unknown(row.line, "value", name, states)
+            elif not words or len(words) < len(row.items or [row]):
+                self.mistakes.add(row.line, f"`{name}` is to be a word, or a list of words")
+            else:
+                states[name] = list(words)
+        return kinds.Named("value", states, also, word in ("contact", "motion"))
 
     def maker(self, table: Table) -> str:
         maker = table.text("maker", ASSISTANT if table.has("entity") else MAKERS[0])
@@ -428,6 +475,8 @@ class _Reader:
     def kind(self, word: str, table: Table, maker: str, relay: str) -> Kind | None:
         if maker == ASSISTANT and (word == "dimmer" or word in kinds.ENTITY_STATES):
             return self.entity_kind(word, table)
+        if maker == PLAIN and word in kinds.PLAIN_STATES:
+            return self.plain_kind(word, table)
         power = f"POWER{relay}" if maker == "tasmota" else table.text("property", "state") \
             if word in ("switch", "plug", "valve", "lock") else "state"
         if word in ("switch", "plug"):
@@ -463,7 +512,8 @@ class _Reader:
             "thermometer": (degrees, -40, 80, 0.1, 0),
             "number": (own, 0, 100, 1, 0)}
         prop, low, high, step, tolerance = given[word]
-        prop = table.text("property", prop, not prop)
+        if maker != PLAIN:
+            prop = table.text("property", prop, not prop)
         low = table.number("low", low, -1e6, 1e6)
         high = table.number("high", high, -1e6, 1e6)
         step = table.number("step", step, 0.001, 1e6)
@@ -479,8 +529,9 @@ class _Reader:
                            40.0 if word == "blinds" else None)
 
     def choice(self, table: Table, maker: str) -> Kind | None:
-        is_entity = maker == ASSISTANT
-        prop = table.text("property", "state" if is_entity else "", not is_entity)
+        is_entity = maker in (ASSISTANT, PLAIN)
+        prop = "value" if maker == PLAIN else \
+            table.text("property", "state" if is_entity else "", not is_entity)
         is_sensor = table.flag("sensor")
         node = table.get("values", True)
         if node is None:

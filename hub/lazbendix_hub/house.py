@@ -12,11 +12,12 @@ from lazbendix import Hub, ScriptRefused
 from lazbendix_hub.broker import Broker, BrokerLink, Link
 from lazbendix_hub.again import Core, NotKnown, Place, Window
 from lazbendix_hub.calls import Calls
-from lazbendix_hub.drivers import DeviceDriver, make_driver
-from lazbendix_hub.home import ASSISTANT, Device, Home
+from lazbendix_hub.drivers import DeviceDriver
+from lazbendix_hub.home import ASSISTANT, MAKERS, Device, Home
 from lazbendix_hub.home_assistant import EntityDriver, HomeAssistant
 from lazbendix_hub.ledger import Kept, Ledger, Records
 from lazbendix_hub.live import LiveHub, Watcher
+from lazbendix_hub.plain import make_driver
 from lazbendix_hub.triggers import Triggers
 
 LOG = logging.getLogger("lazbendix.house")
@@ -32,7 +33,7 @@ class House:
         self.home, self.broker, self.ledger = home, broker, ledger
         self.records, self.assistant = records, assistant
         self.place = Place(ledger.folder)
-        self.links = {"zigbee2mqtt": BrokerLink(broker), "tasmota": BrokerLink(broker)}
+        self.links = {maker: BrokerLink(broker) for maker in MAKERS if maker != ASSISTANT}
         self.links["zigbee2mqtt"].bridge(f"{home.zigbee2mqtt}/bridge/state")
         self.drivers = [self._driver(device) for device in home.devices]
         self.live: LiveHub

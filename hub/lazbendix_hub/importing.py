@@ -1,39 +1,57 @@
-"""A home.yaml to begin with: of what Zigbee2MQTT and Tasmota announce of their devices, or of the
-entities of Home Assistant."""
+"""A home.yaml to begin with: of what Zigbee2MQTT, Tasmota and others announce of their devices, or
+of the entities of Home Assistant."""
 from __future__ import annotations
 
 import asyncio
 import json
 import re
+from dataclasses import dataclass, field
 from typing import Any, Iterator
 
 from lazbendix_hub.broker import Broker
+from lazbendix_hub.discovered import CONTACTS, MOTIONS, Row, discovered
 from lazbendix_hub.drivers import parsed
 from lazbendix_hub.home import BrokerPlace, read_home
 from lazbendix_hub.home_assistant import HomeAssistant
 from lazbendix_hub.kinds import real
 
-Row = tuple[str, dict[str, object]]  # a suffix of the name, and the device's table
 TASMOTA = "tasmota/discovery/+/config"
 MOST = 500  # devices
 
 
-async def listened(place: BrokerPlace, base: str, seconds: float
-                   ) -> tuple[list[Any], list[Any]] | None:
-    """What is announced there: the devices of Zigbee2MQTT, and those of Tasmota; none where the
-    broker does not answer."""
-    zigbee: list[Any] = []
-    tasmota: list[Any] = []
+@dataclass
+class Announced:
+    """What is announced at a broker: the devices of Zigbee2MQTT, those of Tasmota, and what others
+    announce to Home Assistant, with its component."""
+
+    zigbee: list[Any] = field(default_factory=list)
+    tasmota: list[Any] = field(default_factory=list)
+    others: list[tuple[str, Any]] = field(default_factory=list)
+
+    def hear(self, topic: str, payload: bytes) -> None:
+        """A message of discovery is heard."""
+        parts = topic.split("/")
+        if topic.startswith("tasmota/"):
+            self.tasmota.append(parsed(payload))
+        elif len(parts) > 3 and parts[-1] == "config":
+            self.others.append((parts[1], parsed(payload)))
+
+
+async def listened(place: BrokerPlace, base: str, seconds: float, prefix: str = "homeassistant"
+                   ) -> Announced | None:
+    """What is announced there; none where the broker does not answer."""
+    found = Announced()
     broker = Broker("", "")
 
     def of_bridge(topic: str, payload: bytes, is_retained: bool) -> None:
         told = parsed(payload)
-        zigbee[:] = told if isinstance(told, list) else []
+        found.zigbee[:] = told if isinstance(told, list) else []
 
     def other(topic: str, payload: bytes, is_retained: bool) -> None:
-        tasmota.append(parsed(payload))
+        found.hear(topic, payload)
     broker.subscribe(f"{base}/bridge/devices", of_bridge)
-    broker.wild, broker.on_other = TASMOTA, other
+    broker.wild = (TASMOTA, f"{prefix}/+/+/config", f"{prefix}/+/+/+/config")
+    broker.on_other = other
     broker.connect(place.host, place.port, place.user, place.password)
     try:
         await asyncio.wait_for(broker.up.wait(), 10)
@@ -42,7 +60,7 @@ async def listened(place: BrokerPlace, base: str, seconds: float
         return None
     finally:
         broker.close()
-    return zigbee, tasmota
+    return found
 
 
 async def entities(url: str, token: str, seconds: float) -> list[Any] | None:
@@ -58,13 +76,15 @@ async def entities(url: str, token: str, seconds: float) -> list[Any] | None:
         await there.close()
 
 
-def imported(place: BrokerPlace, base: str, zigbee: list[Any], tasmota: list[Any]) -> str:
+def imported(place: BrokerPlace, base: str, found: Announced) -> str:
     """The text of a home.yaml with these devices. Each device is tried: one that would be a mistake
     is a comment."""
     head = (f"broker: {{host: {json.dumps(place.host)}, port: {place.port}"
             + (f", user: {json.dumps(place.user)}, password_file: FILE" if place.user else "")
             + "}\n" + f"zigbee2mqtt: {json.dumps(base)}\n")
-    return head + _devices([*_zigbee(zigbee), *_tasmota(tasmota)], "")
+    others = [device for component, told in found.others
+              for device in discovered(component, told)]
+    return head + _devices([*_zigbee(found.zigbee), *_tasmota(found.tasmota), *others], "")
 
 
 def imported_entities(url: str, token_file: str, states: list[Any]) -> str:
@@ -186,10 +206,6 @@ def _tasmota(devices: list[Any]) -> Iterator[tuple[str, list[Row]]]:
                 row["relay"] = at
             rows.append((f" {at}" if len(numbers) > 1 else "", row))
         yield _shown(label), rows
-
-
-CONTACTS = ("door", "window", "opening", "garage_door")
-MOTIONS = ("motion", "occupancy", "presence")
 
 
 def _entities(states: list[Any]) -> Iterator[tuple[str, list[Row]]]:

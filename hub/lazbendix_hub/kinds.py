@@ -236,6 +236,14 @@ ENTITY_STATES: dict[str, tuple[dict[str, list[str]], dict[str, str]]] = {
     "lock": ({"unlocked": ["unlocked", "open"], "locked": ["locked"]}, {}),
     "contact": ({"open": ["on"], "shut": ["off"]}, {"closed": "shut"}),
     "motion": ({"clear": ["off"], "motion": ["on"]}, {"none": "clear"})}
+# The same of any device over MQTT.
+PLAIN_STATES: dict[str, tuple[dict[str, list[str]], dict[str, str]]] = {
+    "switch": ({"off": ["OFF"], "on": ["ON"]}, {}),
+    "plug": ({"off": ["OFF"], "on": ["ON"]}, {}),
+    "valve": ({"shut": ["CLOSE", "CLOSED", "OFF"], "open": ["OPEN", "ON"]}, VALVES),
+    "lock": ({"unlocked": ["UNLOCK", "UNLOCKED"], "locked": ["LOCK", "LOCKED"]}, {}),
+    "contact": ({"open": ["ON"], "shut": ["OFF"]}, {"closed": "shut"}),
+    "motion": ({"clear": ["OFF"], "motion": ["ON"]}, {"none": "clear"})}
 COLOURS = {"white": (0.3127, 0.329), "warm": (0.46, 0.41), "red": (0.68, 0.31),
            "green": (0.17, 0.7), "blue": (0.15, 0.06), "yellow": (0.44, 0.52),
            "orange": (0.57, 0.41), "violet": (0.25, 0.1)}

@@ -79,12 +79,14 @@ class Stage:
     """`async with Stage() as stage`: all of it, up."""
 
     def __init__(self, text: str = HOME, manner: Manner | None = None, folder: str = "",
-                 without: tuple[str, ...] = ()) -> None:
+                 without: tuple[str, ...] = (),
+                 makes_devices: Callable[[Broker], object] | None = None) -> None:
         self.home, self.manner = read(text), manner or Manner(late=0.02, blinds=0.3)
         self.own = None if folder else tempfile.TemporaryDirectory()
         self.folder = folder or (self.own.name if self.own else "")
         self.mosquitto = Mosquitto(self.folder)
-        self.without = without
+        self.without, self.makes_devices = without, makes_devices
+        self.things: object = None
         self.devices: dict[str, Simulated] = {}
         self.ends = Ends()
         self.killed: list[Ledger] = []
@@ -95,7 +97,10 @@ class Stage:
         self.sim = Broker("simulated", "")
         self.sim.connect("127.0.0.1", self.mosquitto.port)
         await self.sim.up.wait()
-        self.devices = make_devices(self.home, self.sim, self.manner)
+        if self.makes_devices is not None:
+            self.things = self.makes_devices(self.sim)
+        else:
+            self.devices = make_devices(self.home, self.sim, self.manner)
         for name in self.without:
             self.devices[name].is_broken = True
         await self.open()

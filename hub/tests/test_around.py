@@ -35,7 +35,8 @@ routines:
 
 
 class Triggered(unittest.IsolatedAsyncioTestCase):
-    async def told(self, stage: Stage) -> list[str]:
+    async def told(self, stage: Stage, least: int = 0) -> list[str]:
+        await until(lambda: len(stage.ends.all) >= least)
         await stage.quiet()
         names = [each.routine for each in stage.ends.all]
         stage.ends.all.clear()
@@ -79,8 +80,7 @@ class Triggered(unittest.IsolatedAsyncioTestCase):
             stage.sim.publish("z/button", '{"action": "double"}')
             stage.sim.publish("z/any", "x", True)
             stage.sim.publish("z/button", '{"action": "single"}')
-            await asyncio.sleep(0.2)
-            self.assertEqual(await self.told(stage), ["button"] * 2)
+            self.assertEqual(await self.told(stage, 2), ["button"] * 2)
             stage.begin("button")  # puts off what is to be done later
             await asyncio.sleep(0.3)
             self.assertEqual(await self.told(stage), ["button"])

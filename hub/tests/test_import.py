@@ -7,7 +7,7 @@ import unittest
 
 from lazbendix_hub.broker import Broker
 from lazbendix_hub.home import BrokerPlace, read_home
-from lazbendix_hub.importing import entities, imported, imported_entities, listened
+from lazbendix_hub.importing import Announced, entities, imported, imported_entities, listened
 from lazbendix_hub.mosquitto import Mosquitto, free_port
 from tests.assistant import TOKEN, Assistant, Attributes
 
@@ -35,6 +35,26 @@ ZIGBEE = [
     thing("Door", {"type": "lock", "features": [STATE]}),
     thing('Odd "name" <b>/#', {"type": "lock"}),
 ]
+# As Home Assistant's documents have the messages of discovery, some with abbreviations.
+DISCOVERY: list[tuple[str, dict[str, object]]] = [
+    ("switch", {"name": "Irrigation", "command_topic": "garden/switch/set",
+                "state_topic": "garden/switch/state", "payload_off": "0", "payload_on": "1",
+                "availability_topic": "garden/up", "payload_not_available": "away"}),
+    ("light", {"name": "Strip", "schema": "json", "brightness": True,
+               "state_topic": "strip/state", "command_topic": "strip/set"}),
+    ("binary_sensor", {"name": "Gate", "device_class": "door", "stat_t": "~/state", "~": "gate",
+                       "val_tpl": "{{ value_json.open }}", "pl_on": "yes", "pl_off": "no"}),
+    ("sensor", {"name": "Cellar", "device_class": "temperature", "state_topic": "cellar/state",
+                "value_template": "{{ value_json['t'] | round(1) }}"}),
+    ("lock", {"name": "Shed", "state_topic": "shed/state", "command_topic": "shed/set"}),
+    ("number", {"name": "Speed", "state_topic": "speed", "command_topic": "speed/set", "min": 0,
+                "max": 7}),
+    ("cover", {"name": "Roof", "position_topic": "roof", "set_position_topic": "roof/set"}),
+    ("switch", {"name": "Odd", "state_topic": "odd", "command_topic": "odd/set",
+                "value_template": "{{ 'ON' if value_json.a > 3 else 'OFF' }}"}),
+    ("switch", {"name": "Own", "state_topic": "x", "command_topic": "y",
+                "origin": {"name": "Zigbee2MQTT"}}),
+    ("camera", {"name": "Camera", "topic": "x"})]
 ENTITIES: dict[str, tuple[str, Attributes]] = {
     "light.hall": ("on", {"friendly_name": "Hall Lamp",
                           "supported_color_modes": ["color_temp", "xy"]}),
@@ -62,20 +82,34 @@ class Imports(unittest.IsolatedAsyncioTestCase):
             seer.publish("zigbee2mqtt/bridge/devices", json.dumps(ZIGBEE), True)
             for told in TASMOTA:
                 seer.publish(f"tasmota/discovery/{told['t']}/config", json.dumps(told), True)
+            for at, (component, told) in enumerate(DISCOVERY):
+                node = "node/" if at % 2 else ""
+                seer.publish(f"homeassistant/{component}/{node}d{at}/config", json.dumps(told),
+                             True)
             await asyncio.sleep(0.2)
             place = BrokerPlace(port=mosquitto.port)
             found = await listened(place, "zigbee2mqtt", 0.5)
             seer.close()
             mosquitto.stop()
         assert found is not None
-        text = imported(place, "zigbee2mqtt", *found)
+        text = imported(place, "zigbee2mqtt", found)
         home, mistakes = read_home(text)
         assert home is not None, (text, mistakes)
         names = {device.name: device for device in home.devices}
         self.assertEqual(sorted(names), [
-            "bath", "blinds", "d_0x00158d_contact", "d_0x00158d_temperature", "door",
-            "garden_pump", "hall_lamp", "hall_lamp_colour", "hall_lamp_white", "strip_1", "strip_2",
-            "strip_3", "wall_l1", "wall_l2"])
+            "bath", "blinds", "cellar", "d_0x00158d_contact", "d_0x00158d_temperature", "door",
+            "garden_pump", "gate", "hall_lamp", "hall_lamp_colour", "hall_lamp_white",
+            "irrigation", "roof", "shed", "speed", "strip", "strip_1", "strip_2", "strip_3",
+            "wall_l1", "wall_l2"])
+        irrigation = names["irrigation"]
+        self.assertEqual((irrigation.topic, irrigation.kind.payload(1)),
+                         ("garden/switch/state", {"value": "1"}))
+        assert irrigation.wire is not None and names["gate"].wire is not None
+        self.assertEqual((irrigation.wire.set, irrigation.wire.availability,
+                          irrigation.wire.offline), ("garden/switch/set", "garden/up", "away"))
+        self.assertEqual((names["gate"].topic, names["gate"].wire.prop), ("gate/state", "open"))
+        self.assertEqual(names["gate"].kind.value({"value": "yes"}),
+                         names["gate"].kind.of_word("open"))
         self.assertEqual(names["wall_l2"].kind.payload(1), {"state_l2": "ON"})
         self.assertEqual(names["strip_2"].kind.payload(1), {"POWER2": "ON"})
         self.assertEqual(names["bath"].kind.of_word("35"), 60)
@@ -117,9 +151,10 @@ class Imports(unittest.IsolatedAsyncioTestCase):
             return [spoil(each) for each in value] if isinstance(value, list) else value
         for _ in range(40):
             zigbee, tasmota = spoil(ZIGBEE), spoil(TASMOTA)
-            text = imported(BrokerPlace(), "zigbee2mqtt",
-                            zigbee if isinstance(zigbee, list) else [],
-                            tasmota if isinstance(tasmota, list) else [])
+            others = [(component, spoil(told)) for component, told in DISCOVERY]
+            text = imported(BrokerPlace(), "zigbee2mqtt", Announced(
+                zigbee if isinstance(zigbee, list) else [],
+                tasmota if isinstance(tasmota, list) else [], others))
             _, mistakes = read_home(text.replace("DEVICE", "none"))
             self.assertTrue(all("none" in each.text or "is nothing" in each.text
                                 or "same thing" in each.text for each in mistakes), mistakes)
