@@ -21,11 +21,8 @@ if [ -n "$missing" ]; then
 fi
 if [ -z "${LAZBENDIX_LIBRARY:-}" ] && [ ! -e "$here/../library/out/liblazbendix.so" ] && [ ! -e "$here/out/liblazbendix.so" ]; then
     command -v rt >/dev/null || { echo "setup: there is no library: build it by library/build.sh, or name one by LAZBENDIX_LIBRARY" >&2; exit 1; }
-    for each in tools dev; do
-        [ ! -e "$here/../$each/unproved_build.py" ] || build=$here/../$each/unproved_build.py
-    done
     echo "setup: building the library, unproved: this takes some minutes" >&2
-    python3 "$build" "$here/out" library
+    (cd "$here/.." && python3 -m dev.unproved_build "$here/out" library)
 fi
 ln -sf "$here/lazbendix-hub" /usr/local/bin/lazbendix-hub
 echo "setup: lazbendix-hub is there; try: lazbendix-hub demo"
