@@ -11,7 +11,7 @@ wanted="mosquitto python3 python3-paho-mqtt python3-aiohttp python3-croniter pyt
 [ "${1:-}" != --tests ] || wanted="$wanted mypy"
 missing=
 for each in $wanted; do
-    dpkg -s "$each" >/dev/null 2>&1 || missing="$missing $each"
+    [ "$(dpkg-query -W -f='${db:Status-Status}' "$each" 2>/dev/null)" = installed ] || missing="$missing $each"
 done
 if [ -n "$missing" ]; then
     [ -n "$(ls /var/lib/apt/lists 2>/dev/null | grep -v -e lock -e partial -e auxfiles)" ] || apt-get update
