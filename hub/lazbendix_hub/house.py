@@ -144,6 +144,7 @@ class House:
                 self.records.lost(names[number])
         self.ledger.closed({name: self._word(number, starts[name])
                             for number, name in enumerate(names)})
+        self.live.count_all()
 
     def _word(self, number: int, value: int) -> str:
         kind = self.home.devices[number].kind

@@ -268,12 +268,15 @@ class LiveHub:
                     timer.cancel()
         self._is_awake = False
 
+    def count_all(self) -> None:
+        """Counts the devices that are down, between two windows."""
+        for device in range(self.home.core_count):
+            is_up = self.calls.stand(device).up
+            if is_up == (device in self.down):
+                self._count(device, is_up)
+
     async def live(self) -> None:
         """Runs until `stop` has come to its end."""
-        for device in range(0 if self.is_open else self.home.core_count):
-            stand = self.calls.stand(device)
-            if not stand.up:
-                self._count(device, False)
         while not (self.is_stopping and not self.is_open):
             self._look()
             await self._wait(self._patience())
