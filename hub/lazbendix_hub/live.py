@@ -18,7 +18,7 @@ from lazbendix import (Answer, Dead, Entry, EntryKind, Found, Go, ItemKind, Move
 
 from lazbendix_hub.again import Window
 from lazbendix_hub.calls import Calls
-from lazbendix_hub.home import Home
+from lazbendix_hub.home import ASSISTANT, Home
 from lazbendix_hub.kinds import Kind
 from lazbendix_hub.ledger import Accepted, Ledger, Records
 from lazbendix_hub.words import cause_kind, cause_text, waits_text
@@ -811,7 +811,14 @@ class LiveHub:
                 "runs": runs, **self._order(), "queue": queue,
                 "devices": [self._device(number) for number in range(len(self.home.devices))],
                 "counts": dict(self.counts), "stopping": self.is_stopping,
-                "reachable": self._is_reachable()}
+                "away": self._away()}
+
+    def _away(self) -> list[str]:
+        """What carries calls, and is not there."""
+        makers = {self.home.devices[number].maker for number in range(self.home.core_count)
+                  if not self.drivers[number].is_reachable()}
+        names = {"zigbee2mqtt": "Zigbee2MQTT or the broker", ASSISTANT: "Home Assistant"}
+        return sorted({names.get(maker, "the broker") for maker in makers})
 
     def _order(self) -> dict[str, list[str]]:
         """The order so far: what is final, with the failures of devices, and the runs after it,

@@ -94,12 +94,30 @@ class Scene:
         assert self.home.assistant is not None
         self.link = HomeAssistant(self.home.assistant.url, self.home.assistant.token)
         self.link.begin()
+        await self.open()
+        return self
+
+    async def open(self) -> None:
+        """A life of the hub."""
         self.ledger = Ledger(self.room.name)
         self.house = House(self.home, Broker("none", ""), self.ledger, Records(self.room.name),
                            self.link)
         await self.house.open(self.ledger.kept, [self.ends])
         self.live = self.house.live
-        return self
+
+    async def kill(self) -> None:
+        """Its end, at any moment; the connection is that of the next life too."""
+        assert self.house.task is not None
+        self.house.task.cancel()
+        await asyncio.gather(self.house.task, return_exceptions=True)
+        for out in self.live.out.values():
+            if out.task is not None:
+                out.task.cancel()
+        self.house.triggers.end()
+        self.link.forget()
+        self.live.calls.core.log.fail(OSError("killed"))
+        self.live.calls.close()
+        self.ledger.lock.close()
 
     async def __aexit__(self, *why: Any) -> None:
         await self.live.stop(5)
@@ -205,6 +223,25 @@ class Entities(unittest.IsolatedAsyncioTestCase):
             await scene.quiet()
             self.assertEqual([each.outcome for each in scene.ends.all], ["committed"])
             self.assertEqual(scene.live.counts["dead"], 0)
+
+    async def test_a_kill(self) -> None:
+        async with Scene() as scene:
+            scene.there.late = 1.0
+            names = [routine.name for routine in scene.home.routines]
+            scene.live.begin(names.index("half"), "test")
+            await until(lambda: scene.there.calls)
+            await scene.kill()
+            begin = asyncio.get_running_loop().time()
+            await scene.open()
+            self.assertTrue(scene.live.is_open)
+            before = len(scene.there.calls)
+            await until(lambda: len(scene.there.calls) > before, 20)
+            waited = asyncio.get_running_loop().time() - begin
+            self.assertGreater(waited, 2)  # the limit: a call of the former life has ended
+            scene.there.late = 0.01
+            await scene.quiet()
+            self.assertEqual([each.outcome for each in scene.ends.all], ["committed"])
+            self.assertIn("1 windows with 1 runs agree", checked(scene.room.name))
 
     async def test_what_begins_a_routine(self) -> None:
         async with Scene({"input_button.night": ("unknown", {})}) as scene:

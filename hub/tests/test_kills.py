@@ -3,6 +3,9 @@ import asyncio
 import os
 import unittest
 from typing import Any
+from unittest import mock
+
+from lazbendix import LogRefused
 
 from lazbendix_hub.simulated import Manner
 from tests.stage import HOME, Stage, until
@@ -115,6 +118,29 @@ class Kills(unittest.IsolatedAsyncioTestCase):
                                  ["committed", "committed"])
                 self.fits(stage)
                 self.assertIn("runs agree", stage.check())
+
+    async def test_a_disk_that_refuses(self) -> None:
+        async with Stage(SLOW) as stage:
+            await stage.run("guests")
+            before = {name: device.commands for name, device in stage.devices.items()}
+
+            def fails(file: int) -> None:
+                raise OSError(28, "No space left on device")
+            with mock.patch("lazbendix.call_log.sync_file", fails):
+                number = stage.begin("half")
+                assert stage.house.task is not None
+                await until(stage.house.task.done)
+                with self.assertRaises(LogRefused):
+                    stage.house.task.result()
+            await asyncio.sleep(0.2)
+            self.assertEqual({name: device.commands for name, device in stage.devices.items()},
+                             before)  # nothing was let out
+            await self.again(stage)
+            await stage.quiet()
+            self.assertEqual([(each.trigger, each.outcome) for each in stage.ends.all][1:],
+                             [(number, "committed")])
+            self.fits(stage)
+            self.assertIn("2 windows with 2 runs agree", stage.check())
 
     async def test_the_log_is_begun_anew(self) -> None:
         from lazbendix_hub import again

@@ -140,6 +140,7 @@ class Live(unittest.IsolatedAsyncioTestCase):
             stage.begin("evening")
             await asyncio.sleep(0.3)
             self.assertFalse(stage.live.is_open)
+            self.assertEqual(stage.live.shown()["away"], ["Zigbee2MQTT or the broker"])
             stage.sim.publish("zigbee2mqtt/bridge/state", '{"state":"online"}', True)
             await stage.quiet()
             self.assertEqual(stage.ends.all[0].outcome, "committed")
