@@ -61,9 +61,20 @@ def parser() -> argparse.ArgumentParser:
                                                            f"(default {FOLDER})")
     run.add_argument("--plain", action="store_true", help="logs for a terminal, not as JSON")
     run.add_argument("--level", default="INFO", choices=("DEBUG", "INFO", "WARNING", "ERROR"))
-    found = of.add_parser("import", help="writes a home.yaml to begin with, of the devices that "
-                                         "Zigbee2MQTT, Tasmota and others announce, or of the "
-                                         "entities of Home Assistant")
+    import_words(of.add_parser("import", help="writes a home.yaml to begin with, of the devices "
+                               "that Zigbee2MQTT, Tasmota and others announce, or of the "
+                               "entities of Home Assistant"))
+    demo = of.add_parser("demo", help="a broker, simulated devices, a hub and its page: no "
+                                      "hardware, no file")
+    demo.set_defaults(does=run_demo)
+    demo.add_argument("--seconds", type=float, default=0, help="ends by itself after so long")
+    demo.add_argument("--port", type=int, default=8099, help="of the page (default 8099)")
+    demo.add_argument("--no-browser", action="store_true", help="opens no browser")
+    return top
+
+
+def import_words(found: argparse.ArgumentParser) -> None:
+    """The words of `import`."""
     found.set_defaults(does=import_devices)
     found.add_argument("--host", default="127.0.0.1")
     found.add_argument("--port", type=int, default=1883)
@@ -77,13 +88,6 @@ def parser() -> argparse.ArgumentParser:
     found.add_argument("--discovery", default="homeassistant", help="the prefix of what others "
                                                                     "announce to Home Assistant")
     found.add_argument("--seconds", type=float, default=3, help="so long it listens (default 3)")
-    demo = of.add_parser("demo", help="a broker, simulated devices, a hub and its page: no "
-                                      "hardware, no file")
-    demo.set_defaults(does=run_demo)
-    demo.add_argument("--seconds", type=float, default=0, help="ends by itself after so long")
-    demo.add_argument("--port", type=int, default=8099, help="of the page (default 8099)")
-    demo.add_argument("--no-browser", action="store_true", help="opens no browser")
-    return top
 
 
 def run_hub(asked: argparse.Namespace) -> int:

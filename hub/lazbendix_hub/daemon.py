@@ -14,11 +14,12 @@ from lazbendix_hub.broker import Broker
 from lazbendix_hub.discovery import Discovery
 from lazbendix_hub.figures import Figures
 from lazbendix_hub.history import History
-from lazbendix_hub.home import Home, read_home
+from lazbendix_hub.home import Home
 from lazbendix_hub.home_assistant import HomeAssistant
 from lazbendix_hub.house import House, refusal
 from lazbendix_hub.ledger import Kept, Ledger, Records
 from lazbendix_hub.live import Ended, LiveHub, Watcher
+from lazbendix_hub.reading import read_home
 from lazbendix_hub.web import Web
 
 LOG = logging.getLogger("lazbendix.daemon")

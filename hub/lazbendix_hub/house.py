@@ -9,8 +9,8 @@ from typing import Sequence
 
 from lazbendix import Hub, ScriptRefused
 
-from lazbendix_hub.broker import Broker, BrokerLink, Link
 from lazbendix_hub.again import Core, NotKnown, Place, Window
+from lazbendix_hub.broker import Broker, BrokerLink, Link
 from lazbendix_hub.calls import Calls
 from lazbendix_hub.drivers import DeviceDriver
 from lazbendix_hub.home import ASSISTANT, MAKERS, Device, Home

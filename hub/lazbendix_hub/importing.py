@@ -11,9 +11,10 @@ from typing import Any, Iterator
 from lazbendix_hub.broker import Broker
 from lazbendix_hub.discovered import CONTACTS, MOTIONS, Row, discovered
 from lazbendix_hub.drivers import parsed
-from lazbendix_hub.home import BrokerPlace, read_home
+from lazbendix_hub.home import BrokerPlace
 from lazbendix_hub.home_assistant import HomeAssistant
 from lazbendix_hub.kinds import real
+from lazbendix_hub.reading import read_home
 
 TASMOTA = "tasmota/discovery/+/config"
 MOST = 500  # devices

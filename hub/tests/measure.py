@@ -19,10 +19,10 @@ from typing import Any
 import aiohttp
 
 from lazbendix_hub.broker import Broker, BrokerLink
-from lazbendix_hub.plain import make_driver
 from lazbendix_hub.history import History
 from lazbendix_hub.home import Home
 from lazbendix_hub.mosquitto import Mosquitto, free_port
+from lazbendix_hub.plain import make_driver
 from lazbendix_hub.simulated import Manner, make_devices
 from tests.stage import read
 

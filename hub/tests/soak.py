@@ -21,8 +21,8 @@ import aiohttp
 
 from lazbendix_hub.broker import Broker
 from lazbendix_hub.history import History
-from lazbendix_hub.home import read_home
 from lazbendix_hub.mosquitto import Mosquitto, free_port
+from lazbendix_hub.reading import read_home
 from lazbendix_hub.simulated import Manner, make_devices
 from tests.stage import TOP
 

@@ -11,11 +11,12 @@ import time
 from typing import Any, Callable
 
 from lazbendix_hub.broker import Broker
-from lazbendix_hub.home import Home, read_home
+from lazbendix_hub.home import Home
 from lazbendix_hub.house import House
 from lazbendix_hub.ledger import Ledger, Records
 from lazbendix_hub.live import Ended, Watcher
 from lazbendix_hub.mosquitto import Mosquitto
+from lazbendix_hub.reading import read_home
 from lazbendix_hub.simulated import Manner, Simulated, make_devices
 
 TOP = os.path.dirname(os.path.dirname(os.path.dirname(os.path.abspath(__file__))))

@@ -8,12 +8,12 @@ from typing import Any
 
 from lazbendix_hub import home_assistant
 from lazbendix_hub.broker import Broker
-from lazbendix_hub.home import read_home
 from lazbendix_hub.home_assistant import HomeAssistant, service_of, socket_url, told_of
 from lazbendix_hub.house import House
 from lazbendix_hub.kinds import Payload
 from lazbendix_hub.ledger import Ledger, Records
 from lazbendix_hub.mosquitto import free_port
+from lazbendix_hub.reading import read_home
 from tests.assistant import TOKEN, Assistant, Attributes
 from tests.stage import Ends, checked, read, until
 

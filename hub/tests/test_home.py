@@ -2,8 +2,9 @@
 import random
 import unittest
 
-from lazbendix_hub.home import DeviceTrigger, SunTrigger, TopicTrigger, read_home
+from lazbendix_hub.home import DeviceTrigger, SunTrigger, TopicTrigger
 from lazbendix_hub.house import refusal
+from lazbendix_hub.reading import read_home
 from lazbendix_hub.yamls import seconds_of
 from tests.stage import HOME, read
 

@@ -6,9 +6,10 @@ import tempfile
 import unittest
 
 from lazbendix_hub.broker import Broker
-from lazbendix_hub.home import BrokerPlace, read_home
+from lazbendix_hub.home import BrokerPlace
 from lazbendix_hub.importing import Announced, entities, imported, imported_entities, listened
 from lazbendix_hub.mosquitto import Mosquitto, free_port
+from lazbendix_hub.reading import read_home
 from tests.assistant import TOKEN, Assistant, Attributes
 
 
@@ -72,7 +73,8 @@ TASMOTA: list[dict[str, object]] = [
 
 
 class Imports(unittest.IsolatedAsyncioTestCase):
-    async def test_what_is_announced(self) -> None:
+    async def announced(self) -> str:
+        """The home.yaml of what is announced at a broker."""
         with tempfile.TemporaryDirectory() as folder:
             mosquitto = Mosquitto(folder)
             mosquitto.start()
@@ -92,7 +94,10 @@ class Imports(unittest.IsolatedAsyncioTestCase):
             seer.close()
             mosquitto.stop()
         assert found is not None
-        text = imported(place, "zigbee2mqtt", found)
+        return imported(place, "zigbee2mqtt", found)
+
+    async def test_what_is_announced(self) -> None:
+        text = await self.announced()
         home, mistakes = read_home(text)
         assert home is not None, (text, mistakes)
         names = {device.name: device for device in home.devices}

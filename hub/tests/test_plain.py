@@ -4,7 +4,7 @@ import json
 import unittest
 
 from lazbendix_hub.broker import Broker
-from lazbendix_hub.home import read_home
+from lazbendix_hub.reading import read_home
 from tests.stage import Stage, read, until
 
 HOME = """
