@@ -33,6 +33,7 @@ GATHER = 0.001  # s: where no run can join, a burst of triggers shares a window
 OLDEST = 30.0  # s: where something waits for a quiet moment, an older window takes no more runs
 BACK_OFF = (1.0, 300.0)  # s: the first time between two looks for a device, and the longest
 ASKING = 0.03  # s between two devices that are asked where they are
+SLEPT, HEARING = 0.25, 1.0  # s: a limit that is noticed so late is not over, but for so long more
 SECOND = datetime.timedelta(seconds=1)
 MOST_STEPS = 400  # of the time line of a run
 
@@ -637,6 +638,10 @@ class LiveHub:
             return
         if not self.drivers[go.device].is_reachable():
             out.timer = self.loop.call_later(self._limit(go), self._over, go)
+            return
+        if out.timer is not None and self.loop.time() - out.timer.when() > SLEPT:
+            # This process was asleep: what the device said meanwhile is perhaps not heard yet.
+            out.timer = self.loop.call_later(min(self._limit(go), HEARING), self._over, go)
             return
         if out.task is not None:
             out.task.cancel()

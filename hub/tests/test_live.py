@@ -62,6 +62,15 @@ class Live(unittest.IsolatedAsyncioTestCase):
             told, = await stage.run("half")
             self.assertEqual(told.outcome, "committed")
 
+    async def test_a_limit_does_not_pass_while_the_hub_sleeps(self) -> None:
+        async with Stage() as stage:
+            stage.begin("evening")
+            await until(lambda: stage.live.out)
+            time.sleep(1.2)  # as where the machine is put to sleep, or has much else to do
+            await stage.quiet()
+            self.assertEqual([each.outcome for each in stage.ends.all], ["committed"])
+            self.assertEqual(stage.live.counts["dead"], 0)
+
     async def test_hands(self) -> None:
         async with Stage() as stage:
             await stage.run("evening")
