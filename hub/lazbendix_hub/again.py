@@ -102,6 +102,8 @@ class Place:
     def window(self, core: Core, kept: Kept) -> Window | None:
         """The last window of the log, where the ledger of the former life does not have its end;
         none where it has, or where no window was begun. Raises `NotKnown`."""
+        if core.hub.begun is not None:  # the end of the log was torn off before it was opened
+            core.hub.window(core.hub.begun)
         number = core.hub.opened
         is_left = number is not None or (kept.window and kept.window == core.hub.last_time)
         if not is_left or core.hub.last_time is None:

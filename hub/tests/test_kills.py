@@ -91,6 +91,22 @@ class Kills(unittest.IsolatedAsyncioTestCase):
                 await stage.run("film")
                 self.assertIn("2 windows with 2 runs agree", stage.check())
 
+    async def test_after_a_window_was_begun_and_before_it_was_opened(self) -> None:
+        async with Stage(SLOW) as stage:
+            def stop_here(number: int) -> None:
+                stage.ledger.sync()
+                stage.live.calls.core.log.sync()
+                raise KeyError("the hub is killed here")
+            setattr(stage.live.calls, "window", stop_here)
+            numbers = {stage.begin("evening"), stage.begin("film")}
+            assert stage.house.task is not None
+            await until(stage.house.task.done)
+            await self.again(stage)
+            await stage.quiet()
+            self.assertEqual({each.trigger for each in stage.ends.all}, numbers)
+            self.fits(stage)
+            self.assertIn("with 2 runs agree", stage.check())
+
     async def test_another_home_or_a_damaged_log(self) -> None:
         for is_damaged in (False, True):
             async with Stage(SLOW) as stage:
