@@ -104,62 +104,43 @@ def record(called: list[str], script: bytes) -> bytes:
 
 
 def instructions(programs: dict[str, str]) -> None:
-    """The table of instructions."""
-    head_row(
-        "Day",
-        "Mode",
-        "Program",
-        "Plain program",
-        "Ratio",
-        "without reading: program",
-        "plain program",
-        "Ratio",
-    )
+    """The table of replays."""
+    head_row("Day", *(f"`{mode}`" for mode in MODES))
     for day, sizes in DAYS.items():
         script = with_windows(sizes, WINDOWS)
-        for mode in MODES:
-            compared(programs, words(mode), script, PLAYS, day, f"`{mode}`")
+        row(day, *(compared(programs, words(mode), script, PLAYS) for mode in MODES))
 
 
 def compared(
-    programs: dict[str, str], asked: list[str], given: bytes, parts: dict[str, str], *cells: str
-) -> None:
-    """A row of the instructions of this call and of its part, by the program and the plain one,
-    which must print the same.
+    programs: dict[str, str], asked: list[str], given: bytes, parts: dict[str, str]
+) -> str:
+    """How many times the instructions of the plain program the program takes for this call, and in
+    brackets for its part. Both must print the same.
     """
     calls = {which: [path, *asked] for which, path in programs.items()}
     first, second = (record(called, given) for called in calls.values())
     if first != second:
-        sys.exit(f"ratio: the two differ in {' '.join(asked)}, {' '.join(cells)}")
+        sys.exit(f"ratio: the two differ in {' '.join(asked)}")
     whole, part = zip(*(counted(parts[which], called, given) for which, called in calls.items()))
-    row(
-        *cells,
-        *(f"{count:,}" for count in whole),
-        f"{whole[0] / whole[1]:.2f}",
-        *(f"{count:,}" for count in part),
-        f"{part[0] / part[1]:.2f}",
-    )
+    return f"{whole[0] / whole[1]:.2f} ({part[0] / part[1]:.2f})"
 
 
 def judged(programs: dict[str, str]) -> None:
     """The table of checks and trials."""
+    trials = [WINDOWS, 6 * WINDOWS]
     print()
-    head_row(
-        "Call",
-        "Of",
-        "Program",
-        "Plain program",
-        "Ratio",
-        "judging alone: program",
-        "plain program",
-        "Ratio",
-    )
-    for day, sizes in DAYS.items():
+    head_row("", *DAYS, *(f"{windows} windows" for windows in trials))
+    checks = []
+    for sizes in DAYS.values():
         script = with_windows(sizes, WINDOWS)
         given = with_record(script, record([programs["program"], "replay"], script))
-        compared(programs, ["check"], given, JUDGES, "`check`", f"{day}, `ev`")
-    for windows in [WINDOWS, 6 * WINDOWS]:
-        compared(programs, ["trial", str(windows)], b"", JUDGES, "`trial`", f"{windows} windows")
+        checks.append(compared(programs, ["check"], given, JUDGES))
+    row("`check`, `ev`", *checks, *("" for _ in trials))
+    row(
+        "`trial`",
+        *("" for _ in DAYS),
+        *(compared(programs, ["trial", str(windows)], b"", JUDGES) for windows in trials),
+    )
 
 
 def with_record(script: bytes, told: bytes) -> bytes:

@@ -43,6 +43,7 @@ TICK = os.sysconf("SC_CLK_TCK")
 PAGE = f"{ROOT}/docs/PERFORMANCE.md"
 BEGIN, END = "<!-- gate -->\n", "<!-- end of gate -->\n"
 KINDS = ("proof", "tests", "seed", "edit", "build")
+SHORT = 200  # crates with fewer seconds have one row together
 
 
 # A process of the gate: the crate, what it does there, its processor seconds, and the most memory,
@@ -225,6 +226,23 @@ def whole(row: dict[str, float]) -> float:
     return sum(row[it] for it in KINDS)
 
 
+def together(rows: list[dict[str, float]]) -> dict[str, float]:
+    """The row of these crates together: sums, and the most memory."""
+    sums = {it: sum(row[it] for row in rows) for it in (*KINDS, "edits")}
+    return {**sums, "memory": max(row["memory"] for row in rows)}
+
+
+def print_row(name: str, row: dict[str, float]) -> None:
+    cells = [f"{row[it]:.0f}" if row[it] else "" for it in ("proof", "tests", "seed")]
+    cells += [
+        f"{row['edit']:.0f} ({row['edits']:.0f})" if row["edits"] else "",
+        f"{row['build']:.0f}" if row["build"] else "",
+        f"{whole(row):.0f}",
+        f"{row['memory']:.0f}",
+    ]
+    print(f"| {name} | {' | '.join(cells)} |")
+
+
 def print_tables(log: str) -> None:
     told, works = read_log(log)
     rows = rows_of(works)
@@ -234,15 +252,11 @@ def print_tables(log: str) -> None:
     )
     print("|---|---|---|---|---|---|---|---|")
     for name, row in rows:
-        edits = f"{row['edit']:.0f} ({row['edits']:.0f})" if row["edits"] else ""
-        cells = [f"{row[it]:.0f}" if row[it] else "" for it in ("proof", "tests", "seed")]
-        cells += [
-            edits,
-            f"{row['build']:.0f}" if row["build"] else "",
-            f"{whole(row):.0f}",
-            f"{row['memory']:.0f}",
-        ]
-        print(f"| `{name}` | {' | '.join(cells)} |")
+        if whole(row) >= SHORT:
+            print_row(f"`{name}`", row)
+    others = [row for _, row in rows if whole(row) < SHORT]
+    if others:
+        print_row(f"{len(others)} others, below {SHORT} s each", together(others))
     sums = [sum(row[it] for _, row in rows) / 60 for it in KINDS]
     most = max((it.memory for it in works), default=0)
     print(
