@@ -3,7 +3,7 @@ import zlib
 from contextlib import contextmanager
 from dataclasses import dataclass, field, replace
 from functools import partial
-from typing import Any, Callable, Collection, Iterator
+from typing import Any, Callable, Collection, Iterator, NoReturn
 
 from lazbendix._calls import LIBRARY
 from lazbendix.call_log import CallLog, Head, LogFault, LogRefused, Record, head_of
@@ -142,6 +142,11 @@ class LoggedHub(Hub):
         except BaseException:
             self.close()
             raise
+
+    @classmethod
+    def reopen(cls, *_: Any, **__: Any) -> NoReturn:
+        """A home with a log is opened by its log."""
+        raise TypeError("CallLog.hub opens a home with a log")
 
     def __enter__(self) -> "LoggedHub":
         return self

@@ -1,8 +1,4 @@
-"""The home that the library opens again, from a script and the bytes of the calls in a log, shows what the home of the log shows.
-
-Wants a library with `lazbendix_reopen`; with another one nothing is tried.
-"""
-import ctypes
+"""The home that the library opens again, from a script and the bytes of the calls in a log, shows what the home of the log shows."""
 import os
 import random
 import sys
@@ -16,26 +12,10 @@ sys.path[:0] = [HERE, os.path.join(HERE, "..", "..", ".."), os.path.join(HERE, "
 
 from logged_plays import MODES, Play, answered, drawn_script
 
-from lazbendix import CallLog, Hub, Model, Scheduler, _calls, call_log
-from lazbendix.logged_calls import LoggedCall
+from lazbendix import CallLog, Hub, Model, Scheduler, call_log
+from lazbendix.logged import CALL_SIZE
 
 DAYS = int(os.environ.get("LAZBENDIX_POINTS", "300")) // 10
-NO_CALL = 19
-CALL_SIZE = 24
-
-
-def reopened(script: bytes, calls: bytes, mode: tuple[Model, Scheduler]) -> tuple[Hub, int, int]:
-    """The home, the status, and how many bytes are good."""
-    reopen = _calls.LIBRARY.lazbendix_reopen
-    word, number = ctypes.c_uint32, ctypes.c_uint64
-    reopen.argtypes = [ctypes.POINTER(_calls.Handle), *_calls.BYTES, *_calls.BYTES, word, word,
-                       ctypes.POINTER(_calls.ToldFault), ctypes.POINTER(number)]
-    reopen.restype = ctypes.c_int32
-    hub, fault, good = Hub(script, *mode), _calls.ToldFault(), number()
-    hub.close()
-    handle, sizes = ctypes.byref(hub._handle), (len(script), len(calls))
-    status = reopen(handle, script, sizes[0], calls, sizes[1], *mode, ctypes.byref(fault), ctypes.byref(good))
-    return hub, status, good.value
 
 
 def view(hub: Hub) -> Any:
@@ -47,7 +27,6 @@ def view(hub: Hub) -> Any:
     return [counts, devices, entries, runs, texts, answered(hub.left), answered(lambda: list(hub.final_items()))]
 
 
-@unittest.skipUnless(hasattr(_calls.LIBRARY, "lazbendix_reopen"), "the library has no lazbendix_reopen")
 @mock.patch("lazbendix.call_log.sync_file", lambda file: None)
 @mock.patch("lazbendix.call_log.sync_folder", lambda path: None)
 class Reopened(unittest.TestCase):
@@ -67,21 +46,14 @@ class Reopened(unittest.TestCase):
         with open(log.path, "rb") as file:
             records, _ = call_log.good_records(file.read())
         calls = call_log.calls_of(records)
-        again, status, good = reopened(script, calls, mode)
-        self.assertEqual((status, good), (0, len(calls)))
+        again, good = Hub.reopen(script, calls, *mode)
+        self.assertEqual(good, len(calls))
         self.assertEqual(view(again), view(hub))
         again.close()
         cut = draw.randrange(len(calls) + 1)
-        part, status, good = reopened(script, calls[:cut], mode)
-        self.assertEqual((status, good), (0, cut // CALL_SIZE * CALL_SIZE))
+        part, good = Hub.reopen(script, calls[:cut], *mode)
+        self.assertEqual(good, cut // CALL_SIZE * CALL_SIZE)
         part.close()
-
-    def test_a_call_that_is_refused_is_reported_by_its_place(self) -> None:
-        script = drawn_script(random.Random(1), False)
-        lost, probed = LoggedCall(9), LoggedCall(6)  # a probe between two windows
-        hub, status, good = reopened(script, lost.to_bytes() + probed.to_bytes(), MODES[0])
-        self.assertEqual((status, good), (NO_CALL, CALL_SIZE))
-        hub.close()
 
 
 if __name__ == "__main__":
