@@ -18,7 +18,7 @@ from tests.whole import Whole
 
 UTC = datetime.timezone.utc
 TRIGGERED = """
-limit: 0.5
+limit: 5s
 devices:
   lamp: {kind: dimmer}
   hall: {kind: motion}

@@ -10,8 +10,8 @@ from lazbendix_hub.live import Ended, Watcher
 from lazbendix_hub.simulated import Manner
 from tests.stage import HOME, Stage, until
 
-SLOW = HOME.replace("limit: 0.5", "limit: 5s").replace("limit: 3s", "limit: 20s")
-MANY = SLOW + "  short: {do: [{set: door, to: locked}]}\n"
+MANY = HOME.replace("limit: 1s", "limit: 5s") + "  short: {do: [{set: door, to: locked}]}\n"
+GONE = HOME + "  short: {do: [{set: door, to: locked}]}\n"
 
 
 @unittest.skipUnless(_can_join(), "this library takes no run on an open window")
@@ -33,7 +33,7 @@ class Joins(unittest.IsolatedAsyncioTestCase):
             self.assertIn("1 windows with 2 runs agree", stage.check())
 
     async def test_one_that_joins_waits_for_its_device(self) -> None:
-        async with Stage(SLOW, Manner(late=0.01, blinds=2.0)) as stage:
+        async with Stage(HOME, Manner(late=0.01, blinds=2.0)) as stage:
             stage.begin("wake")
             await until(lambda: stage.live.out)
             stage.begin("film")  # the blinds again
@@ -58,7 +58,7 @@ class Joins(unittest.IsolatedAsyncioTestCase):
             self.assertIn("2 windows with 67 runs agree", stage.check())
 
     async def test_a_routine_whose_device_was_turned_waits_for_a_quiet_moment(self) -> None:
-        async with Stage(SLOW, Manner(late=0.01, blinds=2.0)) as stage:
+        async with Stage(HOME, Manner(late=0.01, blinds=2.0)) as stage:
             stage.begin("film")
             await stage.quiet()
             stage.begin("wake")
@@ -74,8 +74,7 @@ class Joins(unittest.IsolatedAsyncioTestCase):
             self.assertIn("runs agree", stage.check())
 
     async def test_the_final_order_has_failures(self) -> None:
-        async with Stage(MANY.replace("door: {kind: lock}", "door: {kind: lock, limit: 1s}"),
-                         Manner(late=0.01, blinds=6.0)) as stage:
+        async with Stage(GONE, Manner(late=0.01, blinds=6.0)) as stage:
             stage.begin("evening")
             stage.begin("wake")
             stage.devices["door"].is_broken = True
@@ -104,7 +103,7 @@ class Lost(unittest.IsolatedAsyncioTestCase):
 
 class Logged(unittest.IsolatedAsyncioTestCase):
     async def test_the_log_is_on_the_disk_before_a_device_is_driven_and_an_end_told(self) -> None:
-        async with Stage(SLOW) as stage:
+        async with Stage() as stage:
             log = stage.live.calls.core.log
             sent: list[bool] = []
 

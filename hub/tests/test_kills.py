@@ -10,7 +10,7 @@ from lazbendix import LogRefused
 from lazbendix_hub.simulated import Manner
 from tests.stage import HOME, Stage, until
 
-SLOW = HOME.replace("limit: 0.5", "limit: 2s").replace("limit: 3s", "limit: 10s")
+SLOW = HOME.replace("limit: 1s", "limit: 5s")
 
 
 class Kills(unittest.IsolatedAsyncioTestCase):

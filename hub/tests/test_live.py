@@ -9,8 +9,9 @@ from lazbendix_hub.ledger import Ledger
 from lazbendix_hub.simulated import Manner
 from tests.stage import HOME, Stage, until
 
-PATIENT = HOME.replace("limit: 0.5", "limit: 4s").replace("limit: 3s", "limit: 4s")
-SLOW = HOME.replace("door: {kind: lock}", "door: {kind: lock, limit: 2s}")
+PATIENT = HOME.replace("limit: 5s", "limit: 4s").replace("limit: 20s", "limit: 4s")
+QUICK = HOME.replace("limit: 5s", "limit: 0.5").replace("limit: 20s", "limit: 3s")
+SLOW = HOME.replace("limit: 1s", "limit: 3s")
 
 
 class Live(unittest.IsolatedAsyncioTestCase):
@@ -37,7 +38,7 @@ class Live(unittest.IsolatedAsyncioTestCase):
             begin = time.monotonic()
             told, = await stage.run("half")
             self.assertEqual(told.outcome, "aborted")
-            self.assertLess(time.monotonic() - begin, 1.8)  # nobody waits for the limit again
+            self.assertLess(time.monotonic() - begin, 2.8)  # nobody waits for the limit again
             stage.devices["door"].is_broken = False
             await until(lambda: not stage.live.down, 10)  # it is asked, shows itself, is probed
             await stage.quiet()
@@ -53,7 +54,7 @@ class Live(unittest.IsolatedAsyncioTestCase):
             begin = time.monotonic()
             told, = await stage.run("half")
             self.assertEqual(told.outcome, "aborted")
-            self.assertLess(time.monotonic() - begin, 1.8)  # Dead at once
+            self.assertLess(time.monotonic() - begin, 2.8)  # Dead at once
             asked = stage.live.counts["probes"]
             await asyncio.sleep(0.5)
             self.assertEqual(stage.live.counts["probes"], asked)  # no probe until it is back
@@ -63,7 +64,7 @@ class Live(unittest.IsolatedAsyncioTestCase):
             self.assertEqual(told.outcome, "committed")
 
     async def test_a_limit_does_not_pass_while_the_hub_sleeps(self) -> None:
-        async with Stage() as stage:
+        async with Stage(QUICK) as stage:
             stage.begin("evening")
             await until(lambda: stage.live.out)
             time.sleep(1.2)  # as where the machine is put to sleep, or has much else to do
@@ -88,7 +89,7 @@ class Live(unittest.IsolatedAsyncioTestCase):
             self.assertIn("runs agree", stage.check())
 
     async def test_lost_commands(self) -> None:
-        async with Stage(manner=Manner(late=0.01, fails=0.1, blinds=0.1)) as stage:
+        async with Stage(QUICK, Manner(late=0.01, fails=0.1, blinds=0.1)) as stage:
             names = [routine.name for routine in stage.home.routines]
             for _ in range(8):
                 await stage.run(*(stage.draw.choice(names) for _ in range(5)))
