@@ -57,8 +57,8 @@ impl LiveHome {
         }
     }
 
-    /// Makes the calls that are read from the bytes, one after the other, up to one that is refused,
-    /// or for which there is no memory.
+    /// Makes the calls that are read from the bytes, one after the other, up to one that is
+    /// refused, or for which there is no memory.
     fn make_again(&mut self, alloc: Global, calls: &[u8]) -> Result<(), NotRebuilt>
         ensures made { IfOk result (λ _. WereMade self.old (calls_from calls.now) self.new) }
         ensures read { (fault : ReadFault) → result ≢ Err (NotRebuilt.Unread fault) }
@@ -154,8 +154,8 @@ fn opening_not_made(why: NotOpened) -> NotMade
 }
 
 /// Homes on which the same calls were made are, for all who call them, the same: two that are made
-/// again of one script and the same calls (`rebuilt`), and two that were the same before (`goes_on`),
-/// as is each home as itself.
+/// again of one script and the same calls (`rebuilt`), and two that were the same before
+/// (`goes_on`), as is each home as itself (`itself`).
 ///
 /// A step that waits may be left out (`waits`): from its moment on the home is the same as one that
 /// has not made it, so the same calls, at no earlier moments, leave both the same. With the first

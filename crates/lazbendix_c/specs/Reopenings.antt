@@ -30,8 +30,8 @@ pub record IsNoCall (bytes log : List ℕ) (model scheduler good : ℕ) : Type 0
 
 -- why no home is opened again, as the status tells, with the fault of a script that is refused, and
 -- the bytes before a call that is
-pub data IsNoReopening (bytes log : List ℕ) (model scheduler : ℕ) (handle : Handle) (told : ToldFault)
-    (good : ℕ) (status : ℤ) : Type 0 where
+pub data IsNoReopening (bytes log : List ℕ) (model scheduler : ℕ) (handle : Handle)
+    (told : ToldFault) (good : ℕ) (status : ℤ) : Type 0 where
   WasOpen : (was : IsOpen handle) (is : status ≡ pos 2)
       → IsNoReopening bytes log model scheduler handle told good status
   NoMode : (closed : IsClosed handle) (none : mode_of model scheduler ≡ None) (is : status ≡ pos 4)

@@ -18,9 +18,9 @@ use logged_calls::{CALL_SIZE, good_bytes};
 use routine_reader::ReadFault;
 use std::alloc::Global;
 
-/// Opens the home of the script on a closed handle, as `lazbendix_open` does, and makes the calls on
-/// it that the log tells: so it is the home on which these calls were made, also in the middle of a
-/// window. Tells how many bytes of the log are good: those of these calls.
+/// Opens the home of the script on a closed handle, as `lazbendix_open` does, and makes the calls
+/// on it that the log tells: so it is the home on which these calls were made, also in the middle
+/// of a window. Tells how many bytes of the log are good: those of these calls.
 ///
 /// Where the answer is not `DONE` the handle is as it was. Where it is `REFUSED` the fault tells
 /// why, and else the fault is as it was. Where it is `NO_CALL` the home refuses a call of the log,
