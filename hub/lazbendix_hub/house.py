@@ -21,7 +21,8 @@ from lazbendix_hub.plain import make_driver
 from lazbendix_hub.triggers import Triggers
 
 LOG = logging.getLogger("lazbendix.house")
-SETTLING = 0.6  # s: so long the devices have at the start to show themselves
+SETTLING = 5.0  # s: so long the devices have at the start to show themselves
+RETAINED = 0.6  # s: so long what the broker has kept of one that is not asked
 BACKWARDS = 10.0  # s: the longest time for taking back what a killed hub left
 
 
@@ -173,8 +174,13 @@ class House:
         loop = asyncio.get_running_loop()
         for driver in self.drivers:
             driver.ask()
-        end = loop.time() + SETTLING
-        while loop.time() < end and not all(driver.is_confirmed for driver in self.drivers):
+        begin = loop.time()
+        while loop.time() < begin + SETTLING:
+            is_late = loop.time() > begin + RETAINED
+            if all(driver.is_confirmed or driver.is_away or
+                   (driver.device.is_sleepy and (is_late or driver.value is not None))
+                   for driver in self.drivers):
+                break
             await asyncio.sleep(0.02)
 
     async def _starts(self, kept: dict[str, int], half_done: Sequence[str]) -> dict[str, int]:

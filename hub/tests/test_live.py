@@ -22,7 +22,7 @@ class Live(unittest.IsolatedAsyncioTestCase):
             for name, (home, there, up) in stage.stands().items():
                 self.assertEqual((home, up), (there, True), name)
             self.assertIn("runs agree", stage.check())
-            self.assertTrue(all(each.first_call is not None and each.first_call < 2000
+            self.assertTrue(all(each.first_call is not None and each.first_call < 20_000
                                 for each in told))
 
     async def test_a_device_that_is_gone(self) -> None:
