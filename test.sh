@@ -102,7 +102,8 @@ if [ -f dev/check_syncs.py ]; then
 fi
 
 say "the library"
-tries "the library" env LAZBENDIX_OUT="$room" sh library/tests/run.sh 100
+# (.ci/run makes more kills, and a log again at more points)
+tries "the library" env LAZBENDIX_OUT="$room" LAZBENDIX_KILLS=4 LAZBENDIX_POINTS=100 sh library/tests/run.sh 100
 
 wait "$pages" || exit 1
 
