@@ -9,7 +9,8 @@ by crate.
 runs `rt ci --anew` at the top of the repository (with names: those crates and the ones below them,
 which is not the gate), on these processors alone where --cpus names some, and prints two tables in
 the form of docs/PERFORMANCE.md. FILE gets a line for each process that was measured, so that --from
-prints the tables again. With --write they also take the place of those that stand there.
+prints the tables again. With --write they also take the place of those that stand there, and
+docs/gate.tsv gets a line for each crate.
 
 What is measured. Five times a second it looks through /proc for the processes `rattle check` and
 `rattle build` that descend from its own `rt`. Their words tell the crate and what is done: a
@@ -40,7 +41,7 @@ from typing import NamedTuple
 ROOT = os.path.dirname(os.path.dirname(os.path.realpath(__file__)))
 EVERY = 0.2
 TICK = os.sysconf("SC_CLK_TCK")
-PAGE = f"{ROOT}/docs/PERFORMANCE.md"
+PAGE, CRATES = f"{ROOT}/docs/PERFORMANCE.md", f"{ROOT}/docs/gate.tsv"
 BEGIN, END = "<!-- gate -->\n", "<!-- end of gate -->\n"
 KINDS = ("proof", "tests", "seed", "edit", "build")
 SHORT = 200  # crates with fewer seconds have one row together
@@ -269,6 +270,16 @@ def print_tables(log: str) -> None:
         print(f"| {name} | {value} |")
 
 
+def write_crates(log: str) -> None:
+    """Writes a line for each crate beside the page, whose table sums the cheap ones."""
+    with open(CRATES, "w", encoding="utf-8") as it:
+        print("crate", *KINDS, "edits", "all", "memory", sep="\t", file=it)
+        for name, row in rows_of(read_log(log)[1]):
+            kinds = [f"{row[kind]:.0f}" for kind in KINDS]
+            cells = [f"{number:.0f}" for number in (row["edits"], whole(row), row["memory"])]
+            print(name, *kinds, *cells, sep="\t", file=it)
+
+
 def write_tables(tables: str) -> None:
     """Puts the tables into the page, in the place of those that stand there."""
     with open(PAGE, encoding="utf-8") as it:
@@ -298,6 +309,7 @@ def main() -> int:
     print(tables.getvalue(), end="")
     if given.write:
         write_tables(tables.getvalue())
+        write_crates(given.old or given.log)
     return status
 
 
