@@ -24,7 +24,7 @@ pub enum Undo {
 pub fn next_undo(table: &Table, r: RunNo) -> Undo
     ensures { result ≡ next_undo table.now r.0 }
 {
-    table.kept();
+    table.kept_invariant();
     let mut from = DeviceNo(0);
     'devices: while let Some(d) = table.next_device(r, from) {
         if table.effective_writer(d) == Some(r) {

@@ -87,7 +87,7 @@ impl BlockedRuns {
         if self.runs == 0 {
             return;
         }
-        roster.kept();
+        roster.kept_invariant();
         let devices = roster.devices(r);
         let mut from = DeviceNo(0);
         'marked: while let Some(d) = devices.next(from) {

@@ -178,7 +178,7 @@ impl<T> Chain<T> {
     }
 
     /// Does nothing. Its contract is what every list keeps: no two pairs have one knot.
-    pub fn kept(&self)
+    pub fn kept_invariant(&self)
         ensures { AreApart self.now.pairs }
     {
         let _ = &self.links;

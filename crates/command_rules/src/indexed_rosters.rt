@@ -107,7 +107,7 @@ impl IndexedRoster {
     }
 
     /// Does nothing. Its contract is what holds of every indexed roster.
-    pub fn kept(&self)
+    pub fn kept_invariant(&self)
         ensures { FitsIndex (runs_of self.now) }
     {
         let _ = &self.footprints;

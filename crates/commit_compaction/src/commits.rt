@@ -17,7 +17,7 @@ pub fn commit(table: &mut Table, r: RunNo)
     ensures stands { (d : ℕ) → d < length table.old
         → stand_of_lineage (lineage_at table.new d) ≡ stand_of_lineage (lineage_at table.old d) }
 {
-    table.kept();
+    table.kept_invariant();
     let mut from = DeviceNo(0);
     'devices: while let Some(d) = table.next_device(r, from) {
         commit_on(table, d, r);

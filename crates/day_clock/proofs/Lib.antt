@@ -1,2 +1,2 @@
+mod Chunks
 mod InMemory
-mod Pieces

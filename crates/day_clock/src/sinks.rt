@@ -5,12 +5,12 @@ ghost use Rattle.day_clock.specs.Sinks.{AppendsPart};
 
 use crate::faults::Failed;
 
-/// Where bytes go to, one piece after another.
+/// Where bytes go to, one chunk after another.
 pub trait Sink {
     /// The bytes that it holds, where the sink tells them.
     ghost holds: { Self → Option (List ℕ) };
 
-    /// How often it has failed, or has taken nothing of a piece. The count never falls.
+    /// How often it has failed, or has taken nothing of a chunk. The count never falls.
     ghost faults: { Self → ℕ };
 
     /// Writes the first bytes of `from`, and answers how many they are. 0 is a fault, where `from`
@@ -28,7 +28,7 @@ pub trait Sink {
         ensures failed { OnErr result (faults self.old < faults self.new) };
 }
 
-/// Writes all of `bytes`, in as many pieces as the sink takes.
+/// Writes all of `bytes`, in as many chunks as the sink takes.
 ///
 /// `Failed` comes where the sink fails or takes nothing; the sink then has a first part of `bytes`,
 /// and not all of them.

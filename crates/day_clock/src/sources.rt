@@ -7,7 +7,7 @@ ghost use Rattle.day_clock.specs.declared.sources.InputFault.TheVariants.{Failed
 use crate::faults::Failed;
 use std::alloc::{AllocError, Global};
 
-/// Where bytes come from, one piece after another.
+/// Where bytes come from, one chunk after another.
 pub trait Source {
     /// The bytes to come, where the source tells them.
     ghost left: { Self → Option (List ℕ) };
@@ -56,7 +56,7 @@ impl From<AllocError> for InputFault {
 }
 
 /// How many bytes are asked for at once.
-const PIECE: usize = 4096;
+const CHUNK: usize = 4096;
 
 /// Reads a source to its end, and gives all the bytes.
 ///
@@ -76,15 +76,15 @@ pub fn read_to_end<S: Source>(
     ensures faults { CountsFaults result (S.faults source.old) (S.faults source.new) }
 {
     let mut held = Vec::new(alloc);
-    let mut piece = [0u8; PIECE];
+    let mut chunk = [0u8; CHUNK];
     while held.len() as u64 <= limit {
         let rest = limit - held.len() as u64;
-        let room = rest.min(PIECE as u64 - 1) as usize + 1;
-        let count = source.read(&mut piece[..room])?;
+        let room = rest.min(CHUNK as u64 - 1) as usize + 1;
+        let count = source.read(&mut chunk[..room])?;
         if count == 0 {
             return Ok(held);
         }
-        held.extend_from_slice(&piece[..count])?;
+        held.extend_from_slice(&chunk[..count])?;
     }
     Err(InputFault::OverLimit)
 }

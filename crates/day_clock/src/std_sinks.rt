@@ -6,7 +6,7 @@ use crate::sinks::Sink;
 use std::io::Write;
 
 /// A writer of std, such as the standard output, as a sink. Each error is a fault, and each call
-/// that takes nothing of a piece that is not empty. It never flushes, so the writer is to hold
+/// that takes nothing of a chunk that is not empty. It never flushes, so the writer is to hold
 /// nothing back.
 #[derive(Drop)]
 pub struct StdSink<W> {

@@ -44,7 +44,7 @@ pub fn open_first<B: Bench>(
     let window = script.windows.get(0)?;
     let roster = roster(alloc, script, 0).ok()?;
     let home = Home::build(alloc, bench, script).ok()?;
-    home.kept();
+    home.kept_invariant();
     let mode = Mode {
         model: Visibility::Eventual,
         scheduler,

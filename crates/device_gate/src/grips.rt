@@ -93,7 +93,7 @@ impl<D: Device> Grip<D, Ready> {
 
     /// Does nothing. Its contract is that the device is as its slip says, with room for what the
     /// task does to its counts.
-    pub fn kept(&self)
+    pub fn kept_invariant(&self)
         ensures { IsAsLeft self.now.task self.now.slip (D.shows self.now.device) }
     {
         let _ = &self.slip;

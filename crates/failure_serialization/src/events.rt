@@ -27,7 +27,7 @@ use serial_line::Line;
 /// Line, table and book belong to one window, in which no run has the number 0. Asks for room in
 /// the line, in which the failure does not stand yet, and that no run with an access to the device
 /// is sealed there. Takes no memory, and reads of the history no more than its dooms.
-pub fn fell(
+pub fn device_failed(
     line: &mut Line,
     table: &mut Table,
     book: &Book,
@@ -70,7 +70,7 @@ pub fn fell(
 /// Line, table and book belong to one window, in which no run has the number 0. Asks for room in
 /// the line, in which the restart does not stand yet, and that no run with an access to the device
 /// is sealed there. Takes no memory, and reads of the history no more than its dooms.
-pub fn rose(line: &mut Line, table: &mut Table, book: &Book, d: DeviceNo, n: u32)
+pub fn device_recovered(line: &mut Line, table: &mut Table, book: &Book, d: DeviceNo, n: u32)
     requires device { d.0 < length table.old }
     requires runs { has_access 0 (accesses_at table.old d.0) ≡ false }
     requires down { (lineage_at table.old d.0).up ≡ false }

@@ -5,4 +5,4 @@ mod events;
 mod losses;
 mod places;
 
-pub use events::{fell, rose};
+pub use events::{device_failed, device_recovered};

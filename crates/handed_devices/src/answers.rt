@@ -45,7 +45,7 @@ pub fn hand_in(
     if !may_tell(slip, task, told) {
         return Err(grip);
     }
-    grip.kept();
+    grip.kept_invariant();
     Ok(grip.answered(after_call(slip, task, told), told))
 }
 

@@ -283,7 +283,7 @@ impl ReadHistory {
         requires { IsTrue (is_run self.now.setting.runs r.0) }
         ensures { result ≡ next_of (read_in self.now) r.0 }
     {
-        self.roster.kept();
+        self.roster.kept_invariant();
         self.progress(r).answered as u32
     }
 

@@ -195,7 +195,7 @@ fn restand_in(home: &mut Home<HandedDevice>, d: DeviceNo, value: Value) -> Resul
     ensures refused { IfErr result (λ why. first_against_finding home.old d.0 value ≡ Some why) }
     ensures same { IfErr result (λ _. home.new ≡ home.old) }
 {
-    home.kept();
+    home.kept_invariant();
     let (Some(kind), Some(device)) = (home.kind(d), home.device(d)) else {
         return Err(NotRestood::Absent);
     };
@@ -228,7 +228,7 @@ fn lose_in(home: &mut Home<HandedDevice>, d: DeviceNo) -> Result<(), NotLost>
     ensures refused { IfErr result (λ why. first_against_loss home.old d.0 ≡ Some why) }
     ensures same { IfErr result (λ _. home.new ≡ home.old) }
 {
-    home.kept();
+    home.kept_invariant();
     if home.world().devices.len() <= d.0 as u64 {
         return Err(NotLost::Absent);
     }

@@ -128,7 +128,7 @@ impl LiveHome {
     }
 
     /// Does nothing. Its contract is what holds of every live home.
-    pub fn kept(&self)
+    pub fn kept_invariant(&self)
         ensures { IsLive self.now }
     {
         let _ = &self.mode;

@@ -21,7 +21,7 @@ pub(crate) fn few(table: &Table<HandedDevice>)
     ensures size { length table.now.places ≡ length table.now.setting.first }
 {
     let hub = table.hub();
-    hub.kept();
+    hub.kept_invariant();
     hub.bounded();
 }
 

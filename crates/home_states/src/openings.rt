@@ -119,7 +119,7 @@ fn open_on(
     }
     match script.roster(alloc, number) {
         Ok(roster) => {
-            home.kept();
+            home.kept_invariant();
             match Table::open(alloc, home, roster, mode, window.probes) {
                 Ok(table) => Ok(table),
                 Err((home, NoMemory)) => Err((home, NotOpened::NoMemory)),

@@ -44,7 +44,7 @@ impl LiveHome {
         match LiveHome::open(alloc, script, mode) {
             Ok(live) => {
                 let mut live = live;
-                live.kept();
+                live.kept_invariant();
                 match live.make_again(alloc, calls) {
                     Ok(()) => Ok(live),
                     Err(why) => {

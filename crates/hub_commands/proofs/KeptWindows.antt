@@ -2,17 +2,17 @@
 use Rattle.history_book.specs.declared.records.WindowRecord.{WindowRecord}
 use Rattle.home_types.specs.Listed.{Listed}
 use Rattle.hub_commands.specs.Going.{HandsBack}
-use Rattle.hub_commands.specs.Pieces.{StopEnds}
+use Rattle.hub_commands.specs.Chunks.{StopEnds}
 use Rattle.hub_commands.specs.declared.faults.Fault.{Fault}
 use Rattle.hub_commands.specs.declared.finishes.Day.{Day}
-use Rattle.hub_commands.specs.declared.pieces.PieceFault.TheVariants.{Memory, Sink}
-use Rattle.hub_commands.specs.declared.pieces.PieceFault.{PieceFault}
+use Rattle.hub_commands.specs.declared.chunks.ChunkFault.TheVariants.{Memory, Sink}
+use Rattle.hub_commands.specs.declared.chunks.ChunkFault.{ChunkFault}
 use Rattle.hub_commands.specs.KeptDays.{windows_of}
 use Rattle.std.proofs.Common.{ap, ◌∙◌}
 use Rattle.std.specs.Prelude.{List, None, Option, Some, ◌≡◌}
 
--- where a piece was not written they are those that were closed
-pub stop_back : {D : Type 0} (windows : Listed WindowRecord) (items : List D) (fault : PieceFault) (day : Option (Day D)) (why : Option Fault) (records : List WindowRecord)
+-- where a chunk was not written they are those that were closed
+pub stop_back : {D : Type 0} (windows : Listed WindowRecord) (items : List D) (fault : ChunkFault) (day : Option (Day D)) (why : Option Fault) (records : List WindowRecord)
     → StopEnds windows items fault day why → windows.items ≡ records → HandsBack day records
 stop_back windows items Sink day why records stop same = (record { windows = windows; devices = Some stop.0 }, stop.2, same)
 stop_back windows items Memory day why records stop same = (record { windows = windows; devices = None }, stop.0, same)

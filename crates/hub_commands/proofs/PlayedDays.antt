@@ -14,14 +14,14 @@ use Rattle.hub_commands.proofs.Texts.{appends_keeps, appends_more, due_whole, ke
 use Rattle.hub_commands.specs.Days.{DayCourse, DevicesAreProbed, IsUnderWayOn, WindowsArePlayedOn, plain, script_of, text_due_on, text_on}
 use Rattle.hub_commands.specs.Finishes.{AppendsFirst, DayEndsOn, IsCutOn, IsStarvedOn, IsWholeOn, IsWrittenAsClosedOn, written}
 use Rattle.hub_commands.specs.Going.{IsGoingOn}
-use Rattle.hub_commands.specs.Pieces.{PieceEnds, StopEnds}
+use Rattle.hub_commands.specs.Chunks.{ChunkEnds, StopEnds}
 use Rattle.hub_commands.specs.Played.{HasGoneOn}
 use Rattle.hub_commands.specs.Ways.{WindowWay}
 use Rattle.hub_commands.specs.declared.faults.Fault.TheVariants.{Memory as WantsMemory}
 use Rattle.hub_commands.specs.declared.faults.Fault.{Fault}
 use Rattle.hub_commands.specs.declared.finishes.Day.{Day}
-use Rattle.hub_commands.specs.declared.pieces.PieceFault.TheVariants.{Memory, Sink}
-use Rattle.hub_commands.specs.declared.pieces.PieceFault.{PieceFault}
+use Rattle.hub_commands.specs.declared.chunks.ChunkFault.TheVariants.{Memory, Sink}
+use Rattle.hub_commands.specs.declared.chunks.ChunkFault.{ChunkFault}
 use Rattle.std.proofs.Common.{ap, append-nil, append_assoc, arith, refl, subst, sym, ◌∙◌}
 use Rattle.std.specs.Io.KnownBytes.{Appends, Keeps}
 use Rattle.std.specs.Prelude.{Err, IfOk, List, None, Ok, Option, Result, Some, [], if◌then◌else◌, length, take, ℕ, ◌+◌, ◌++◌, ◌==◌, ◌∷◌, ◌≡◌}
@@ -30,8 +30,8 @@ use Rattle.std.specs.Prelude.{Err, IfOk, List, None, Ok, Option, Result, Some, [
 abbrev after_texts : DayCourse → List WindowRecord → List ℕ
 after_texts course records = if length records == length (script_of course).windows.items then total_text records else []
 
-pub said : {M : Type 0} (piece : Result (List ℕ) M) (text bytes : List ℕ) → IfOk piece (λ b. b ≡ text) → piece ≡ Ok bytes → bytes ≡ text
-said {M} piece text bytes ok is = subst (λ (r : Result (List ℕ) M). IfOk r (λ b. b ≡ text)) is ok
+pub said : {M : Type 0} (chunk : Result (List ℕ) M) (text bytes : List ℕ) → IfOk chunk (λ b. b ≡ text) → chunk ≡ Ok bytes → bytes ≡ text
+said {M} chunk text bytes ok is = subst (λ (r : Result (List ℕ) M). IfOk r (λ b. b ≡ text)) is ok
 
 -- what is not written is kept
 pub keeps_same : (held : Option (List ℕ)) → Keeps held held
@@ -75,17 +75,17 @@ pub lead_whole : (course : DayCourse) (options : Options) (held holds : Option (
 lead_whole course options held holds f f_after records bytes leads got =
     lead_written course options held holds f f_after records bytes [] leads (subst (λ t. Appends held holds t) (sym (append-nil bytes)) got)
 
--- a piece was not written: the sink has all before it, and a first part of it
+-- a chunk was not written: the sink has all before it, and a first part of it
 stopped : {D M : Type 0} (works : WindowWay) (shows : D → Shown) (course : DayCourse) (options : Options)
-    (held mid holds : Option (List ℕ)) (f f_mid f_after : ℕ) (home : HomeState D) (windows : Listed WindowRecord) (before : List ℕ) (piece : Result (List ℕ) M)
-    (fault : PieceFault) (day : Option (Day D)) (why : Option Fault)
+    (held mid holds : Option (List ℕ)) (f f_mid f_after : ℕ) (home : HomeState D) (windows : Listed WindowRecord) (before : List ℕ) (chunk : Result (List ℕ) M)
+    (fault : ChunkFault) (day : Option (Day D)) (why : Option Fault)
     → IsUnderWayOn works shows course options.mode home windows.items
     → Appends held mid before → LeadWith course options windows.items before → f_mid ≡ f
-    → PieceEnds (written mid holds f_mid f_after) piece (Err fault) → StopEnds windows home.devices fault day why
+    → ChunkEnds (written mid holds f_mid f_after) chunk (Err fault) → StopEnds windows home.devices fault day why
     → (tail : List ℕ) × (text_due_on plain course options.mode options.trace windows.items ≡ before ++ tail)
-    → ((bytes : List ℕ) → piece ≡ Ok bytes → (rest : List ℕ) × (text_due_on plain course options.mode options.trace windows.items ≡ (before ++ bytes) ++ rest))
+    → ((bytes : List ℕ) → chunk ≡ Ok bytes → (rest : List ℕ) × (text_due_on plain course options.mode options.trace windows.items ≡ (before ++ bytes) ++ rest))
     → DayEndsOn works shows plain course options (written held holds f f_after) day why
-stopped works shows course options held mid holds f f_mid f_after home windows before piece Sink day why under first leads calm ended stop tail due =
+stopped works shows course options held mid holds f f_mid f_after home windows before chunk Sink day why under first leads calm ended stop tail due =
     let rest = due ended.0 ended.1 in
     let cut : IsCutOn works shows plain course options (written held holds f f_after) day = record {
       day = record { windows = windows; devices = Some stop.0 };
@@ -102,7 +102,7 @@ stopped works shows course options held mid holds f f_mid f_after home windows b
       failed = let late = ended.3 in omega (arith, late, calm);
     } in
     subst (λ (w : Option Fault). DayEndsOn works shows plain course options (written held holds f f_after) day w) (sym stop.3) cut
-stopped works shows course options held mid holds f f_mid f_after home windows before piece Memory day why under first leads calm ended stop tail due =
+stopped works shows course options held mid holds f f_mid f_after home windows before chunk Memory day why under first leads calm ended stop tail due =
     let starved : IsStarvedOn works plain course options (written held holds f f_after) day = record {
       day = record { windows = windows; devices = None };
       given = stop.0;
@@ -123,49 +123,49 @@ home_starts works shows course mode home records starts none =
     subst (λ rs. IsUnderWayOn works shows course mode home rs) (sym none) starts
 
 -- the head is written, with the lines below it
-pub begun : {D M : Type 0} (works : WindowWay) (shows : D → Shown) (course : DayCourse) (options : Options) (held holds : Option (List ℕ)) (f f_after : ℕ) (home : HomeState D) (records : List WindowRecord) (piece : Result (List ℕ) M)
+pub begun : {D M : Type 0} (works : WindowWay) (shows : D → Shown) (course : DayCourse) (options : Options) (held holds : Option (List ℕ)) (f f_after : ℕ) (home : HomeState D) (records : List WindowRecord) (chunk : Result (List ℕ) M)
     → IsUnderWayOn works shows course options.mode home [] → records ≡ []
-    → IfOk piece (λ b. b ≡ head_text options.mode ++ course.above) → PieceEnds (written held holds f f_after) piece (Ok tt)
+    → IfOk chunk (λ b. b ≡ head_text options.mode ++ course.above) → ChunkEnds (written held holds f f_after) chunk (Ok tt)
     → IsGoingOn works shows course options (written held holds f f_after) home records
-begun works shows course options held holds f f_after home records piece starts none ok ended = record {
+begun works shows course options held holds f f_after home records chunk starts none ok ended = record {
   under_way = home_starts works shows course options.mode home records starts none;
   text = subst (λ t. Appends held holds t)
-      (said piece (head_text options.mode ++ course.above) ended.0 ok ended.1 ∙ sym (text_starts course options.mode options.trace) ∙ ap (λ rs. text_on course options.mode options.trace rs) (sym none)) ended.2;
+      (said chunk (head_text options.mode ++ course.above) ended.0 ok ended.1 ∙ sym (text_starts course options.mode options.trace) ∙ ap (λ rs. text_on course options.mode options.trace rs) (sym none)) ended.2;
   calm = ended.3;
 }
 
 -- the head of a script's day stands alone
-pub head_alone : {M : Type 0} (piece : Result (List ℕ) M) (mode : Mode) → IfOk piece (λ b. b ≡ head_text mode) → IfOk piece (λ b. b ≡ head_text mode ++ [])
+pub head_alone : {M : Type 0} (chunk : Result (List ℕ) M) (mode : Mode) → IfOk chunk (λ b. b ≡ head_text mode) → IfOk chunk (λ b. b ≡ head_text mode ++ [])
 head_alone (Ok bytes) mode is = is ∙ sym (append-nil (head_text mode))
 head_alone (Err e) mode is = tt
 
 -- the head is not written
 pub head_stopped : {D M : Type 0} (works : WindowWay) (shows : D → Shown) (course : DayCourse) (options : Options)
-    (held holds : Option (List ℕ)) (f f_after : ℕ) (home : HomeState D) (windows : Listed WindowRecord) (piece : Result (List ℕ) M) (fault : PieceFault)
+    (held holds : Option (List ℕ)) (f f_after : ℕ) (home : HomeState D) (windows : Listed WindowRecord) (chunk : Result (List ℕ) M) (fault : ChunkFault)
     (day : Option (Day D)) (why : Option Fault)
     → IsUnderWayOn works shows course options.mode home [] → windows.items ≡ []
-    → IfOk piece (λ b. b ≡ head_text options.mode ++ course.above) → PieceEnds (written held holds f f_after) piece (Err fault) → StopEnds windows home.devices fault day why
+    → IfOk chunk (λ b. b ≡ head_text options.mode ++ course.above) → ChunkEnds (written held holds f f_after) chunk (Err fault) → StopEnds windows home.devices fault day why
     → DayEndsOn works shows plain course options (written held holds f f_after) day why
-head_stopped works shows course options held holds f f_after home windows piece fault day why starts none ok ended stop =
-    stopped works shows course options held held holds f f f_after home windows [] piece fault day why
+head_stopped works shows course options held holds f f_after home windows chunk fault day why starts none ok ended stop =
+    stopped works shows course options held held holds f f f_after home windows [] chunk fault day why
     (home_starts works shows course options.mode home windows.items starts none)
     (keeps_appends held held (keeps_same held)) (none_leads course options windows.items [] none) refl ended stop
     (text_due_on plain course options.mode options.trace windows.items, refl)
     (λ bytes is. (
       after_texts course windows.items,
       ap (λ t. t ++ after_texts course windows.items)
-          (ap (λ rs. text_on course options.mode options.trace rs) none ∙ text_starts course options.mode options.trace ∙ sym (said piece (head_text options.mode ++ course.above) bytes ok is)),
+          (ap (λ rs. text_on course options.mode options.trace rs) none ∙ text_starts course options.mode options.trace ∙ sym (said chunk (head_text options.mode ++ course.above) bytes ok is)),
     ))
 
 -- a window was played, and its lines are written
-pub goes_on : {D M : Type 0} (works : WindowWay) (shows : D → Shown) (course : DayCourse) (options : Options) (held mid holds : Option (List ℕ)) (f f_mid f_after : ℕ) (home next : HomeState D) (records more : List WindowRecord) (piece : Result (List ℕ) M)
+pub goes_on : {D M : Type 0} (works : WindowWay) (shows : D → Shown) (course : DayCourse) (options : Options) (held mid holds : Option (List ℕ)) (f f_mid f_after : ℕ) (home next : HomeState D) (records more : List WindowRecord) (chunk : Result (List ℕ) M)
     → IsGoingOn works shows course options (written held mid f f_mid) home records
     → HasGoneOn works shows course options.mode records next more
-    → ((before : List WindowRecord) (closed : WindowRecord) → more ≡ before ++ closed ∷ [] → IfOk piece (λ lines. lines ≡ window_text course.begins.script (course.begins.before + length before) closed options.mode options.trace))
-    → PieceEnds (written mid holds f_mid f_after) piece (Ok tt)
+    → ((before : List WindowRecord) (closed : WindowRecord) → more ≡ before ++ closed ∷ [] → IfOk chunk (λ lines. lines ≡ window_text course.begins.script (course.begins.before + length before) closed options.mode options.trace))
+    → ChunkEnds (written mid holds f_mid f_after) chunk (Ok tt)
     → IsGoingOn works shows course options (written held holds f f_after) next more
-goes_on works shows course options held mid holds f f_mid f_after home next records more piece day gone lines ended =
-    let own = said piece (window_text course.begins.script (course.begins.before + length records) gone.closed options.mode options.trace) ended.0 (lines records gone.closed gone.more) ended.1 in
+goes_on works shows course options held mid holds f f_mid f_after home next records more chunk day gone lines ended =
+    let own = said chunk (window_text course.begins.script (course.begins.before + length records) gone.closed options.mode options.trace) ended.0 (lines records gone.closed gone.more) ended.1 in
     record {
       under_way = gone.under_way;
       text = subst (λ t. Appends held holds t)
@@ -177,20 +177,20 @@ goes_on works shows course options held mid holds f f_mid f_after home next reco
 -- its lines are not written
 pub lines_stopped : {D M : Type 0} (works : WindowWay) (shows : D → Shown) (course : DayCourse) (options : Options)
     (held mid holds : Option (List ℕ)) (f f_mid f_after : ℕ) (home next : HomeState D) (records : List WindowRecord) (windows : Listed WindowRecord)
-    (piece : Result (List ℕ) M) (fault : PieceFault) (day : Option (Day D)) (why : Option Fault)
+    (chunk : Result (List ℕ) M) (fault : ChunkFault) (day : Option (Day D)) (why : Option Fault)
     → IsGoingOn works shows course options (written held mid f f_mid) home records
     → HasGoneOn works shows course options.mode records next windows.items
-    → ((before : List WindowRecord) (closed : WindowRecord) → windows.items ≡ before ++ closed ∷ [] → IfOk piece (λ lines. lines ≡ window_text course.begins.script (course.begins.before + length before) closed options.mode options.trace))
-    → PieceEnds (written mid holds f_mid f_after) piece (Err fault) → StopEnds windows next.devices fault day why
+    → ((before : List WindowRecord) (closed : WindowRecord) → windows.items ≡ before ++ closed ∷ [] → IfOk chunk (λ lines. lines ≡ window_text course.begins.script (course.begins.before + length before) closed options.mode options.trace))
+    → ChunkEnds (written mid holds f_mid f_after) chunk (Err fault) → StopEnds windows next.devices fault day why
     → DayEndsOn works shows plain course options (written held holds f f_after) day why
-lines_stopped works shows course options held mid holds f f_mid f_after home next records windows piece fault day why under gone lines ended stop =
-    stopped works shows course options held mid holds f f_mid f_after next windows (text_on course options.mode options.trace records) piece fault day why
+lines_stopped works shows course options held mid holds f f_mid f_after home next records windows chunk fault day why under gone lines ended stop =
+    stopped works shows course options held mid holds f f_mid f_after next windows (text_on course options.mode options.trace records) chunk fault day why
     gone.under_way under.text (rest_lead course options records gone.closed windows.items gone.more) under.calm ended stop
     (own ++ after_texts course windows.items, due ∙ append_assoc (text_on course options.mode options.trace records) own (after_texts course windows.items))
     (λ bytes is. (
       after_texts course windows.items,
       due ∙ ap (λ ls. (text_on course options.mode options.trace records ++ ls) ++ after_texts course windows.items)
-          (sym (said piece own bytes (lines records gone.closed gone.more) is)),
+          (sym (said chunk own bytes (lines records gone.closed gone.more) is)),
     ))
   where
     own : List ℕ
@@ -202,34 +202,34 @@ lines_stopped works shows course options held mid holds f f_mid f_after home nex
 
 -- the total is not written
 pub total_stopped : {D M : Type 0} (works : WindowWay) (shows : D → Shown) (course : DayCourse) (options : Options)
-    (held mid holds : Option (List ℕ)) (f f_mid f_after : ℕ) (home : HomeState D) (windows : Listed WindowRecord) (piece : Result (List ℕ) M)
-    (fault : PieceFault) (day : Option (Day D)) (why : Option Fault)
+    (held mid holds : Option (List ℕ)) (f f_mid f_after : ℕ) (home : HomeState D) (windows : Listed WindowRecord) (chunk : Result (List ℕ) M)
+    (fault : ChunkFault) (day : Option (Day D)) (why : Option Fault)
     → IsGoingOn works shows course options (written held mid f f_mid) home windows.items
     → length windows.items ≡ length (script_of course).windows.items
-    → IfOk piece (λ b. b ≡ total_text windows.items)
-    → PieceEnds (written mid holds f_mid f_after) piece (Err fault) → StopEnds windows home.devices fault day why
+    → IfOk chunk (λ b. b ≡ total_text windows.items)
+    → ChunkEnds (written mid holds f_mid f_after) chunk (Err fault) → StopEnds windows home.devices fault day why
     → DayEndsOn works shows plain course options (written held holds f f_after) day why
-total_stopped works shows course options held mid holds f f_mid f_after home windows piece fault day why under all ok ended stop =
-    stopped works shows course options held mid holds f f_mid f_after home windows (text_on course options.mode options.trace windows.items) piece fault day why
+total_stopped works shows course options held mid holds f f_mid f_after home windows chunk fault day why under all ok ended stop =
+    stopped works shows course options held mid holds f f_mid f_after home windows (text_on course options.mode options.trace windows.items) chunk fault day why
     under.under_way under.text (all_lead course options windows.items) under.calm ended stop
     (after_texts course windows.items, refl)
     (λ bytes is. (
       [],
       due_whole course options.mode options.trace windows.items all
-          ∙ ap (λ t. text_on course options.mode options.trace windows.items ++ t) (sym (said piece (total_text windows.items) bytes ok is))
+          ∙ ap (λ t. text_on course options.mode options.trace windows.items ++ t) (sym (said chunk (total_text windows.items) bytes ok is))
           ∙ sym (append-nil (text_on course options.mode options.trace windows.items ++ bytes)),
     ))
 
 -- all is written
 pub finished : {D M : Type 0} (works : WindowWay) (shows : D → Shown) (course : DayCourse) (options : Options)
     (held mid holds : Option (List ℕ)) (f f_mid f_after : ℕ) (home : HomeState D) (windows : Listed WindowRecord) (devices : Listed D)
-    (piece : Result (List ℕ) M)
+    (chunk : Result (List ℕ) M)
     → IsGoingOn works shows course options (written held mid f f_mid) home windows.items
     → length windows.items ≡ length (script_of course).windows.items
-    → IfOk piece (λ b. b ≡ total_text windows.items)
-    → PieceEnds (written mid holds f_mid f_after) piece (Ok tt) → devices.items ≡ home.devices
+    → IfOk chunk (λ b. b ≡ total_text windows.items)
+    → ChunkEnds (written mid holds f_mid f_after) chunk (Ok tt) → devices.items ≡ home.devices
     → IsWholeOn works shows plain course options (written held holds f f_after) (Some (record { windows = windows; devices = Some devices }))
-finished works shows course options held mid holds f f_mid f_after home windows devices piece day all ok ended same = record {
+finished works shows course options held mid holds f f_mid f_after home windows devices chunk day all ok ended same = record {
   day = record { windows = windows; devices = Some devices };
   given = refl;
   devices = devices;
@@ -240,7 +240,7 @@ finished works shows course options held mid holds f f_mid f_after home windows 
   played = day.under_way.played;
   probed = subst (λ ds. DevicesAreProbed shows day.under_way.takes ds) (sym same) day.under_way.probed;
   text = subst (λ t. Appends held holds t)
-      (ap (λ t. text_on course options.mode options.trace windows.items ++ t) (said piece (total_text windows.items) ended.0 ok ended.1) ∙ text_whole course options.mode options.trace windows.items)
+      (ap (λ t. text_on course options.mode options.trace windows.items ++ t) (said chunk (total_text windows.items) ended.0 ok ended.1) ∙ text_whole course options.mode options.trace windows.items)
       (appends_more held mid holds (text_on course options.mode options.trace windows.items) ended.0 day.text ended.2);
   calm = ended.3 ∙ day.calm;
 }

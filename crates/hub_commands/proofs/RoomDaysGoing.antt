@@ -12,7 +12,7 @@ use Rattle.hub_commands.proofs.RoomTexts.{lines_are, room_begun, room_finished, 
 use Rattle.hub_commands.proofs.RoomedDevices.{are_roomed}
 use Rattle.hub_commands.proofs.Snocs.{length_more}
 use Rattle.hub_commands.specs.Finishes.{written}
-use Rattle.hub_commands.specs.Pieces.{PieceEnds}
+use Rattle.hub_commands.specs.Chunks.{ChunkEnds}
 use Rattle.hub_commands.specs.RoomCalls.{RoomDayEnds}
 use Rattle.hub_commands.specs.RoomDays.{RoomsAreLeft, RoomsAreUnderWay, Windows, room_count, told_records}
 use Rattle.hub_commands.specs.RoomDevices.{AreAllPlaced, HasDevicesOf, HasRoomFor, IsRoomed}
@@ -20,7 +20,7 @@ use Rattle.hub_commands.specs.RoomGoing.{AreTold, IsFirstDay, IsRoomDay, IsWritt
 use Rattle.hub_commands.specs.RoomPlays.{RoomsWent}
 use Rattle.hub_commands.specs.Statuses.{status_for_fault}
 use Rattle.hub_commands.specs.declared.faults.Fault.TheVariants.{Memory as WantsMemory}
-use Rattle.hub_commands.specs.declared.pieces.PieceFault.{PieceFault}
+use Rattle.hub_commands.specs.declared.chunks.ChunkFault.{ChunkFault}
 use Rattle.hub_commands.specs.declared.room_days.RoomDay.{RoomDay}
 use Rattle.hub_commands.specs.declared.room_finishes.RoomFinish.{RoomFinish}
 use Rattle.hub_core.specs.Homes.{HomeState}
@@ -69,25 +69,25 @@ module _ {D : Type 0} (earliest latest : ℕ) (shows : D → Shown) (script : Sc
     day_own = own_orders earliest latest shows script sound mode strong day.homes.items day.windows.items is.under_way
 
     -- the total is not written
-    pub end_stopped : {M : Type 0} (held mid holds : Option (List ℕ)) (f f_mid f_after : ℕ) (piece : Result (List ℕ) M) (fault : PieceFault) (finish : RoomFinish D) → before ≡ day.windows.items
+    pub end_stopped : {M : Type 0} (held mid holds : Option (List ℕ)) (f f_mid f_after : ℕ) (chunk : Result (List ℕ) M) (fault : ChunkFault) (finish : RoomFinish D) → before ≡ day.windows.items
         → IsWrittenSoFar script mode (written held mid f f_mid) day.windows.items → length day.windows.items ≡ length script.windows.items
-        → IfOk piece (λ b. b ≡ total_text day.told.items) → PieceEnds (written mid holds f_mid f_after) piece (Err fault)
+        → IfOk chunk (λ b. b ≡ total_text day.told.items) → ChunkEnds (written mid holds f_mid f_after) chunk (Err fault)
         → finish.windows ≡ day.windows → RoomStopEnds rooms.room_of.items day.homes.items fault finish.devices finish.fault
         → RoomDayEnds earliest latest shows script mode (written held holds f f_after) finish.windows.items finish.devices finish.fault
-    end_stopped held mid holds f f_mid f_after piece fault finish all_told so_far all ok ended windows stop =
+    end_stopped held mid holds f f_mid f_after chunk fault finish all_told so_far all ok ended windows stop =
         subst (λ (ws : Listed (Listed RoomWindow)). RoomDayEnds earliest latest shows script mode (written held holds f f_after) ws.items finish.devices finish.fault) (sym windows)
-        (room_total_stopped script mode earliest latest shows held mid holds f f_mid f_after day.homes.items day.windows.items day.told.items piece fault finish.devices finish.fault
+        (room_total_stopped script mode earliest latest shows held mid holds f f_mid f_after day.homes.items day.windows.items day.told.items chunk fault finish.devices finish.fault
         (rooms_played earliest latest shows script sound mode strong day.homes.items day.windows.items is.under_way) left_of so_far all (subst (λ ws. AreTold script mode ws day.told.items) all_told is.told_are) ok ended
         (subst (λ l. RoomStopEnds l day.homes.items fault finish.devices finish.fault) same_rooms stop))
 
     -- all is written
-    pub end_finished : {M : Type 0} (held mid holds : Option (List ℕ)) (f f_mid f_after : ℕ) (piece : Result (List ℕ) M) (devices : Listed D) → before ≡ day.windows.items
+    pub end_finished : {M : Type 0} (held mid holds : Option (List ℕ)) (f f_mid f_after : ℕ) (chunk : Result (List ℕ) M) (devices : Listed D) → before ≡ day.windows.items
         → IsWrittenSoFar script mode (written held mid f f_mid) day.windows.items → length day.windows.items ≡ length script.windows.items
-        → IfOk piece (λ b. b ≡ total_text day.told.items) → PieceEnds (written mid holds f_mid f_after) piece (Ok tt)
+        → IfOk chunk (λ b. b ≡ total_text day.told.items) → ChunkEnds (written mid holds f_mid f_after) chunk (Ok tt)
         → length devices.items ≡ length rooms.room_of.items → AreAllPlaced rooms.room_of.items day.homes.items devices.items
         → RoomDayEnds earliest latest shows script mode (written held holds f f_after) day.windows.items (Some devices) None
-    end_finished held mid holds f f_mid f_after piece devices all_told so_far all ok ended size placed =
-        room_finished script mode earliest latest shows held mid holds f f_mid f_after day.windows.items devices day.told.items piece (day_left devices.items size placed) so_far all
+    end_finished held mid holds f f_mid f_after chunk devices all_told so_far all ok ended size placed =
+        room_finished script mode earliest latest shows held mid holds f f_mid f_after day.windows.items devices day.told.items chunk (day_left devices.items size placed) so_far all
         (subst (λ ws. AreTold script mode ws day.told.items) all_told is.told_are) ok ended
 
   -- ---- the beginning
@@ -109,22 +109,22 @@ module _ {D : Type 0} (earliest latest : ℕ) (shows : D → Shown) (script : Sc
         (rooms_unbuilt script mode earliest latest shows held f finish.devices finish.fault (none_played earliest latest script mode) devices fault),
   )
 
-  pub begin_written : {M : Type 0} (held holds : Option (List ℕ)) (f f_after : ℕ) (piece : Result (List ℕ) M) (day : RoomDay D) → IsFirstDay shows script day
-      → IfOk piece (λ b. b ≡ head_text mode) → PieceEnds (written held holds f f_after) piece (Ok tt) → RoomGoesOn earliest latest shows script mode (written held holds f f_after) 0 (Ok day)
-  begin_written held holds f f_after piece day first ok ended = (
+  pub begin_written : {M : Type 0} (held holds : Option (List ℕ)) (f f_after : ℕ) (chunk : Result (List ℕ) M) (day : RoomDay D) → IsFirstDay shows script day
+      → IfOk chunk (λ b. b ≡ head_text mode) → ChunkEnds (written held holds f f_after) chunk (Ok tt) → RoomGoesOn earliest latest shows script mode (written held holds f f_after) 0 (Ok day)
+  begin_written held holds f f_after chunk day first ok ended = (
     ap (λ ws. length ws) first.no_windows,
     first_is_day day first,
-    subst (λ ws. IsWrittenSoFar script mode (written held holds f f_after) ws) (sym first.no_windows) (room_begun script mode held holds f f_after piece ok ended),
+    subst (λ ws. IsWrittenSoFar script mode (written held holds f f_after) ws) (sym first.no_windows) (room_begun script mode held holds f f_after chunk ok ended),
   )
 
-  pub begin_stopped : {M : Type 0} (held holds : Option (List ℕ)) (f f_after : ℕ) (piece : Result (List ℕ) M) (fault : PieceFault) (day : RoomDay D) (finish : RoomFinish D) → IsFirstDay shows script day
-      → IfOk piece (λ b. b ≡ head_text mode) → PieceEnds (written held holds f f_after) piece (Err fault)
+  pub begin_stopped : {M : Type 0} (held holds : Option (List ℕ)) (f f_after : ℕ) (chunk : Result (List ℕ) M) (fault : ChunkFault) (day : RoomDay D) (finish : RoomFinish D) → IsFirstDay shows script day
+      → IfOk chunk (λ b. b ≡ head_text mode) → ChunkEnds (written held holds f f_after) chunk (Err fault)
       → finish.status ≡ status_for_fault finish.fault → finish.windows ≡ day.windows → RoomStopEnds rooms.room_of.items day.homes.items fault finish.devices finish.fault
       → RoomGoesOn earliest latest shows script mode (written held holds f f_after) 0 (Err finish)
-  begin_stopped held holds f f_after piece fault day finish first ok ended status windows stop = (
+  begin_stopped held holds f f_after chunk fault day finish first ok ended status windows stop = (
     status,
     subst (λ ws. RoomDayEnds earliest latest shows script mode (written held holds f f_after) ws finish.devices finish.fault) (sym (ap (λ (l : Listed (Listed RoomWindow)). l.items) windows ∙ first.no_windows))
-        (room_head_stopped script mode earliest latest shows held holds f f_after day.homes.items piece fault finish.devices finish.fault (none_played earliest latest script mode)
+        (room_head_stopped script mode earliest latest shows held holds f f_after day.homes.items chunk fault finish.devices finish.fault (none_played earliest latest script mode)
         (rooms_left earliest latest shows script sound mode strong day.homes.items [] (rooms_begun earliest latest shows script mode day.homes.items first.homes)) ok ended
         (subst (λ l. RoomStopEnds l day.homes.items fault finish.devices finish.fault) same_rooms stop)),
   )
@@ -168,20 +168,20 @@ module _ {D : Type 0} (earliest latest : ℕ) (shows : D → Shown) (script : Sc
     pub few_devices : length rooms.room_of.items ≤ most_devices
     few_devices = let n = ap (λ l. length l) same_rooms in omega (arith, n, sound.few_devices, rooms_size script, length-map script.devices.items plain_device)
 
-    module _ {M : Type 0} (held mid holds : Option (List ℕ)) (f f_mid f_after : ℕ) (told : Listed WindowRecord) (piece : Result (List ℕ) M)
-        (tells : (start : Windows) (ws : Listed RoomWindow) → day.windows.items ≡ start ++ ws ∷ [] → IfOk piece (TellsLines script rooms.room_of.items mode ws.items day.told.items told.items))
+    module _ {M : Type 0} (held mid holds : Option (List ℕ)) (f f_mid f_after : ℕ) (told : Listed WindowRecord) (chunk : Result (List ℕ) M)
+        (tells : (start : Windows) (ws : Listed RoomWindow) → day.windows.items ≡ start ++ ws ∷ [] → IfOk chunk (TellsLines script rooms.room_of.items mode ws.items day.told.items told.items))
         (so_far : IsWrittenSoFar script mode (written held mid f f_mid) before) where
-      told_lines : (bytes : List ℕ) → piece ≡ Ok bytes → TellsLines script (rooms_of script).room_of mode next.0.items day.told.items told.items bytes
+      told_lines : (bytes : List ℕ) → chunk ≡ Ok bytes → TellsLines script (rooms_of script).room_of mode next.0.items day.told.items told.items bytes
       told_lines bytes is =
           subst (λ l. TellsLines script l mode next.0.items day.told.items told.items bytes) same_rooms
           (subst (λ (p : Result (List ℕ) M). IfOk p (TellsLines script rooms.room_of.items mode next.0.items day.told.items told.items)) is (tells before next.0 next.1))
 
-      lines : (bytes : List ℕ) → piece ≡ Ok bytes → bytes ≡ window_text script (length before) (told_record (rooms_of script).room_of mode next.0.items) mode false
+      lines : (bytes : List ℕ) → chunk ≡ Ok bytes → bytes ≡ window_text script (length before) (told_record (rooms_of script).room_of mode next.0.items) mode false
       lines bytes is = let t = told_lines bytes is in
-          lines_are script mode before next.0 day.told.items t.last piece bytes next.2.told_are t.tells
+          lines_are script mode before next.0 day.told.items t.last chunk bytes next.2.told_are t.tells
           (subst (λ (p : Result (List ℕ) M). IfOk p (λ l. l ≡ window_text script (length day.told.items) t.last mode false)) (sym is) t.lines_are) is
 
-      pub next_written : PieceEnds (written mid holds f_mid f_after) piece (Ok tt)
+      pub next_written : ChunkEnds (written mid holds f_mid f_after) chunk (Ok tt)
           → RoomGoesOn earliest latest shows script mode (written held holds f f_after) (suc (length before)) (Ok (record { homes = day.homes; windows = day.windows; told = told; room = day.room }))
       next_written ended =
           let t = told_lines ended.0 ended.1 in (
@@ -193,17 +193,17 @@ module _ {D : Type 0} (earliest latest : ℕ) (shows : D → Shown) (script : Sc
               room = next.2.room;
               windows_room = next.2.windows_room;
             },
-            subst (λ ws. IsWrittenSoFar script mode (written held holds f f_after) ws) (sym next.1) (room_goes_on script mode held mid holds f f_mid f_after before next.0 piece so_far lines ended),
+            subst (λ ws. IsWrittenSoFar script mode (written held holds f f_after) ws) (sym next.1) (room_goes_on script mode held mid holds f f_mid f_after before next.0 chunk so_far lines ended),
           )
 
-      pub next_stopped : (fault : PieceFault) (finish : RoomFinish D) → PieceEnds (written mid holds f_mid f_after) piece (Err fault)
+      pub next_stopped : (fault : ChunkFault) (finish : RoomFinish D) → ChunkEnds (written mid holds f_mid f_after) chunk (Err fault)
           → finish.status ≡ status_for_fault finish.fault → finish.windows ≡ day.windows → RoomStopEnds rooms.room_of.items day.homes.items fault finish.devices finish.fault
           → RoomGoesOn earliest latest shows script mode (written held holds f f_after) (suc (length before)) (Err finish)
       next_stopped fault finish ended status windows stop =
           let under_way = subst (λ ws. RoomsAreUnderWay earliest latest shows script mode day.homes.items ws) next.1 next.2.under_way in (
             status,
             subst (λ ws. RoomDayEnds earliest latest shows script mode (written held holds f f_after) ws finish.devices finish.fault) (sym (ap (λ (l : Listed (Listed RoomWindow)). l.items) windows ∙ next.1))
-                (room_lines_stopped script mode earliest latest shows held mid holds f f_mid f_after day.homes.items before next.0 piece fault finish.devices finish.fault
+                (room_lines_stopped script mode earliest latest shows held mid holds f f_mid f_after day.homes.items before next.0 chunk fault finish.devices finish.fault
                 (rooms_played earliest latest shows script sound mode strong day.homes.items (before ++ next.0 ∷ []) under_way)
                 (rooms_left earliest latest shows script sound mode strong day.homes.items (before ++ next.0 ∷ []) under_way)
                 so_far lines ended (subst (λ l. RoomStopEnds l day.homes.items fault finish.devices finish.fault) same_rooms stop)),

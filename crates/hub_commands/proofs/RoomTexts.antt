@@ -1,4 +1,4 @@
--- The text of a day of rooms, piece after piece, and how the day ends where a piece is not written.
+-- The text of a day of rooms, chunk after chunk, and how the day ends where a chunk is not written.
 use Rattle.command_words.specs.declared.command_lines.Options.{Options}
 use Rattle.day_clock.specs.Sinks.{AppendsPart}
 use Rattle.day_report.specs.Days.{abort_count, commit_count, counts_line, head_text, is_abort, is_commit, total_text, window_lines, window_text}
@@ -13,15 +13,15 @@ use Rattle.hub_commands.proofs.PlayedDays.{LeadWith, all_lead, keeps_same, lead_
 use Rattle.hub_commands.proofs.Texts.{appends_keeps, appends_more, due_whole, keeps_appends, part_more, part_wider, text_more, text_starts, text_whole, whole_first}
 use Rattle.hub_commands.specs.Days.{new_course, plain, text_due, text_so_far}
 use Rattle.hub_commands.specs.Finishes.{AppendsFirst, IsWrittenAsClosed, written}
-use Rattle.hub_commands.specs.Pieces.{PieceEnds}
+use Rattle.hub_commands.specs.Chunks.{ChunkEnds}
 use Rattle.hub_commands.specs.RoomCalls.{RoomDayEnds, RoomDayIsCut, RoomDayIsStarved, RoomDayIsWhole, RoomsAreWrittenAsClosed}
 use Rattle.hub_commands.specs.RoomDays.{RoomsAreLeft, RoomsArePlayed, Windows, told_records}
 use Rattle.hub_commands.specs.RoomDevices.{AreAllPlaced}
 use Rattle.hub_commands.specs.RoomGoing.{AreTold, IsWrittenSoFar, Lines, RoomStopEnds, lines_from}
 use Rattle.hub_commands.specs.declared.faults.Fault.TheVariants.{Memory as WantsMemory}
 use Rattle.hub_commands.specs.declared.faults.Fault.{Fault}
-use Rattle.hub_commands.specs.declared.pieces.PieceFault.TheVariants.{Memory, Sink}
-use Rattle.hub_commands.specs.declared.pieces.PieceFault.{PieceFault}
+use Rattle.hub_commands.specs.declared.chunks.ChunkFault.TheVariants.{Memory, Sink}
+use Rattle.hub_commands.specs.declared.chunks.ChunkFault.{ChunkFault}
 use Rattle.hub_core.specs.Homes.{HomeState}
 use Rattle.room_hubs.specs.Rooms.{rooms_of}
 use Rattle.room_hubs.specs.ToldWindows.{IsToldOfRooms, told_record}
@@ -140,16 +140,16 @@ module _ (script : Script) (mode : Mode) where
   closed_windows held holds f f_after windows is before closed all = is (Told before) (One closed) (ap (λ ws. Told ws) all ∙ told_snoc script mode before closed)
 
   module _ {D : Type 0} (earliest latest : ℕ) (shows : D → Shown) where
-    -- a piece was not written: the sink has all before it, and a first part of it
-    room_stopped : {M : Type 0} (held mid holds : Option (List ℕ)) (f f_mid f_after : ℕ) (homes : List (HomeState D)) (windows : Windows) (before : List ℕ) (piece : Result (List ℕ) M) (fault : PieceFault) (given : Option (Listed D)) (why : Option Fault)
+    -- a chunk was not written: the sink has all before it, and a first part of it
+    room_stopped : {M : Type 0} (held mid holds : Option (List ℕ)) (f f_mid f_after : ℕ) (homes : List (HomeState D)) (windows : Windows) (before : List ℕ) (chunk : Result (List ℕ) M) (fault : ChunkFault) (given : Option (Listed D)) (why : Option Fault)
         → RoomsArePlayed earliest latest script mode windows
         → ((devices : List D) → length devices ≡ length (rooms_of script).room_of → AreAllPlaced (rooms_of script).room_of homes devices → RoomsAreLeft earliest latest shows script mode windows devices)
         → Appends held mid before → LeadWith (new_course script) (untraced mode) (Told windows) before → f_mid ≡ f
-        → PieceEnds (written mid holds f_mid f_after) piece (Err fault) → RoomStopEnds (rooms_of script).room_of homes fault given why
+        → ChunkEnds (written mid holds f_mid f_after) chunk (Err fault) → RoomStopEnds (rooms_of script).room_of homes fault given why
         → (tail : List ℕ) × (Due windows ≡ before ++ tail)
-        → ((bytes : List ℕ) → piece ≡ Ok bytes → (rest : List ℕ) × (Due windows ≡ (before ++ bytes) ++ rest))
+        → ((bytes : List ℕ) → chunk ≡ Ok bytes → (rest : List ℕ) × (Due windows ≡ (before ++ bytes) ++ rest))
         → RoomDayEnds earliest latest shows script mode (written held holds f f_after) windows given why
-    room_stopped held mid holds f f_mid f_after homes windows before piece Sink given why played left first leads calm ended stop tail due =
+    room_stopped held mid holds f f_mid f_after homes windows before chunk Sink given why played left first leads calm ended stop tail due =
         let rest = due ended.0 ended.1 in
         let cut : RoomDayIsCut earliest latest shows script mode (written held holds f f_after) windows given = record {
           devices = stop.0;
@@ -161,7 +161,7 @@ module _ (script : Script) (mode : Mode) where
           failed = let late = ended.3 in omega (arith, late, calm);
         } in
         subst (λ (w : Option Fault). RoomDayEnds earliest latest shows script mode (written held holds f f_after) windows given w) (sym stop.4) cut
-    room_stopped held mid holds f f_mid f_after homes windows before piece Memory given why played left first leads calm ended stop tail due =
+    room_stopped held mid holds f f_mid f_after homes windows before chunk Memory given why played left first leads calm ended stop tail due =
         let starved : RoomDayIsStarved earliest latest script mode (written held holds f f_after) windows given = record {
           no_devices = stop.0;
           played = played;
@@ -172,27 +172,27 @@ module _ (script : Script) (mode : Mode) where
         subst (λ (w : Option Fault). RoomDayEnds earliest latest shows script mode (written held holds f f_after) windows given w) (sym stop.1) starved
 
     -- the head is not written
-    pub room_head_stopped : {M : Type 0} (held holds : Option (List ℕ)) (f f_after : ℕ) (homes : List (HomeState D)) (piece : Result (List ℕ) M) (fault : PieceFault) (given : Option (Listed D)) (why : Option Fault)
+    pub room_head_stopped : {M : Type 0} (held holds : Option (List ℕ)) (f f_after : ℕ) (homes : List (HomeState D)) (chunk : Result (List ℕ) M) (fault : ChunkFault) (given : Option (Listed D)) (why : Option Fault)
         → RoomsArePlayed earliest latest script mode []
         → ((devices : List D) → length devices ≡ length (rooms_of script).room_of → AreAllPlaced (rooms_of script).room_of homes devices → RoomsAreLeft earliest latest shows script mode [] devices)
-        → IfOk piece (λ b. b ≡ head_text mode) → PieceEnds (written held holds f f_after) piece (Err fault) → RoomStopEnds (rooms_of script).room_of homes fault given why
+        → IfOk chunk (λ b. b ≡ head_text mode) → ChunkEnds (written held holds f f_after) chunk (Err fault) → RoomStopEnds (rooms_of script).room_of homes fault given why
         → RoomDayEnds earliest latest shows script mode (written held holds f f_after) [] given why
-    room_head_stopped held holds f f_after homes piece fault given why played left ok ended stop =
-        room_stopped held held holds f f f_after homes [] [] piece fault given why played left
+    room_head_stopped held holds f f_after homes chunk fault given why played left ok ended stop =
+        room_stopped held held holds f f f_after homes [] [] chunk fault given why played left
         (keeps_appends held held (keeps_same held)) (none_leads (new_course script) (untraced mode) [] [] refl) refl ended stop
         (Due [], refl)
-        (λ bytes is. (After [], ap (λ t. t ++ After []) (starts_alone ∙ sym (said piece (head_text mode) bytes ok is))))
+        (λ bytes is. (After [], ap (λ t. t ++ After []) (starts_alone ∙ sym (said chunk (head_text mode) bytes ok is))))
 
     -- the lines of a window are not written
-    pub room_lines_stopped : {M : Type 0} (held mid holds : Option (List ℕ)) (f f_mid f_after : ℕ) (homes : List (HomeState D)) (before : Windows) (closed : Listed RoomWindow) (piece : Result (List ℕ) M) (fault : PieceFault) (given : Option (Listed D)) (why : Option Fault)
+    pub room_lines_stopped : {M : Type 0} (held mid holds : Option (List ℕ)) (f f_mid f_after : ℕ) (homes : List (HomeState D)) (before : Windows) (closed : Listed RoomWindow) (chunk : Result (List ℕ) M) (fault : ChunkFault) (given : Option (Listed D)) (why : Option Fault)
         → RoomsArePlayed earliest latest script mode (before ++ closed ∷ [])
         → ((devices : List D) → length devices ≡ length (rooms_of script).room_of → AreAllPlaced (rooms_of script).room_of homes devices → RoomsAreLeft earliest latest shows script mode (before ++ closed ∷ []) devices)
         → IsWrittenSoFar script mode (written held mid f f_mid) before
-        → ((bytes : List ℕ) → piece ≡ Ok bytes → bytes ≡ window_text script (length before) (One closed) mode false)
-        → PieceEnds (written mid holds f_mid f_after) piece (Err fault) → RoomStopEnds (rooms_of script).room_of homes fault given why
+        → ((bytes : List ℕ) → chunk ≡ Ok bytes → bytes ≡ window_text script (length before) (One closed) mode false)
+        → ChunkEnds (written mid holds f_mid f_after) chunk (Err fault) → RoomStopEnds (rooms_of script).room_of homes fault given why
         → RoomDayEnds earliest latest shows script mode (written held holds f f_after) (before ++ closed ∷ []) given why
-    room_lines_stopped held mid holds f f_mid f_after homes before closed piece fault given why played left so_far lines ended stop =
-        room_stopped held mid holds f f_mid f_after homes (before ++ closed ∷ []) (So_far before) piece fault given why played left
+    room_lines_stopped held mid holds f f_mid f_after homes before closed chunk fault given why played left so_far lines ended stop =
+        room_stopped held mid holds f f_mid f_after homes (before ++ closed ∷ []) (So_far before) chunk fault given why played left
         so_far.text (rest_lead (new_course script) (untraced mode) (Told before) (One closed) (Told (before ++ closed ∷ [])) (told_snoc script mode before closed)) so_far.calm ended stop
         (own ++ After (before ++ closed ∷ []), due ∙ append_assoc (So_far before) own (After (before ++ closed ∷ [])))
         (λ bytes is. (After (before ++ closed ∷ []), due ∙ ap (λ ls. (So_far before ++ ls) ++ After (before ++ closed ∷ [])) (sym (lines bytes is))))
@@ -204,37 +204,37 @@ module _ (script : Script) (mode : Mode) where
         due = ap (λ t. t ++ After (before ++ closed ∷ [])) (so_far_more before closed)
 
     -- the total is not written
-    pub room_total_stopped : {M : Type 0} (held mid holds : Option (List ℕ)) (f f_mid f_after : ℕ) (homes : List (HomeState D)) (windows : Windows) (told : List WindowRecord) (piece : Result (List ℕ) M) (fault : PieceFault) (given : Option (Listed D)) (why : Option Fault)
+    pub room_total_stopped : {M : Type 0} (held mid holds : Option (List ℕ)) (f f_mid f_after : ℕ) (homes : List (HomeState D)) (windows : Windows) (told : List WindowRecord) (chunk : Result (List ℕ) M) (fault : ChunkFault) (given : Option (Listed D)) (why : Option Fault)
         → RoomsArePlayed earliest latest script mode windows
         → ((devices : List D) → length devices ≡ length (rooms_of script).room_of → AreAllPlaced (rooms_of script).room_of homes devices → RoomsAreLeft earliest latest shows script mode windows devices)
         → IsWrittenSoFar script mode (written held mid f f_mid) windows → length windows ≡ length script.windows.items → AreTold script mode windows told
-        → IfOk piece (λ b. b ≡ total_text told)
-        → PieceEnds (written mid holds f_mid f_after) piece (Err fault) → RoomStopEnds (rooms_of script).room_of homes fault given why
+        → IfOk chunk (λ b. b ≡ total_text told)
+        → ChunkEnds (written mid holds f_mid f_after) chunk (Err fault) → RoomStopEnds (rooms_of script).room_of homes fault given why
         → RoomDayEnds earliest latest shows script mode (written held holds f f_after) windows given why
-    room_total_stopped held mid holds f f_mid f_after homes windows told piece fault given why played left so_far all are ok ended stop =
-        room_stopped held mid holds f f_mid f_after homes windows (So_far windows) piece fault given why played left
+    room_total_stopped held mid holds f f_mid f_after homes windows told chunk fault given why played left so_far all are ok ended stop =
+        room_stopped held mid holds f f_mid f_after homes windows (So_far windows) chunk fault given why played left
         so_far.text (all_lead (new_course script) (untraced mode) (Told windows)) so_far.calm ended stop
         (After windows, refl)
         (λ bytes is. (
           [],
           due_whole (new_course script) mode false (Told windows) (told_size windows ∙ all)
-              ∙ ap (λ t. So_far windows ++ t) (sym (said piece (total_text told) bytes ok is ∙ same_total told (Told windows) are))
+              ∙ ap (λ t. So_far windows ++ t) (sym (said chunk (total_text told) bytes ok is ∙ same_total told (Told windows) are))
               ∙ sym (append-nil (So_far windows ++ bytes)),
         ))
 
     -- all is written
-    pub room_finished : {M : Type 0} (held mid holds : Option (List ℕ)) (f f_mid f_after : ℕ) (windows : Windows) (devices : Listed D) (told : List WindowRecord) (piece : Result (List ℕ) M)
+    pub room_finished : {M : Type 0} (held mid holds : Option (List ℕ)) (f f_mid f_after : ℕ) (windows : Windows) (devices : Listed D) (told : List WindowRecord) (chunk : Result (List ℕ) M)
         → RoomsAreLeft earliest latest shows script mode windows devices.items
         → IsWrittenSoFar script mode (written held mid f f_mid) windows → length windows ≡ length script.windows.items → AreTold script mode windows told
-        → IfOk piece (λ b. b ≡ total_text told) → PieceEnds (written mid holds f_mid f_after) piece (Ok tt)
+        → IfOk chunk (λ b. b ≡ total_text told) → ChunkEnds (written mid holds f_mid f_after) chunk (Ok tt)
         → RoomDayIsWhole earliest latest shows script mode (written held holds f f_after) windows (Some devices)
-    room_finished held mid holds f f_mid f_after windows devices told piece left so_far all are ok ended = record {
+    room_finished held mid holds f f_mid f_after windows devices told chunk left so_far all are ok ended = record {
       devices = devices;
       there = refl;
       all = all;
       left = left;
       text = subst (λ t. Appends held holds t)
-          (ap (λ t. So_far windows ++ t) (said piece (total_text told) ended.0 ok ended.1 ∙ same_total told (Told windows) are) ∙ text_whole (new_course script) mode false (Told windows))
+          (ap (λ t. So_far windows ++ t) (said chunk (total_text told) ended.0 ok ended.1 ∙ same_total told (Told windows) are) ∙ text_whole (new_course script) mode false (Told windows))
           (appends_more held mid holds (So_far windows) ended.0 so_far.text ended.2);
       calm = ended.3 ∙ so_far.calm;
     }
@@ -268,20 +268,20 @@ module _ (script : Script) (mode : Mode) where
         subst (λ (w : Option Fault). RoomDayEnds earliest latest shows script mode (written held held f f) [] given w) (sym because) ends
 
   -- the head is written
-  pub room_begun : {M : Type 0} (held holds : Option (List ℕ)) (f f_after : ℕ) (piece : Result (List ℕ) M) → IfOk piece (λ b. b ≡ head_text mode) → PieceEnds (written held holds f f_after) piece (Ok tt)
+  pub room_begun : {M : Type 0} (held holds : Option (List ℕ)) (f f_after : ℕ) (chunk : Result (List ℕ) M) → IfOk chunk (λ b. b ≡ head_text mode) → ChunkEnds (written held holds f f_after) chunk (Ok tt)
       → IsWrittenSoFar script mode (written held holds f f_after) []
-  room_begun held holds f f_after piece ok ended = record {
-    text = subst (λ t. Appends held holds t) (said piece (head_text mode) ended.0 ok ended.1 ∙ sym starts_alone) ended.2;
+  room_begun held holds f f_after chunk ok ended = record {
+    text = subst (λ t. Appends held holds t) (said chunk (head_text mode) ended.0 ok ended.1 ∙ sym starts_alone) ended.2;
     calm = ended.3;
   }
 
   -- the lines of a window are written
-  pub room_goes_on : {M : Type 0} (held mid holds : Option (List ℕ)) (f f_mid f_after : ℕ) (before : Windows) (closed : Listed RoomWindow) (piece : Result (List ℕ) M)
+  pub room_goes_on : {M : Type 0} (held mid holds : Option (List ℕ)) (f f_mid f_after : ℕ) (before : Windows) (closed : Listed RoomWindow) (chunk : Result (List ℕ) M)
       → IsWrittenSoFar script mode (written held mid f f_mid) before
-      → ((bytes : List ℕ) → piece ≡ Ok bytes → bytes ≡ window_text script (length before) (One closed) mode false)
-      → PieceEnds (written mid holds f_mid f_after) piece (Ok tt)
+      → ((bytes : List ℕ) → chunk ≡ Ok bytes → bytes ≡ window_text script (length before) (One closed) mode false)
+      → ChunkEnds (written mid holds f_mid f_after) chunk (Ok tt)
       → IsWrittenSoFar script mode (written held holds f f_after) (before ++ closed ∷ [])
-  room_goes_on held mid holds f f_mid f_after before closed piece so_far lines ended = record {
+  room_goes_on held mid holds f f_mid f_after before closed chunk so_far lines ended = record {
     text = subst (λ t. Appends held holds t)
         (ap (λ ls. So_far before ++ ls) (lines ended.0 ended.1) ∙ sym (so_far_more before closed))
         (appends_more held mid holds (So_far before) ended.0 so_far.text ended.2);

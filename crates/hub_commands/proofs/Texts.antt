@@ -1,4 +1,4 @@
--- The text of a day, piece after piece, and what the sink got of it.
+-- The text of a day, chunk after chunk, and what the sink got of it.
 use Rattle.day_clock.specs.Sinks.{AppendsPart}
 use Rattle.day_report.proofs.Cited.{enumerate_from-append}
 use Rattle.day_report.specs.Days.{day_text_from, head_text, total_text, window_text, window_texts_from}
@@ -27,14 +27,14 @@ take_within [] ys n within = absurd (omega (arith, within))
 take_within (x ∷ xs) ys zero within = refl
 take_within (x ∷ xs) ys (suc n) within = ap (λ zs. x ∷ zs) (take_within xs ys n (omega (arith, within)))
 
--- one piece behind another
+-- one chunk behind another
 pub appends_more : (a b c : Option (List ℕ)) (xs ys : List ℕ) → Appends a b xs → Appends b c ys → Appends a c (xs ++ ys)
 appends_more None b c xs ys first next = tt
 appends_more (Some held) None c xs ys first next = absurd first
 appends_more (Some held) (Some mid) None xs ys first next = absurd next
 appends_more (Some held) (Some mid) (Some all) xs ys first next = next ∙ ap (λ zs. zs ++ ys) first ∙ append_assoc held xs ys
 
--- nothing behind a piece
+-- nothing behind a chunk
 pub appends_keeps : (a b c : Option (List ℕ)) (xs : List ℕ) → Appends a b xs → Keeps b c → Appends a c xs
 appends_keeps None b c xs first keeps = tt
 appends_keeps (Some held) None c xs first keeps = absurd first
@@ -46,7 +46,7 @@ keeps_appends None b keeps = tt
 keeps_appends (Some held) None keeps = absurd keeps
 keeps_appends (Some held) (Some all) keeps = keeps ∙ sym (append-nil held)
 
--- a first part behind a piece
+-- a first part behind a chunk
 pub part_more : (a b c : Option (List ℕ)) (xs ys : List ℕ) → Appends a b xs → AppendsPart b c ys → AppendsPart a c (xs ++ ys)
 part_more a b c xs ys first part =
     let n = length-append xs ys in

@@ -10,7 +10,7 @@ pub mod Finishes
 pub mod Checks
 pub mod Trials
 pub mod Calls
-pub mod Pieces
+pub mod Chunks
 pub mod Going
 pub mod LastLines
 pub mod Watched

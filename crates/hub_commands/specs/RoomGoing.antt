@@ -14,10 +14,10 @@ use Rattle.hub_commands.specs.RoomCalls.{RoomDayEnds}
 use Rattle.hub_commands.specs.RoomDays.{RoomsArePlayed, RoomsAreUnderWay, Windows, room_count, told_records}
 use Rattle.hub_commands.specs.RoomDevices.{AreAllPlaced, HasRoomFor}
 use Rattle.hub_commands.specs.Statuses.{status_for_fault}
+use Rattle.hub_commands.specs.declared.chunks.ChunkFault.TheVariants.{Memory, Sink}
+use Rattle.hub_commands.specs.declared.chunks.ChunkFault.{ChunkFault}
 use Rattle.hub_commands.specs.declared.faults.Fault.TheVariants.{Memory as WantsMemory, Write}
 use Rattle.hub_commands.specs.declared.faults.Fault.{Fault}
-use Rattle.hub_commands.specs.declared.pieces.PieceFault.TheVariants.{Memory, Sink}
-use Rattle.hub_commands.specs.declared.pieces.PieceFault.{PieceFault}
 use Rattle.hub_commands.specs.declared.room_days.RoomDay.{RoomDay}
 use Rattle.hub_commands.specs.declared.room_finishes.RoomFinish.{RoomFinish}
 use Rattle.hub_core.specs.Homes.{AreNew, HomeState}
@@ -130,7 +130,7 @@ IsNextRoomDay earliest latest shows script mode next =
 
 -- the day ends: with the devices of the homes, in the order of the script, where the sink failed,
 -- and without them where memory was wanted
-abbrev pub RoomStopEnds : {D : Type 0} → List ℕ → List (HomeState D) → PieceFault
+abbrev pub RoomStopEnds : {D : Type 0} → List ℕ → List (HomeState D) → ChunkFault
     → Option (Listed D) → Option Fault → Type 0
 RoomStopEnds {D} room_of homes Sink given fault =
     (devices : Listed D) × (given ≡ Some devices) × (length devices.items ≡ length room_of)

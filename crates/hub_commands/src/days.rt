@@ -6,15 +6,15 @@ ghost use Rattle.hub_commands.specs.Days.{new_course};
 ghost use Rattle.hub_commands.specs.Finishes.{written};
 ghost use Rattle.hub_commands.specs.Going.{DayHasBegun, GoesOnOrEnds, HandsBack, HasEnded, HasWritten, KeepsWindows, windows_in};
 ghost use Rattle.hub_commands.specs.LastLines.{LineIsWritten};
-ghost use Rattle.hub_commands.specs.Pieces.{StopEnds};
+ghost use Rattle.hub_commands.specs.Chunks.{StopEnds};
 ghost use Rattle.hub_commands.specs.Statuses.{status_for_fault};
 ghost use Rattle.hub_commands.specs.Trials.{HasStarved};
 ghost use Rattle.routine_reader.specs.Scripts.{plain_script};
 ghost use Rattle.routine_reader.specs.Sound.{IsSound};
 
+use crate::chunks::{ChunkFault, write_chunk};
 use crate::faults::Fault;
 use crate::finishes::{Day, Finish};
-use crate::pieces::{PieceFault, write_piece};
 use crate::plays::DayUnderWay;
 use crate::ways::Way;
 use command_words::Options;
@@ -67,15 +67,15 @@ pub fn starve<Dev: Device>(day: Option<Day<Dev>>) -> Finish<Dev>
     }
 }
 
-/// Ends a day on which a piece of the record was not written: with its devices where the sink
+/// Ends a day on which a chunk of the record was not written: with its devices where the sink
 /// failed, and without them where memory was wanted.
-fn stop<Dev: Device>(day: DayUnderWay<Dev>, fault: PieceFault) -> Finish<Dev>
+fn stop<Dev: Device>(day: DayUnderWay<Dev>, fault: ChunkFault) -> Finish<Dev>
     ensures status { result.status ≡ status_for_fault result.fault }
     ensures ends { StopEnds day.windows day.home.devices fault result.day result.fault }
 {
     let DayUnderWay { home, windows } = day;
     match fault {
-        PieceFault::Sink => Finish {
+        ChunkFault::Sink => Finish {
             status: Fault::Write.status(),
             day: Some(Day {
                 windows,
@@ -83,7 +83,7 @@ fn stop<Dev: Device>(day: DayUnderWay<Dev>, fault: PieceFault) -> Finish<Dev>
             }),
             fault: Some(Fault::Write),
         },
-        PieceFault::Memory => end_without_devices(windows, Fault::Memory),
+        ChunkFault::Memory => end_without_devices(windows, Fault::Memory),
     }
 }
 
@@ -133,7 +133,7 @@ pub fn begin_on<W: Way, D: Device, K: Sink>(
         home,
         windows: List::new(alloc),
     };
-    match write_piece(sink, head) {
+    match write_chunk(sink, head) {
         Ok(()) => Ok(day),
         Err(fault) => Err(stop(day, fault)),
     }
@@ -190,7 +190,7 @@ pub fn go_on<W: Way, D: Device, K: Sink>(
         Err(windows) => return Err(end_without_devices(windows, Fault::Memory)),
     };
     let lines = last_lines(alloc, script, options, before, &day.windows);
-    match write_piece(sink, lines) {
+    match write_chunk(sink, lines) {
         Ok(()) => Ok(day),
         Err(fault) => Err(stop(day, fault)),
     }
@@ -210,7 +210,7 @@ pub fn end<W: Way, D: Device, K: Sink>(
         result.day result.fault }
     ensures kept { HandsBack result.day day.windows.items }
 {
-    if let Err(fault) = write_piece(sink, total_text(alloc, &day.windows)) {
+    if let Err(fault) = write_chunk(sink, total_text(alloc, &day.windows)) {
         return stop(day, fault);
     }
     let DayUnderWay { home, windows } = day;
@@ -236,17 +236,17 @@ pub fn end_with_line<Dev: Device, K: Sink>(
         (written (K.holds sink.old) (K.holds sink.new) (K.faults sink.old) (K.faults sink.new))
         day result.day result.fault }
 {
-    match write_piece(sink, line) {
+    match write_chunk(sink, line) {
         Ok(()) => Finish {
             status: 0,
             day,
             fault: None,
         },
-        Err(PieceFault::Sink) => Finish {
+        Err(ChunkFault::Sink) => Finish {
             status: Fault::Write.status(),
             day,
             fault: Some(Fault::Write),
         },
-        Err(PieceFault::Memory) => starve(day),
+        Err(ChunkFault::Memory) => starve(day),
     }
 }

@@ -74,7 +74,7 @@ fn open_window<Dev: Device>(
 {
     let window = &script.windows.as_slice()[number as usize];
     let roster = roster(alloc, script, number)?;
-    home.kept();
+    home.kept_invariant();
     match home.open_window(alloc, roster, mode, window.probes) {
         Ok(hub) => Ok(hub),
         Err(_) => Err(NoMemory),
@@ -92,7 +92,7 @@ pub fn close_next<Dev: Device>(
     ensures kept { HomeIsKept Dev.shows home }
     ensures windows { result.windows.items ≡ windows.items ++ closed ∷ [] }
 {
-    home.kept();
+    home.kept_invariant();
     let mut windows = windows;
     let kept = windows.push(closed);
     kept.unwrap();

@@ -16,8 +16,8 @@ ghost use Rattle.routine_reader.specs.Scripts.{plain_script};
 ghost use Rattle.routine_reader.specs.Sound.{IsSound};
 ghost use Rattle.std.specs.Prelude.{◌≡◌, ◌<◌, ◌≤◌, ◌++◌, ◌∷◌, [], All, Err, IfErr, IfOk, IsTrue, None, Ok, OnOk, Some, false, length};
 
+use crate::chunks::{ChunkFault, write_chunk};
 use crate::faults::Fault;
-use crate::pieces::{PieceFault, write_piece};
 use crate::room_devices::{DeviceRoom, in_script_order};
 use crate::room_finishes::RoomFinish;
 use crate::room_plays::work_rooms;
@@ -74,9 +74,9 @@ fn end_without_devices<Dev: Device>(
     }
 }
 
-/// Ends a day on which a piece of the record was not written: with its devices where the sink
+/// Ends a day on which a chunk of the record was not written: with its devices where the sink
 /// failed, and without them where memory was wanted.
-fn stop<Dev: Device>(rooms: &Rooms, day: RoomDay<Dev>, fault: PieceFault) -> RoomFinish<Dev>
+fn stop<Dev: Device>(rooms: &Rooms, day: RoomDay<Dev>, fault: ChunkFault) -> RoomFinish<Dev>
     requires room { HasRoomFor (length day.homes.items) (length rooms.now.room_of.items) day.room }
     requires rooms { IsRoomed rooms.now.room_of.items (length day.homes.items) }
     requires devices { HasDevicesOf rooms.now.room_of.items day.homes.items }
@@ -93,13 +93,13 @@ fn stop<Dev: Device>(rooms: &Rooms, day: RoomDay<Dev>, fault: PieceFault) -> Roo
     } = day;
     drop(told);
     match fault {
-        PieceFault::Sink => RoomFinish {
+        ChunkFault::Sink => RoomFinish {
             status: Fault::Write.status(),
             windows,
             devices: Some(in_script_order(rooms.room_of.as_slice(), homes, room)),
             fault: Some(Fault::Write),
         },
-        PieceFault::Memory => {
+        ChunkFault::Memory => {
             drop(homes);
             drop(room);
             end_without_devices(windows, Fault::Memory)
@@ -209,7 +209,7 @@ fn begin<K: Sink, B: Bench, C: Clock>(
         Ok(day) => day,
         Err(NoMemory) => return Err(refuse_rooms(alloc, Fault::Memory)),
     };
-    match write_piece(sink, head_text(alloc, mode)) {
+    match write_chunk(sink, head_text(alloc, mode)) {
         Ok(()) => Ok(day),
         Err(fault) => Err(stop(rooms, day, fault)),
     }
@@ -350,7 +350,7 @@ fn go_on<Dev: Device, K: Sink, C: Clock>(
         Err(windows) => return Err(end_without_devices(windows, Fault::Memory)),
     };
     let lines = tell_lines(alloc, script, rooms, mode, &day.windows, &mut day.told);
-    match write_piece(sink, lines) {
+    match write_chunk(sink, lines) {
         Ok(()) => Ok(day),
         Err(fault) => Err(stop(rooms, day, fault)),
     }
@@ -378,7 +378,7 @@ fn end<Dev: Device, K: Sink, C: Clock>(
         mode (written (K.holds sink.old) (K.holds sink.new) (K.faults sink.old) (K.faults sink.new))
         day result }
 {
-    if let Err(fault) = write_piece(sink, total_text(alloc, &day.told)) {
+    if let Err(fault) = write_chunk(sink, total_text(alloc, &day.told)) {
         return stop(rooms, day, fault);
     }
     let RoomDay {

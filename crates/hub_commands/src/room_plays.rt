@@ -156,7 +156,7 @@ impl<Dev: Device> ClosingRoom<Dev> {
         let mut backward = turned(done, room);
         'rooms: while let Some(room) = backward.pop() {
             let RoomDone { window, home } = room;
-            home.kept();
+            home.kept_invariant();
             homes.push(home).unwrap();
             windows.push(window).unwrap();
         }

@@ -14,14 +14,14 @@ use Rattle.hub_core.specs.Homes.{CountsAreLow}
 use Rattle.hub_core.specs.HubCalls.{faults_told, probes_taken}
 use Rattle.hub_core.specs.HubSteps.{task_of}
 use Rattle.hub_core.specs.KeptByModel.{IsKeptByModel}
-use Rattle.hub_core.specs.KeptOrders.{OrderIsBeside}
 use Rattle.hub_core.specs.OpenHubs.{OpenHub, configuration_of, events_in, held_in}
+use Rattle.hub_core.specs.OrderStates.{OrderIsBeside}
 use Rattle.hub_core.specs.declared.open_windows.ClosingLists.{ClosingLists}
 use Rattle.hub_core.specs.declared.open_windows.OpenWindow.TheInside.{Inside}
 use Rattle.legal_days.specs.AccountedCalls.{told_calls}
 use Rattle.lock_leasing.specs.Configurations.{Configuration, read_of}
 use Rattle.std.specs.Prelude.{Bool, IsTrue, Some, count_by, false, length, nat_lt, slice_get, sum_by, true, ℕ, ◌+◌, ◌-◌, ◌<◌, ◌≡◌, ◌≤◌}
-use Rattle.window_devices.specs.Away.{HandsAre}
+use Rattle.window_devices.specs.Checkouts.{HeldTokensAre}
 use Rattle.window_devices.specs.KnownDevices.{progress_at}
 use Rattle.window_order.specs.Leavings.{IsEmptyFor}
 
@@ -108,9 +108,9 @@ open_of h = record {
   opened = h.opened;
   history = h.history.history;
   moment = h.moment;
-  devices = h.away.known.items;
-  places = h.away.gate.places;
-  tickets = h.away.gate.tickets;
+  devices = h.checkouts.known.items;
+  places = h.checkouts.gate.places;
+  tickets = h.checkouts.gate.tickets;
 }
 
 -- what the type of a hub keeps of its parts
@@ -119,4 +119,5 @@ pub record IsWhole {D : Type 0} (shows : D → Shown) (h : Inside D) : Type 0 wh
   pub room : HasRoomLeft h.rounds h.history h.closing
   pub order : OrderIsBeside h.rounds h.history
       (configuration_of (open_of h)).grips h.order.line h.order.table
-  pub hands : HandsAre h.history.setting (configuration_of (open_of h)).grips h.away.hands.items
+  pub held_tokens : HeldTokensAre h.history.setting
+      (configuration_of (open_of h)).grips h.checkouts.held_tokens.items

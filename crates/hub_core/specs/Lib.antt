@@ -9,12 +9,12 @@ pub mod HubSteps
 pub mod HubsKept
 pub mod Joins
 pub mod KeptByModel
-pub mod KeptOrders
 pub mod MarkedRuns
 pub mod MustChecks
 pub mod OpenHubs
 pub mod OpeningRooms
 pub mod Openings
+pub mod OrderStates
 pub mod PlannedPlaces
 pub mod Restandings
 pub mod Steps

@@ -3,8 +3,8 @@ ghost use Rattle.std.specs.Prelude.{IfSome, IsSome, IsTrue, None, Some, [], fals
 ghost use Rattle.hub_core.specs.Decisions.{told_choice};
 ghost use Rattle.hub_core.specs.HubCalls.{Answers, DeviceGoesOut, SameWindow};
 ghost use Rattle.hub_core.specs.OpenHubs.{configuration_of};
-ghost use Rattle.window_order.specs.KeptOrders.{is_first, left_by, noted_first};
-ghost use Rattle.hub_core.specs.KeptOrders.{MayLeave, MayNoteAnswer};
+ghost use Rattle.window_order.specs.OrderStates.{is_first, left_by, noted_first};
+ghost use Rattle.hub_core.specs.OrderStates.{MayLeave, MayNoteAnswer};
 ghost use Rattle.hub_core.specs.PlannedPlaces.{HasSameRoom, HoldsPlan};
 ghost use Rattle.hub_core.specs.Steps.{HandsOut, Moves, Over, choice_of};
 ghost use Rattle.history_book.specs.ReadHistories.{read_in, with_doom};
@@ -25,7 +25,7 @@ use home_types::{Answer, DeviceNo, RunNo, Value};
 use lock_leasing::Purpose;
 use timeline_scheduler::{Scratch, plan_uses};
 use window_devices::DeviceProgress;
-use window_order::{KeptOrder, note_of};
+use window_order::{OrderState, note_of};
 
 impl<D: Device> OpenWindow<D> {
     /// The last moment is this one, or the one before where that is later.
@@ -207,7 +207,7 @@ impl<D: Device> OpenWindow<D> {
         ensures answer { Answers self.old r.0 moment (Over (Aborted cause) result) self.new }
         ensures window { SameWindow self.old self.new }
     {
-        self.order.table.kept();
+        self.order.table.kept_invariant();
         self.moment = self.moment.max(moment);
         self.order.withdraw(r);
         let entry = Entry::Ended(r, End::Aborted(cause));
@@ -230,10 +230,10 @@ impl<D: Device> OpenWindow<D> {
         ensures window { SameWindow self.old self.new }
     {
         let task = self.task(r, purpose);
-        let known = self.away.known(d);
+        let known = self.checkouts.known(d);
         self.moment = self.moment.max(moment);
         self.order.touch(r, d, purpose);
-        self.away
+        self.checkouts
             .send(d, r.0, DeviceProgress { purpose, ..known }, task)
     }
 }
@@ -244,7 +244,7 @@ impl<D: Device> OpenWindow<D> {
 #[inline(always)]
 pub(crate) fn note_answer(
     history: &ReadHistory,
-    order: &mut KeptOrder,
+    order: &mut OrderState,
     r: RunNo,
     k: u32,
     d: DeviceNo,
@@ -271,7 +271,7 @@ pub(crate) fn note_answer(
 
 /// The run, whose command with the number `k` was just skipped, leaves the device where that was
 /// its last command there. Under the weak model it has no access there.
-fn leave_skipped(history: &ReadHistory, order: &mut KeptOrder, r: RunNo, k: u32, d: DeviceNo)
+fn leave_skipped(history: &ReadHistory, order: &mut OrderState, r: RunNo, k: u32, d: DeviceNo)
     requires { MayLeave history.now r.0 k d.0 order.old.table }
     ensures line { order.new.line ≡ order.old.line }
     ensures weakly { is_weak history.now.setting.mode ≡ true → order.new.table ≡ order.old.table }
@@ -292,7 +292,7 @@ fn leave_skipped(history: &ReadHistory, order: &mut KeptOrder, r: RunNo, k: u32,
 #[inline(always)]
 pub(crate) fn doom_for(
     history: &mut ReadHistory,
-    order: &mut KeptOrder,
+    order: &mut OrderState,
     r: RunNo,
     cause: Option<Cause>,
 ) -> Option<Entry>

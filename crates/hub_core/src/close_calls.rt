@@ -14,7 +14,7 @@ use history_book::WindowRecord;
 use home_types::{Item, List, Stand, World};
 use lineage_table::Table;
 use serial_line::Line;
-use window_devices::{Away, DeviceProgress, Risen, rises_in, stands_known};
+use window_devices::{Checkouts, DeviceProgress, Risen, rises_in, stands_known};
 use window_order::{line_items, stands_in};
 
 impl<D: Device> OpenWindow<D> {
@@ -27,15 +27,15 @@ impl<D: Device> OpenWindow<D> {
             history,
             order,
             opened,
-            away,
+            checkouts,
             closing,
             ..
         } = self;
-        let Away {
+        let Checkouts {
             gate,
             known,
-            hands: _,
-        } = away;
+            held_tokens: _,
+        } = checkouts;
         let weak = history.is_weak();
         let (mode, kinds, first, entries) = history.into_parts();
         let devices = gate.close();

@@ -237,14 +237,14 @@ impl<D: Device> OpenWindow<D> {
         ensures { option_map (λ d. d.0) result
             ≡ grip_wait self.now.setting (configuration_of self.now).grips r.0 }
     {
-        *self.away.hands.get(r.0 as u64 - 1).unwrap()
+        *self.checkouts.held_tokens.get(r.0 as u64 - 1).unwrap()
     }
 
     /// Whether the device is out.
     pub(crate) fn is_out(&self, d: DeviceNo) -> bool
         ensures { result ≡ is_out (configuration_of self.now).grips d.0 }
     {
-        self.away.gate.slip(d).is_some()
+        self.checkouts.gate.slip(d).is_some()
     }
 
     /// What the grip of the run is to do for this purpose.

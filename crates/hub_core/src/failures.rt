@@ -5,13 +5,13 @@ ghost use Rattle.failure_serialization.specs.Events.{lost_run};
 ghost use Rattle.history_book.specs.ReadHistories.{read_in, with_entry, with_lost};
 ghost use Rattle.history_book.specs.WellFormed.{may_follow};
 ghost use Rattle.home_types.specs.declared.items.Item.TheVariants.{Back, Failed};
-ghost use Rattle.hub_core.specs.KeptOrders.{HasFallen, HasRisen, IsLostTo, MayTurn};
+ghost use Rattle.hub_core.specs.OrderStates.{HasFallen, HasRisen, IsLostTo, MayTurn};
 ghost use Rattle.lineage_table.specs.Lineages.{accesses_at};
 
-use failure_serialization::{fell, rose};
+use failure_serialization::{device_failed, device_recovered};
 use history_book::{Cause, Entry, ReadHistory};
 use home_types::{DeviceNo, List, RunNo};
-use window_order::{KeptOrder, seal};
+use window_order::{OrderState, seal};
 
 /// A device has failed.
 #[derive(Clone, Copy, Debug, PartialEq, Eq)]
@@ -26,7 +26,7 @@ pub(crate) struct Failure {
 /// is counted down, and the history tells it. The run `first` has died there with its first access.
 pub(crate) fn note_fall(
     history: &mut ReadHistory,
-    order: &mut KeptOrder,
+    order: &mut OrderState,
     maker: u32,
     d: DeviceNo,
     number: u32,
@@ -42,7 +42,7 @@ pub(crate) fn note_fall(
         order.old.table order.new.table }
     ensures lost { result.lost ≡ lost_run history.old.history (accesses_at order.old.table d.0) }
 {
-    let lost = fell(
+    let lost = device_failed(
         &mut order.line,
         &mut order.table,
         history.book(),
@@ -61,7 +61,7 @@ pub(crate) fn note_fall(
 /// is counted up, and the history tells it.
 pub(crate) fn note_rise(
     history: &mut ReadHistory,
-    order: &mut KeptOrder,
+    order: &mut OrderState,
     maker: u32,
     d: DeviceNo,
     number: u32,
@@ -75,7 +75,7 @@ pub(crate) fn note_rise(
     ensures order { HasRisen history.old d number order.old.line order.new.line order.old.table
         order.new.table }
 {
-    rose(&mut order.line, &mut order.table, history.book(), d, number);
+    device_recovered(&mut order.line, &mut order.table, history.book(), d, number);
     seal(&mut order.line);
     let entry = Entry::Rose(d);
     history.push(maker, entry);
@@ -86,25 +86,25 @@ pub(crate) fn note_rise(
 /// of the device that is out for it.
 pub(crate) fn doom_lost(
     history: &mut ReadHistory,
-    order: &mut KeptOrder,
-    hands: &List<Option<DeviceNo>>,
+    order: &mut OrderState,
+    held_tokens: &List<Option<DeviceNo>>,
     d: DeviceNo,
     lost: Option<RunNo>,
 ) -> Option<Entry>
     requires run { IfSome lost
-        (λ r. IsTrue (is_run history.old.setting.runs r.0) × (r.0 ≤ length hands.now.items)) }
+        (λ r. IsTrue (is_run history.old.setting.runs r.0) × (r.0 ≤ length held_tokens.now.items)) }
     requires room { IsSome lost → 0 < history.old.spare }
     requires follows { IfSome lost (λ r. IsTrue
         (may_follow history.old.setting (read_in history.old) (Entry.Doomed r (Cause.Lost d)))) }
     ensures entry { result ≡ option_map (λ r. Entry.Doomed r (Cause.Lost d)) lost }
     ensures history { history.new ≡ with_lost history.old d lost }
     ensures line { order.new.line ≡ order.old.line }
-    ensures table { IsLostTo lost hands.now.items order.old.table order.new.table }
+    ensures table { IsLostTo lost held_tokens.now.items order.old.table order.new.table }
 {
     let Some(r) = lost else {
         return None;
     };
-    let out = *hands.get(r.0 as u64 - 1).unwrap();
+    let out = *held_tokens.get(r.0 as u64 - 1).unwrap();
     order.doom(r, out);
     let entry = Entry::Doomed(r, Cause::Lost(d));
     history.push(0, entry);

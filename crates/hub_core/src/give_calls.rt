@@ -23,8 +23,8 @@ impl<D: Device> OpenWindow<D> {
         ensures given { IsGiven self.old grip moment result self.new }
         ensures window { SameWindow self.old self.new }
     {
-        if grip.slip().maker == 0 || !self.away.gate.is_kept(&grip) {
-            let stranger = self.away.gate.stranger(&grip);
+        if grip.slip().maker == 0 || !self.checkouts.gate.is_kept(&grip) {
+            let stranger = self.checkouts.gate.stranger(&grip);
             return Err((grip, stranger));
         }
         Ok(self.come_home(grip, moment))

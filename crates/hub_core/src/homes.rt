@@ -89,7 +89,7 @@ impl<D: Device> Home<D> {
     }
 
     /// Does nothing. Its contract is what holds of every home.
-    pub fn kept(&self)
+    pub fn kept_invariant(&self)
         ensures { HomeIsKept D.shows self.now }
     {
         let _ = &self.opened;

@@ -55,11 +55,11 @@ impl<D: Device> Model for Hub<D> {
 
 impl<D: Device> Hub<D> {
     /// Does nothing. Its contract is what holds of every hub.
-    pub fn kept(&self)
+    pub fn kept_invariant(&self)
         ensures { HubStands D.shows self.now }
     {
         let window = &self.window;
-        window.away.gate.numbered();
+        window.checkouts.gate.numbered();
     }
 
     /// Does nothing. Its contract is that a window is never stuck.
@@ -74,7 +74,7 @@ impl<D: Device> Hub<D> {
     pub fn bounded(&self)
         ensures { IsBounded self.now }
     {
-        self.window.whole();
+        self.window.whole_invariant();
     }
 
     /// The lineage table of the window. It has at most one access of each run on a device, under
@@ -88,7 +88,7 @@ impl<D: Device> Hub<D> {
             → (d : ℕ) → accesses_at result.now d ≡ [] }
     {
         let window = &self.window;
-        window.order.table.kept();
+        window.order.table.kept_invariant();
         &window.order.table
     }
 
@@ -152,7 +152,7 @@ impl<D: Device> Hub<D> {
         if window.moment != 0 {
             return false;
         }
-        if window.away.gate.first_out().is_some() {
+        if window.checkouts.gate.first_out().is_some() {
             return false;
         }
         window.has_all_probes()
@@ -162,7 +162,7 @@ impl<D: Device> Hub<D> {
     pub fn probes_left(&self, d: DeviceNo) -> u64
         ensures { result ≡ (configuration_of self.now).probes d.0 }
     {
-        self.window.away.known(d).probes_left as u64
+        self.window.checkouts.known(d).probes_left as u64
     }
 
     /// Why the window cannot be closed: the smallest run that has not ended, else the smallest
@@ -174,7 +174,7 @@ impl<D: Device> Hub<D> {
         if let Some(r) = window.history.first_unended() {
             return Some(NotQuiet::StillLive(r));
         }
-        match window.away.gate.first_out() {
+        match window.checkouts.gate.first_out() {
             Some(d) => Some(NotQuiet::StillOut(d)),
             None => None,
         }
@@ -207,10 +207,10 @@ impl<D: Device> Hub<D> {
         ensures { result ≡ grip_takes self.now.setting ((configuration_of self.now).grips d.0) }
     {
         let window = &self.window;
-        let Some(slip) = window.away.gate.slip(d) else {
+        let Some(slip) = window.checkouts.gate.slip(d) else {
             return 0;
         };
-        match window.away.known(d).purpose {
+        match window.checkouts.known(d).purpose {
             Purpose::Commands(k) => window.history.command(RunNo(slip.maker), k).takes,
             Purpose::Undoes(_) | Purpose::Probes(_) => 0,
         }

@@ -11,7 +11,7 @@ use crate::open_windows::OpenWindow;
 use command_rules::RosterRun;
 use device_states::Device;
 use home_types::{DeviceNo, Item, List, NoMemory, RunNo};
-use window_order::KeptOrder;
+use window_order::OrderState;
 
 impl<D: Device> Hub<D> {
     /// The run joins the window as its last one, and its number is answered. It has not arrived:
@@ -49,15 +49,15 @@ impl<D: Device> OpenWindow<D> {
     {
         let earlier = self.history.run_count();
         let bounds = bounds_of(earlier + 1, self.history.device_count(), self.rounds);
-        let (items, hands) = (&mut self.closing.order, &mut self.away.hands);
-        let Ok(()) = make_room(&mut self.order, items, hands, bounds.items, &run) else {
+        let (items, held_tokens) = (&mut self.closing.order, &mut self.checkouts.held_tokens);
+        let Ok(()) = make_room(&mut self.order, items, held_tokens, bounds.items, &run) else {
             drop(run);
             return Err(NoMemory);
         };
         self.history.join(run, ENTRIES_OF_A_RUN)?;
         let last = self.history.roster().runs.get(earlier).unwrap();
         self.order.join_run(last);
-        let Ok(()) = self.away.hands.push(None) else {
+        let Ok(()) = self.checkouts.held_tokens.push(None) else {
             unreachable!();
         };
         Ok(())
@@ -68,9 +68,9 @@ impl<D: Device> OpenWindow<D> {
 /// for so many items of the record's order, and for its hand. All else stays, and so does the room
 /// that there was.
 fn make_room(
-    order: &mut KeptOrder,
+    order: &mut OrderState,
     items: &mut List<Item>,
-    hands: &mut List<Option<DeviceNo>>,
+    held_tokens: &mut List<Option<DeviceNo>>,
     most: u64,
     run: &RosterRun,
 ) -> Result<(), NoMemory>
@@ -86,10 +86,10 @@ fn make_room(
     ensures items_are { items.new.items ≡ items.old.items }
     ensures items_kept { items.old.spare ≤ items.new.spare }
     ensures items_room { OnOk result (most ≤ items.new.spare) }
-    ensures hands_are { hands.new.items ≡ hands.old.items }
-    ensures hand { OnOk result (0 < hands.new.spare) }
+    ensures hands_are { held_tokens.new.items ≡ held_tokens.old.items }
+    ensures hand { OnOk result (0 < held_tokens.new.spare) }
 {
     order.make_room(run)?;
     items.reserve(most)?;
-    hands.reserve(1)
+    held_tokens.reserve(1)
 }

@@ -22,14 +22,14 @@ use history_book::{Book, ReadHistory};
 use home_types::{Kind, List, Mode, NoMemory, World};
 use std::alloc::Global;
 use timeline_scheduler::Scratch;
-use window_devices::{Away, roomy_list};
-use window_order::KeptOrder;
+use window_devices::{Checkouts, roomy_list};
+use window_order::OrderState;
 
 /// The memory of what a window keeps of its runs.
 #[derive(Drop)]
 struct StateRoom {
     book: Book,
-    order: KeptOrder,
+    order: OrderState,
 }
 
 /// The memory of a window, all but that of its devices.
@@ -46,7 +46,7 @@ struct Room {
 struct GatedHome<D: Device> {
     kinds: List<Kind>,
     world: World,
-    away: Away<D>,
+    checkouts: Checkouts<D>,
     opened: u32,
 }
 
@@ -102,7 +102,7 @@ impl<D: Device> Home<D> {
                     rounds,
                     opened: home.opened,
                     moment: 0,
-                    away: home.away,
+                    checkouts: home.checkouts,
                     closing: room.closing,
                 },
             }),
@@ -120,11 +120,12 @@ impl<D: Device> Home<D> {
         ensures kinds { IfOk result (λ home. home.kinds.items ≡ self.kinds) }
         ensures world { IfOk result (λ home. home.world.devices.items ≡ self.world) }
         ensures opened { IfOk result (λ home. home.opened ≡ self.opened) }
-        ensures places { IfOk result (λ home. home.away.gate.places ≡ all_home self.devices) }
-        ensures tickets { IfOk result (λ home. home.away.gate.tickets ≡ 0) }
+        ensures places { IfOk result (λ home. home.checkouts.gate.places ≡ all_home self.devices) }
+        ensures tickets { IfOk result (λ home. home.checkouts.gate.tickets ≡ 0) }
         ensures known { IfOk result (λ home. AreKnown D.shows self.devices self.world rounds
-            (length self.devices) home.away.known.items) }
-        ensures hands { IfOk result (λ home. home.away.hands.items ≡ replicate runs None) }
+            (length self.devices) home.checkouts.known.items) }
+        ensures held_tokens { IfOk result
+            (λ home. home.checkouts.held_tokens.items ≡ replicate runs None) }
         ensures kept { HomeIsKept D.shows self }
         ensures refused { IfErr result (λ home. home ≡ self) }
     {
@@ -134,11 +135,11 @@ impl<D: Device> Home<D> {
             devices,
             opened,
         } = self;
-        match Away::open(alloc, devices, &world, runs, rounds) {
-            Ok(away) => Ok(GatedHome {
+        match Checkouts::open(alloc, devices, &world, runs, rounds) {
+            Ok(checkouts) => Ok(GatedHome {
                 kinds,
                 world,
-                away,
+                checkouts,
                 opened,
             }),
             Err((devices, NoMemory)) => Err(Home {
@@ -220,7 +221,7 @@ impl<D: Device> Home<D> {
             (runs_of roster.now) self.now.world state.order.line state.order.table) }
     {
         let book = Book::with_room(alloc, bounds.entries)?;
-        let order = match KeptOrder::open(alloc, &self.world, roster, bounds.items) {
+        let order = match OrderState::open(alloc, &self.world, roster, bounds.items) {
             Ok(order) => order,
             Err(NoMemory) => {
                 drop(book);

@@ -14,8 +14,8 @@ use history_book::{Entry, Made, ReadHistory};
 use home_types::{DeviceNo, Item, List, RunNo, Stand};
 use lock_leasing::{Purpose, Standing};
 use std::marker::Model;
-use window_devices::Away;
-use window_order::KeptOrder;
+use window_devices::Checkouts;
+use window_order::OrderState;
 
 /// The lists that closing a window fills: empty, each with room for every device, but for the
 /// order.
@@ -38,11 +38,11 @@ pub(crate) struct ClosingLists {
 #[derive(Drop)]
 pub(crate) struct OpenWindow<D: Device> {
     pub(crate) history: ReadHistory,
-    pub(crate) order: KeptOrder,
+    pub(crate) order: OrderState,
     pub(crate) rounds: u32,
     pub(crate) opened: u32,
     pub(crate) moment: u64,
-    pub(crate) away: Away<D>,
+    pub(crate) checkouts: Checkouts<D>,
     pub(crate) closing: ClosingLists,
 }
 
@@ -59,7 +59,7 @@ impl<D: Device> Model for OpenWindow<D> {
 
 impl<D: Device> OpenWindow<D> {
     /// Does nothing. Its contract is what is kept of every window.
-    pub(crate) fn whole(&self)
+    pub(crate) fn whole_invariant(&self)
         ensures { HubIsKept D.shows self.now }
     {
         let _ = &self.moment;
@@ -70,7 +70,7 @@ impl<D: Device> OpenWindow<D> {
         requires strong { is_weak self.now.setting.mode ≡ false }
         ensures { IsStandingOf (configuration_of self.now) result }
     {
-        self.order.table.kept();
+        self.order.table.kept_invariant();
         Standing {
             table: &self.order.table,
             line: &self.order.line,
@@ -107,7 +107,7 @@ impl<D: Device> OpenWindow<D> {
         ensures { IsTrue result ↔ ((d : ℕ) → d < length self.now.devices
             → (progress_at self.now.devices d).probes_left ≡ self.now.rounds) }
     {
-        let known = self.away.known.as_slice();
+        let known = self.checkouts.known.as_slice();
         known.iter().all(|device| device.probes_left == self.rounds)
     }
 
@@ -116,10 +116,10 @@ impl<D: Device> OpenWindow<D> {
     pub(crate) fn is_out_for_command(&self, d: DeviceNo) -> bool
         ensures { result ≡ is_out_for_command (configuration_of self.now) d.0 }
     {
-        if self.away.gate.slip(d).is_none() {
+        if self.checkouts.gate.slip(d).is_none() {
             return false;
         }
-        match self.away.known(d).purpose {
+        match self.checkouts.known(d).purpose {
             Purpose::Commands(_) => true,
             Purpose::Undoes(_) | Purpose::Probes(_) => false,
         }

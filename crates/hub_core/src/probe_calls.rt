@@ -47,8 +47,8 @@ impl<D: Device> OpenWindow<D> {
         ensures given { IsProbeGiven self.old grip result self.new }
         ensures window { SameWindow self.old self.new }
     {
-        if grip.slip().maker != 0 || !self.away.gate.is_kept(&grip) {
-            let stranger = self.away.gate.stranger(&grip);
+        if grip.slip().maker != 0 || !self.checkouts.gate.is_kept(&grip) {
+            let stranger = self.checkouts.gate.stranger(&grip);
             return Err((grip, stranger));
         }
         let up = self.order.table.is_up(grip.slip().device);
@@ -66,7 +66,7 @@ impl<D: Device> OpenWindow<D> {
     fn may_probe(&self, d: DeviceNo) -> bool
         ensures { result ≡ may_probe (configuration_of self.now) d.0 }
     {
-        self.away.gate.is_home(d) && self.away.known(d).probes_left > 0
+        self.checkouts.gate.is_home(d) && self.checkouts.known(d).probes_left > 0
     }
 
     /// A probe of the device goes out.
@@ -76,13 +76,13 @@ impl<D: Device> OpenWindow<D> {
         ensures window { SameWindow self.old self.new }
     {
         let value = self.restored(d);
-        let known = self.away.known(d);
+        let known = self.checkouts.known(d);
         let sent = DeviceProgress {
             probes_left: known.probes_left - 1,
             purpose: Purpose::Probes(value),
             ..known
         };
-        self.away.send(d, 0, sent, Task::Probe(value))
+        self.checkouts.send(d, 0, sent, Task::Probe(value))
     }
 
     /// The value that a probe of the device restores: where it is counted down, the one at which it
@@ -91,11 +91,11 @@ impl<D: Device> OpenWindow<D> {
         requires { is_device self.now.setting d.0 ≡ true }
         ensures { result ≡ restored (configuration_of self.now) d.0 }
     {
-        self.order.table.kept();
+        self.order.table.kept_invariant();
         if self.order.table.is_up(d) {
             None
         } else if self.history.is_weak() {
-            Some(self.away.known(d).held)
+            Some(self.checkouts.known(d).held)
         } else {
             Some(self.order.table.stand(d))
         }
@@ -111,7 +111,7 @@ impl<D: Device> OpenWindow<D> {
         ensures given { IsProbeGiven self.old grip (Ok result) self.new }
         ensures window { SameWindow self.old self.new }
     {
-        self.away.come_home(grip);
+        self.checkouts.come_home(grip);
         NONE_MADE
     }
 
@@ -125,7 +125,7 @@ impl<D: Device> OpenWindow<D> {
         ensures window { SameWindow self.old self.new }
     {
         let d = grip.slip().device;
-        let came = self.away.come_home(grip);
+        let came = self.checkouts.come_home(grip);
         let fell = note_fall(
             &mut self.history,
             &mut self.order,
@@ -137,7 +137,7 @@ impl<D: Device> OpenWindow<D> {
         let doomed = doom_lost(
             &mut self.history,
             &mut self.order,
-            &self.away.hands,
+            &self.checkouts.held_tokens,
             d,
             fell.lost,
         );
@@ -158,7 +158,7 @@ impl<D: Device> OpenWindow<D> {
         ensures window { SameWindow self.old self.new }
     {
         let d = grip.slip().device;
-        let came = self.away.come_home(grip);
+        let came = self.checkouts.come_home(grip);
         one_made(note_rise(&mut self.history, &mut self.order, 0, d, came.events.rose))
     }
 }

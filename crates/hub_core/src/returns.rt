@@ -27,7 +27,7 @@ impl<D: Device> OpenWindow<D> {
         let died = grip.told().died();
         // But for a command's answer the entries are taken apart, so that those of a call that
         // worked need no place in memory.
-        match self.away.known(grip.slip().device).purpose {
+        match self.checkouts.known(grip.slip().device).purpose {
             Purpose::Commands(k) if died => {
                 let Made { a, b, c } = self.answer_died(grip, moment, k);
                 Made { a, b, c }
@@ -61,7 +61,7 @@ impl<D: Device> OpenWindow<D> {
         let slip = grip.slip();
         let d = slip.device;
         let r = RunNo(slip.maker);
-        let came = self.away.come_home(grip);
+        let came = self.checkouts.come_home(grip);
         self.moment = self.moment.max(moment);
         let answer = came.told.answer();
         let cause = refuted(&self.history, r, k, answer);
@@ -90,7 +90,7 @@ impl<D: Device> OpenWindow<D> {
         let slip = grip.slip();
         let d = slip.device;
         let r = RunNo(slip.maker);
-        let came = self.away.come_home(grip);
+        let came = self.checkouts.come_home(grip);
         self.moment = self.moment.max(moment);
         let first = self.order.is_first(d, r);
         let cause = died_by(&self.history, r, k, first);
@@ -132,7 +132,7 @@ impl<D: Device> OpenWindow<D> {
         ensures window { SameWindow self.old self.new }
     {
         let slip = grip.slip();
-        self.away.come_home(grip);
+        self.checkouts.come_home(grip);
         self.moment = self.moment.max(moment);
         let entry = Entry::Undid(RunNo(slip.maker), slip.device, true);
         self.history.push(slip.maker, entry);
@@ -151,7 +151,7 @@ impl<D: Device> OpenWindow<D> {
     {
         let slip = grip.slip();
         let d = slip.device;
-        let came = self.away.come_home(grip);
+        let came = self.checkouts.come_home(grip);
         self.moment = self.moment.max(moment);
         let fell = note_fall(
             &mut self.history,

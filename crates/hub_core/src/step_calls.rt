@@ -38,18 +38,18 @@ impl<D: Device> Hub<D> {
             (read_of (configuration_of self.new)) }
         ensures window { SameWindow self.old self.new }
     {
-        self.window.whole();
+        self.window.whole_invariant();
         let chosen = self.window.decide(r, moment, &mut self.scratch);
         match chosen {
             Chosen::HandsOut(d, purpose) if !self.window.is_weak() => {
                 let grip = self.window.hand_out(r, moment, d, purpose);
-                self.window.whole();
+                self.window.whole_invariant();
                 free_going(&mut self.blocked, &self.window, grip.slip().device);
                 Turn::Go(grip)
             }
             Chosen::Waits(why) if !self.window.is_weak() => {
                 self.window.wait(r, moment, why);
-                self.window.whole();
+                self.window.whole_invariant();
                 mark_waiting(&mut self.blocked, &self.window, r);
                 Turn::Wait(why)
             }
@@ -83,11 +83,11 @@ impl<D: Device> Hub<D> {
             (read_of (configuration_of self.new)) }
         ensures window { SameWindow self.old self.new }
     {
-        self.window.whole();
+        self.window.whole_invariant();
         let d = grip.slip().device;
         match self.window.give(grip, moment) {
             Ok(made) => {
-                self.window.whole();
+                self.window.whole_invariant();
                 if self.window.is_weak() {
                     self.blocked.unmark_all();
                 } else {
@@ -112,10 +112,10 @@ impl<D: Device> Hub<D> {
             (read_of (configuration_of self.new)) }
         ensures window { SameWindow self.old self.new }
     {
-        self.window.whole();
+        self.window.whole_invariant();
         match self.window.take_probe(d) {
             Some(grip) => {
-                self.window.whole();
+                self.window.whole_invariant();
                 if self.window.is_weak() {
                     self.blocked.unmark_all();
                 } else {
@@ -140,11 +140,11 @@ impl<D: Device> Hub<D> {
             (read_of (configuration_of self.new)) }
         ensures window { SameWindow self.old self.new }
     {
-        self.window.whole();
+        self.window.whole_invariant();
         let d = grip.slip().device;
         match self.window.give_probe(grip) {
             Ok(made) => {
-                self.window.whole();
+                self.window.whole_invariant();
                 if self.window.is_weak() {
                     self.blocked.unmark_all();
                 } else {
@@ -181,9 +181,9 @@ fn make_step<D: Device>(
     ensures kept { HubIsKept D.shows window.new }
     ensures marks { AreBlocked (configuration_of window.new) blocked.new }
 {
-    window.whole();
+    window.whole_invariant();
     let turn = window.follow(r, moment, chosen, scratch);
-    window.whole();
+    window.whole_invariant();
     if window.is_weak() {
         free_weakly(blocked, window, &turn, r);
         return turn;

@@ -86,7 +86,7 @@ impl<D: Device> Table<D> {
             (λ table. IsOpened D.shows (setting_for home roster mode) rounds home table) }
         ensures refused { IfErr result (λ refused. refused.0 ≡ home) }
     {
-        home.kept();
+        home.kept_invariant();
         let count = home.world().devices.len() as usize;
         let Ok(hands) = Vec::with_capacity(alloc, count) else {
             drop(roster);
@@ -165,10 +165,10 @@ impl<D: Device> Table<D> {
         ensures window { SameWindow self.old self.new }
     {
         // its contract says where its devices stand
-        self.hub.kept();
+        self.hub.kept_invariant();
         match self.hub.take(r, moment) {
             Turn::Go(grip) => {
-                grip.kept();
+                grip.kept_invariant();
                 let (slip, task) = (grip.slip(), grip.task());
                 put(&mut self.grips, slip.device, grip);
                 Taken::Out(slip, task)
@@ -190,10 +190,10 @@ impl<D: Device> Table<D> {
         ensures window { SameWindow self.old self.new }
     {
         // its contract says where its devices stand
-        self.hub.kept();
+        self.hub.kept_invariant();
         match self.hub.take_probe(d) {
             Some(grip) => {
-                grip.kept();
+                grip.kept_invariant();
                 let (slip, task) = (grip.slip(), grip.task());
                 put(&mut self.grips, d, grip);
                 Some((slip, task))

@@ -4,7 +4,7 @@ ghost use Rattle.hub_threads.specs.Names.{IsTimedBy};
 
 use crate::held::Steps;
 use crate::names::Name;
-use crate::workers::{Door, Stepped, probe, step};
+use crate::workers::{Stepped, WorkerContext, probe, step};
 use day_clock::Clock;
 use device_states::Device;
 use home_types::{DeviceNo, RunNo};
@@ -16,7 +16,7 @@ use std::sync::ledger::Share;
 /// have no thread to their end. Answers how often a device was passed by.
 pub(crate) fn detect<D: Device, N: Name, S: Steps<D, N, Grip<D, Done>>, R: Wait, C: Clock>(
     rt: &R,
-    door: &Door<S>,
+    context: &WorkerContext<S>,
     share: &mut Share<N>,
     runs: u32,
     rounds: u32,
@@ -30,20 +30,20 @@ pub(crate) fn detect<D: Device, N: Name, S: Steps<D, N, Grip<D, Done>>, R: Wait,
     let mut passed = 0u64;
     for _ in 0..rounds {
         for d in 0..devices {
-            if !probe(rt, door, share, DeviceNo(d)) {
+            if !probe(rt, context, share, DeviceNo(d)) {
                 passed = passed.saturating_add(1);
             }
-            sweep(rt, door, share, runs, clock);
+            sweep(rt, context, share, runs, clock);
         }
     }
-    finish(rt, door, share, runs, clock);
+    finish(rt, context, share, runs, clock);
     passed
 }
 
 /// Probes the devices again, where so many were passed by. Answers how many are still to be probed.
 pub(crate) fn probe_again<D: Device, N: Name, S: Steps<D, N, Grip<D, Done>>, R: Wait>(
     rt: &R,
-    door: &Door<S>,
+    context: &WorkerContext<S>,
     share: &mut Share<N>,
     devices: u16,
     passed: u64,
@@ -56,7 +56,7 @@ pub(crate) fn probe_again<D: Device, N: Name, S: Steps<D, N, Grip<D, Done>>, R: 
         if left == 0 {
             return 0;
         }
-        if probe(rt, door, share, DeviceNo(d)) {
+        if probe(rt, context, share, DeviceNo(d)) {
             left -= 1;
         }
     }
@@ -66,7 +66,7 @@ pub(crate) fn probe_again<D: Device, N: Name, S: Steps<D, N, Grip<D, Done>>, R: 
 /// Takes the probes that are left over.
 pub(crate) fn probe_left_over<D: Device, N: Name, S: Steps<D, N, Grip<D, Done>>, R: Wait>(
     rt: &R,
-    door: &Door<S>,
+    context: &WorkerContext<S>,
     share: &mut Share<N>,
     devices: u16,
 )
@@ -75,7 +75,7 @@ pub(crate) fn probe_left_over<D: Device, N: Name, S: Steps<D, N, Grip<D, Done>>,
 {
     for d in 0..devices {
         for _ in rt.forever() {
-            if !probe(rt, door, share, DeviceNo(d)) {
+            if !probe(rt, context, share, DeviceNo(d)) {
                 break;
             }
         }
@@ -85,7 +85,7 @@ pub(crate) fn probe_left_over<D: Device, N: Name, S: Steps<D, N, Grip<D, Done>>,
 /// Steps the runs that have no thread to their end.
 fn finish<D: Device, N: Name, S: Steps<D, N, Grip<D, Done>>, R: Wait, C: Clock>(
     rt: &R,
-    door: &Door<S>,
+    context: &WorkerContext<S>,
     share: &mut Share<N>,
     runs: u32,
     clock: &C,
@@ -95,10 +95,10 @@ fn finish<D: Device, N: Name, S: Steps<D, N, Grip<D, Done>>, R: Wait, C: Clock>(
     ensures { share.new.parts ≡ share.old.parts }
 {
     for _ in rt.forever() {
-        match sweep(rt, door, share, runs, clock) {
+        match sweep(rt, context, share, runs, clock) {
             Stepped::Over => return,
             Stepped::Moved => {}
-            Stepped::Waits => door.bells.nap(rt),
+            Stepped::Waits => context.wakers.pause(rt),
         }
     }
     unreachable!()
@@ -108,7 +108,7 @@ fn finish<D: Device, N: Name, S: Steps<D, N, Grip<D, Done>>, R: Wait, C: Clock>(
 /// whether one moved or all the others wait.
 fn sweep<D: Device, N: Name, S: Steps<D, N, Grip<D, Done>>, R: Wait, C: Clock>(
     rt: &R,
-    door: &Door<S>,
+    context: &WorkerContext<S>,
     share: &mut Share<N>,
     runs: u32,
     clock: &C,
@@ -117,14 +117,14 @@ fn sweep<D: Device, N: Name, S: Steps<D, N, Grip<D, Done>>, R: Wait, C: Clock>(
     requires clock { IsTimedBy N.window (C.earliest clock.now) (C.latest clock.now) }
     ensures { share.new.parts ≡ share.old.parts }
 {
-    if door.unstarted.is_empty() {
+    if context.unstarted.is_empty() {
         return Stepped::Over;
     }
     let mut all = Stepped::Over;
     for i in 0..runs {
         let r = RunNo(i + 1);
-        if door.unstarted.has(r) {
-            all = either(all, step(rt, door, share, r, clock, false));
+        if context.unstarted.has(r) {
+            all = either(all, step(rt, context, share, r, clock, false));
         }
     }
     all

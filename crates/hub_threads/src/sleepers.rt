@@ -24,7 +24,7 @@ pub(crate) struct Sleepers {
     /// time. What else may do so is left to time: the answer to another run's last command on a
     /// device or one that covers its write, and an undo that goes out.
     unplaced: u64,
-    /// They sleep no more, and their bells are still to be rung.
+    /// They sleep no more, and are still to be woken.
     called: u64,
 }
 

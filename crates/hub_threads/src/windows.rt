@@ -8,11 +8,11 @@ ghost use Rattle.hub_threads.specs.Names.{IsTimedBy};
 ghost use Rattle.hub_threads.specs.Passes.{what_is_out};
 ghost use Rattle.hub_threads.specs.WorkedWindows.{IsWorked, NoneIsLeft};
 
-use crate::bells::{Bells, Naps};
 use crate::detectors::{detect, probe_again, probe_left_over};
 use crate::held::{Held, Lent};
 use crate::names::Name;
-use crate::workers::{Door, Spent, Unstarted, Untaken, work};
+use crate::wakers::{BackOff, Wakers};
+use crate::workers::{Spent, Unstarted, Untaken, WorkerContext, work};
 use day_clock::Clock;
 use device_states::Device;
 use grip_seats::Desk;
@@ -31,7 +31,7 @@ use std::thread::{JoinHandle, Threads};
 pub struct Means {
     /// How many threads are started at most.
     pub threads: u32,
-    pub naps: Naps,
+    pub back_off: BackOff,
 }
 
 /// A window that is to be worked: so many runs, rounds of probes and devices, at the moments of
@@ -45,16 +45,16 @@ struct Window<'a, C> {
     means: Means,
 }
 
-/// How many threads are started at once. Each further one starts after a nap, where a run is left
+/// How many threads are started at once. Each further one starts after a pause, where a run is left
 /// then that no thread has taken: where devices answer at once the first ones work the window
-/// alone, and where they are slow each run has a thread of its own, the last one after as many naps
-/// as there are further runs.
+/// alone, and where they are slow each run has a thread of its own, the last one after as many
+/// pauses as there are further runs.
 const AT_ONCE: u32 = 4;
 
 /// As many threads as runs.
 const USUAL: Means = Means {
     threads: u32::MAX,
-    naps: Naps {
+    back_off: BackOff {
         blocked: 100,
         restless: 10,
     },
@@ -63,7 +63,7 @@ const USUAL: Means = Means {
 /// Works a window of a hub in which nothing was done yet: threads for the runs, which the system
 /// may refuse, and the calling thread as the detector, which comes so often to each device. A
 /// thread whose run is over takes the next one that none has taken, and but for the first four a
-/// thread starts after a nap of a ms: so there is one for each run where all take long, and fewer
+/// thread starts after a pause of a ms: so there is one for each run where all take long, and fewer
 /// where some are over soon. Each moment is an answer of the clock.
 ///
 /// Answers `NoMemory` where there is none to be had, before any thread starts, and gives the hub
@@ -99,7 +99,7 @@ pub fn run_window_by<R: Threads + Wait + Sync, D: Device + Send, C: Clock + Sync
         (C.latest clock.now) hub closed.0 closed.1) }
     ensures refused { IfErr result (λ refused. refused.0 ≡ hub) }
 {
-    hub.kept();
+    hub.kept_invariant();
     let window = Window {
         runs: hub.run_count(),
         rounds,
@@ -174,7 +174,7 @@ fn run_counted<
     ensures counted { IfOk result (λ last. length last.0.history ≡ last.1.amount) }
     ensures refused { IfErr result (λ refused. refused.0 ≡ hub) }
 {
-    let Ok(bells) = Bells::new(alloc, window.runs, window.means.naps) else {
+    let Ok(wakers) = Wakers::new(alloc, window.runs, window.means.back_off) else {
         let _ = blank.open::<N>();
         drop(desk);
         return Err((hub, NoMemory));
@@ -185,19 +185,19 @@ fn run_counted<
         return Err((hub, NoMemory));
     };
     let (book, all) = blank.open::<N>();
-    let door = Door {
+    let context = WorkerContext {
         held: Mutex::new(Held::new(hub, book, desk)),
-        bells,
+        wakers,
         unstarted: Unstarted::new(),
         untaken: Untaken::new(window.runs),
     };
-    let mut all = in_threads(rt, &door, all, handles, window);
-    let Door {
+    let mut all = in_threads(rt, &context, all, handles, window);
+    let WorkerContext {
         held,
-        bells: _,
+        wakers: _,
         unstarted: _,
         untaken: _,
-    } = door;
+    } = context;
     let last = held.into_inner().ended(&mut all);
     Ok((last, all))
 }
@@ -219,7 +219,7 @@ fn in_threads<
     N: Name + Send + Sync,
 >(
     rt: &R,
-    door: &Door<Held<D, N>>,
+    context: &WorkerContext<Held<D, N>>,
     all: Share<N>,
     handles: Vec<JoinHandle<Spent<N>>>,
     window: Window<'a, C>,
@@ -243,46 +243,46 @@ fn in_threads<
             let mut all = all;
             let mut handles = handles;
             'runs: for i in 0..window.runs {
-                let Some(r) = next_untaken(rt, door, i) else {
+                let Some(r) = next_untaken(rt, context, i) else {
                     break;
                 };
                 if window.means.threads <= i {
-                    door.unstarted.add(r);
+                    context.unstarted.add(r);
                     continue;
                 }
                 let share = all.split_off(1, 0);
                 let job = move || -> Spent<N>
                     requires { (share.parts ≡ 1)
                         × IsTimedBy N.window (C.earliest clock.now) (C.latest clock.now) }
-                { work(rt, door, share, r, clock) };
+                { work(rt, context, share, r, clock) };
                 match scope.spawn(job) {
                     Ok(handle) => handles.push_reserved(handle),
                     Err(refused) => {
                         // Its run has no thread, so the job makes no step: it hands its share back.
-                        door.unstarted.add(r);
+                        context.unstarted.add(r);
                         let Spent { share } = (refused.value)();
                         all.merge(share);
                     }
                 }
             }
-            joined(rt, door, all, handles, window)
+            joined(rt, context, all, handles, window)
         },
     )
 }
 
 /// The run for the worker with this number, counted from 0, which but for the first ones starts
-/// after a nap. `None` where each run is taken.
-fn next_untaken<R: Wait, S>(rt: &R, door: &Door<S>, i: u32) -> Option<RunNo> {
+/// after a pause. `None` where each run is taken.
+fn next_untaken<R: Wait, S>(rt: &R, context: &WorkerContext<S>, i: u32) -> Option<RunNo> {
     if AT_ONCE <= i {
-        door.bells.nap(rt);
+        context.wakers.pause(rt);
     }
-    door.untaken.take()
+    context.untaken.take()
 }
 
 /// Detects, joins the workers and gathers their shares.
 fn joined<'a, R: Threads + Wait + Sync, D: Device + Send, C: Clock + Sync, N: Name + Send + Sync>(
     rt: &R,
-    door: &Door<Held<D, N>>,
+    context: &WorkerContext<Held<D, N>>,
     all: Share<N>,
     handles: Vec<JoinHandle<Spent<N>>>,
     window: Window<'a, C>,
@@ -301,13 +301,13 @@ fn joined<'a, R: Threads + Wait + Sync, D: Device + Send, C: Clock + Sync, N: Na
     } = window;
     let mut all = all;
     let mut handles = handles;
-    let mut passed = detect(rt, door, &mut all, runs, rounds, devices, clock);
+    let mut passed = detect(rt, context, &mut all, runs, rounds, devices, clock);
     'workers: while let Some(handle) = handles.pop() {
-        passed = probe_again(rt, door, &mut all, devices, passed);
+        passed = probe_again(rt, context, &mut all, devices, passed);
         let Spent { share } = handle.join(rt);
         all.merge(share);
     }
-    probe_left_over(rt, door, &mut all, devices);
+    probe_left_over(rt, context, &mut all, devices);
     all
 }
 
@@ -318,7 +318,7 @@ fn closed<R: Wait, D: Device>(rt: &R, hub: Hub<D>) -> (Home<D>, WindowRecord)
     ensures closed { WindowIsClosed D.shows hub result.0 result.1 }
     ensures none_left { NoneIsLeft hub }
 {
-    hub.kept();
+    hub.kept_invariant();
     let mut hub = hub;
     for _ in rt.forever() {
         if !none_is_left(&hub) {
@@ -337,7 +337,7 @@ fn closed<R: Wait, D: Device>(rt: &R, hub: Hub<D>) -> (Home<D>, WindowRecord)
 fn none_is_left<D: Device>(hub: &Hub<D>) -> bool
     ensures { IsTrue result → NoneIsLeft hub.now }
 {
-    hub.kept();
+    hub.kept_invariant();
     'devices: for d in 0..hub.device_count() {
         if hub.probes_left(DeviceNo(d as u16)) != 0 {
             return false;

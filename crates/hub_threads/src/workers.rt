@@ -5,10 +5,10 @@ ghost use Rattle.hub_threads.specs.Named.{HasPlan};
 ghost use Rattle.hub_threads.specs.Names.{IsTimedBy};
 ghost use Rattle.hub_threads.specs.Passes.{IsDetectorsPass, IsRunsPass};
 
-use crate::bells::Bells;
 use crate::held::{Lent, Steps};
 use crate::names::Name;
 use crate::sleepers::bit_of;
+use crate::wakers::Wakers;
 use day_clock::Clock;
 use device_states::Device;
 use grip_seats::Pass;
@@ -24,9 +24,9 @@ const TRIES: u32 = 64;
 
 /// The lock, and what stands beside it.
 #[derive(Drop)]
-pub(crate) struct Door<S> {
+pub(crate) struct WorkerContext<S> {
     pub(crate) held: Mutex<S>,
-    pub(crate) bells: Bells,
+    pub(crate) wakers: Wakers,
     pub(crate) unstarted: Unstarted,
     pub(crate) untaken: Untaken,
 }
@@ -112,7 +112,7 @@ impl Unstarted {
 /// taken yet.
 pub(crate) fn work<D: Device, N: Name, S: Steps<D, N, Grip<D, Done>>, R: Wait, C: Clock>(
     rt: &R,
-    door: &Door<S>,
+    context: &WorkerContext<S>,
     share: Share<N>,
     r: RunNo,
     clock: &C,
@@ -120,16 +120,16 @@ pub(crate) fn work<D: Device, N: Name, S: Steps<D, N, Grip<D, Done>>, R: Wait, C
     requires part { share.parts ≡ 1 }
     requires clock { IsTimedBy N.window (C.earliest clock.now) (C.latest clock.now) }
 {
-    if door.unstarted.has(r) {
+    if context.unstarted.has(r) {
         return Spent { share };
     }
     let mut share = share;
     let mut worked = r;
     for _ in rt.forever() {
-        if step(rt, door, &mut share, worked, clock, true) != Stepped::Over {
+        if step(rt, context, &mut share, worked, clock, true) != Stepped::Over {
             continue;
         }
-        match door.untaken.take() {
+        match context.untaken.take() {
             Some(next) => worked = next,
             None => break,
         }
@@ -141,7 +141,7 @@ pub(crate) fn work<D: Device, N: Name, S: Steps<D, N, Grip<D, Done>>, R: Wait, C
 /// and the step back. Where the run waits it may sleep.
 pub(crate) fn step<D: Device, N: Name, S: Steps<D, N, Grip<D, Done>>, R: Wait, C: Clock>(
     rt: &R,
-    door: &Door<S>,
+    context: &WorkerContext<S>,
     share: &mut Share<N>,
     r: RunNo,
     clock: &C,
@@ -152,26 +152,26 @@ pub(crate) fn step<D: Device, N: Name, S: Steps<D, N, Grip<D, Done>>, R: Wait, C
     ensures { share.new.parts ≡ share.old.parts }
 {
     let moment = clock.now();
-    let mut guard = enter(rt, &door.held);
+    let mut guard = enter(rt, &context.held);
     let (turn, pass) = guard.take(share, r, moment);
     match turn {
         Turn::Go(grip) => {
-            unlock::<D, N, S>(&door.bells, guard);
-            give(rt, door, share, grip.act(), pass.unwrap(), clock);
+            unlock::<D, N, S>(&context.wakers, guard);
+            give(rt, context, share, grip.act(), pass.unwrap(), clock);
             Stepped::Moved
         }
         Turn::Moved(_) => {
-            unlock::<D, N, S>(&door.bells, guard);
+            unlock::<D, N, S>(&context.wakers, guard);
             Stepped::Moved
         }
         Turn::Over(_, _) => {
-            unlock::<D, N, S>(&door.bells, guard);
+            unlock::<D, N, S>(&context.wakers, guard);
             Stepped::Over
         }
         Turn::Wait(why) => {
             if sleeps {
                 let is_blocked = guard.sleep(r, why);
-                door.bells.sleep(rt, guard, r, is_blocked);
+                context.wakers.sleep(rt, guard, r, is_blocked);
             }
             Stepped::Waits
         }
@@ -192,17 +192,20 @@ fn enter<'b, S, R: Wait>(rt: &R, held: &'b Mutex<S>) -> MutexGuard<'b, S> {
 }
 
 /// Leaves the lock, and wakes the runs that a step under it may have freed.
-fn unlock<D: Device, N: Name, S: Steps<D, N, Grip<D, Done>>>(bells: &Bells, guard: MutexGuard<S>) {
+fn unlock<D: Device, N: Name, S: Steps<D, N, Grip<D, Done>>>(
+    wakers: &Wakers,
+    guard: MutexGuard<S>,
+) {
     let mut guard = guard;
     let woken = guard.wake();
     drop(guard);
-    bells.ring(woken);
+    wakers.wake(woken);
 }
 
 /// Gives the grip of a run back under the lock.
 fn give<D: Device, N: Name, S: Steps<D, N, Grip<D, Done>>, R: Wait, C: Clock>(
     rt: &R,
-    door: &Door<S>,
+    context: &WorkerContext<S>,
     share: &mut Share<N>,
     grip: Grip<D, Done>,
     pass: Pass<Lent>,
@@ -215,24 +218,24 @@ fn give<D: Device, N: Name, S: Steps<D, N, Grip<D, Done>>, R: Wait, C: Clock>(
     ensures { share.new.parts ≡ share.old.parts }
 {
     let moment = clock.now();
-    let mut guard = enter(rt, &door.held);
+    let mut guard = enter(rt, &context.held);
     guard.give(share, grip, pass, moment);
-    unlock::<D, N, S>(&door.bells, guard);
+    unlock::<D, N, S>(&context.wakers, guard);
 }
 
 /// Takes a probe of the device, where one may be taken, and tells whether it did.
 pub(crate) fn probe<D: Device, N: Name, S: Steps<D, N, Grip<D, Done>>, R: Wait>(
     rt: &R,
-    door: &Door<S>,
+    context: &WorkerContext<S>,
     share: &mut Share<N>,
     d: DeviceNo,
 ) -> bool
     requires share { 0 < share.old.parts }
     ensures { share.new.parts ≡ share.old.parts }
 {
-    match take_probe(rt, door, share, d) {
+    match take_probe(rt, context, share, d) {
         Some((grip, pass)) => {
-            give_probe(rt, door, share, grip.act(), pass);
+            give_probe(rt, context, share, grip.act(), pass);
             true
         }
         None => false,
@@ -242,7 +245,7 @@ pub(crate) fn probe<D: Device, N: Name, S: Steps<D, N, Grip<D, Done>>, R: Wait>(
 /// Takes a probe of the device under the lock.
 fn take_probe<D: Device, N: Name, S: Steps<D, N, Grip<D, Done>>, R: Wait>(
     rt: &R,
-    door: &Door<S>,
+    context: &WorkerContext<S>,
     share: &mut Share<N>,
     d: DeviceNo,
 ) -> Option<(Grip<D, Ready>, Pass<Lent>)>
@@ -251,16 +254,16 @@ fn take_probe<D: Device, N: Name, S: Steps<D, N, Grip<D, Done>>, R: Wait>(
     ensures plan { IfSome result (λ probe. HasPlan D.shows N.window.plans probe.0) }
     ensures pass { IfSome result (λ probe. IsDetectorsPass N.desk (carried_by probe.0) probe.1) }
 {
-    let mut guard = enter(rt, &door.held);
+    let mut guard = enter(rt, &context.held);
     let probe = guard.take_probe(share, d);
-    unlock::<D, N, S>(&door.bells, guard);
+    unlock::<D, N, S>(&context.wakers, guard);
     probe
 }
 
 /// Gives the detector's grip back under the lock.
 fn give_probe<D: Device, N: Name, S: Steps<D, N, Grip<D, Done>>, R: Wait>(
     rt: &R,
-    door: &Door<S>,
+    context: &WorkerContext<S>,
     share: &mut Share<N>,
     grip: Grip<D, Done>,
     pass: Pass<Lent>,
@@ -270,7 +273,7 @@ fn give_probe<D: Device, N: Name, S: Steps<D, N, Grip<D, Done>>, R: Wait>(
     requires pass { IsDetectorsPass N.desk (carried_by grip) pass }
     ensures { share.new.parts ≡ share.old.parts }
 {
-    let mut guard = enter(rt, &door.held);
+    let mut guard = enter(rt, &context.held);
     guard.give_probe(share, grip, pass);
-    unlock::<D, N, S>(&door.bells, guard);
+    unlock::<D, N, S>(&context.wakers, guard);
 }

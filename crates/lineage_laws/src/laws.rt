@@ -22,7 +22,7 @@ pub fn statuses(table: &Table, d: DeviceNo)
     ensures { StandByStatus (accesses_at table.now d.0) }
 {
     // The type of the table keeps it.
-    table.kept();
+    table.kept_invariant();
 }
 
 /// Where the runs of the accesses of `d` stand in `runs` in the same order, they do so without the

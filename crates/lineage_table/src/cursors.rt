@@ -36,7 +36,7 @@ pub fn knot_behind(accesses: &Chain<Access>, run: Option<RunNo>, near: Option<Kn
     ensures rest { values_of (rest_of result accesses.now.pairs)
         ≡ behind_run run (values_of accesses.now.pairs) }
 {
-    accesses.kept();
+    accesses.kept_invariant();
     let Some(r) = run else {
         return accesses.first();
     };

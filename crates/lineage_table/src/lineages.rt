@@ -98,7 +98,7 @@ impl Lineage {
         requires first { some_scheduled (accesses_before r.0 self.old.accesses) ≡ false }
         ensures { self.new ≡ acquired r.0 view self.old }
     {
-        self.accesses.kept();
+        self.accesses.kept_invariant();
         let k = knot(&self.accesses, r);
         let access = self.accesses.get_mut(k);
         access.status = Status::Acquired;
@@ -110,7 +110,7 @@ impl Lineage {
         requires acquired { status_of r.0 self.old.accesses ≡ Some Status.Acquired }
         ensures { self.new ≡ with_value_written r.0 v self.old }
     {
-        self.accesses.kept();
+        self.accesses.kept_invariant();
         let k = knot(&self.accesses, r);
         self.accesses.get_mut(k).wrote = Some(v);
         self.writer = writer_with(self.writer, r, &self.accesses);
@@ -125,7 +125,7 @@ impl Lineage {
         ensures turn { result ≡ not (some_scheduled (accesses_before r.0 self.old.accesses)) }
         ensures noted { self.new ≡ answered_if result r.0 view wrote is_last self.old }
     {
-        self.accesses.kept();
+        self.accesses.kept_invariant();
         let (k, waits) = knot_in_turn(&self.accesses, r);
         if waits {
             return false;
@@ -144,7 +144,7 @@ impl Lineage {
         requires acquired { status_of r.0 self.old.accesses ≡ Some Status.Acquired }
         ensures { self.new ≡ released r.0 self.old }
     {
-        self.accesses.kept();
+        self.accesses.kept_invariant();
         let k = knot(&self.accesses, r);
         self.accesses.get_mut(k).status = Status::Released;
     }
@@ -153,7 +153,7 @@ impl Lineage {
     pub fn undone(&mut self, r: RunNo)
         ensures { self.new ≡ undone r.0 self.old }
     {
-        self.accesses.kept();
+        self.accesses.kept_invariant();
         if let Some(k) = knot_of(&self.accesses, r) {
             self.accesses.get_mut(k).wrote = None;
             let of_another = self.writer != Some(r);
@@ -166,7 +166,7 @@ impl Lineage {
         ensures found { result ≡ has_access r.0 self.old.accesses }
         ensures left { self.new ≡ removed r.0 self.old }
     {
-        self.accesses.kept();
+        self.accesses.kept_invariant();
         match knot_of(&self.accesses, r) {
             Some(k) => {
                 self.accesses.unlink(k);
@@ -183,7 +183,7 @@ impl Lineage {
         requires wrote { IsSome (written_by r.0 self.old.accesses) }
         ensures { self.new ≡ settled r.0 self.old }
     {
-        self.accesses.kept();
+        self.accesses.kept_invariant();
         let k = knot(&self.accesses, r);
         self.accesses.drop_left_of(k);
         self.committed = self.accesses.unlink(k).wrote.unwrap();
@@ -250,7 +250,7 @@ impl Lineage {
     pub fn run_behind(&self, r: RunNo) -> Option<RunNo>
         ensures { result ≡ run_behind r.0 self.now.accesses }
     {
-        self.accesses.kept();
+        self.accesses.kept_invariant();
         let k = knot_of(&self.accesses, r)?;
         let behind = self.accesses.after(k)?;
         Some(self.accesses.get(behind).run)
@@ -258,7 +258,7 @@ impl Lineage {
 
     /// Does nothing. Its contract is what the accesses of every lineage keep: the released ones
     /// stand before the acquired one, and that before the scheduled ones, and no run has two.
-    pub fn kept(&self)
+    pub fn kept_invariant(&self)
         ensures { IsDisciplined self.now.accesses }
     {
         let _ = &self.up;
@@ -268,7 +268,7 @@ impl Lineage {
     pub fn access(&self, r: RunNo) -> Option<Access>
         ensures { result ≡ access_of r.0 self.now.accesses }
     {
-        self.accesses.kept();
+        self.accesses.kept_invariant();
         let k = knot_of(&self.accesses, r)?;
         Some(*self.accesses.get(k))
     }
@@ -279,7 +279,7 @@ impl Lineage {
     {
         match self.writer {
             Some(r) => {
-                self.accesses.kept();
+                self.accesses.kept_invariant();
                 let k = knot(&self.accesses, r);
                 self.accesses.get(k).wrote.unwrap()
             }
@@ -320,7 +320,7 @@ fn put_in(accesses: &mut Chain<Access>, before: Option<RunNo>, access: Access)
         ≡ put_access_before before access (values_of accesses.old.pairs) }
     ensures spare { accesses.new.spare + 1 ≡ accesses.old.spare }
 {
-    accesses.kept();
+    accesses.kept_invariant();
     match before {
         Some(r) => {
             let k = knot(accesses, r);

@@ -75,7 +75,7 @@ impl Table {
         ensures refused { OnErr result (self.new ≡ self.old) }
     {
         let made = self.lineages[d.0 as usize].make_room();
-        self.lineages[d.0 as usize].kept();
+        self.lineages[d.0 as usize].kept_invariant();
         made
     }
 
@@ -94,7 +94,7 @@ impl Table {
         ensures { self.new ≡ with_lineage self.old d.0 (scheduled before access) }
     {
         self.lineages[d.0 as usize].schedule(before, access);
-        self.lineages[d.0 as usize].kept();
+        self.lineages[d.0 as usize].kept_invariant();
         self.devices.add(access.run, d);
     }
 
@@ -110,7 +110,7 @@ impl Table {
         ensures { self.new ≡ with_lineage self.old d.0 (acquired r.0 view) }
     {
         self.lineages[d.0 as usize].acquire(r, view);
-        self.lineages[d.0 as usize].kept();
+        self.lineages[d.0 as usize].kept_invariant();
     }
 
     /// Marks that the run, whose access is acquired, wrote the value.
@@ -120,7 +120,7 @@ impl Table {
         ensures { self.new ≡ with_lineage self.old d.0 (with_value_written r.0 v) }
     {
         self.lineages[d.0 as usize].note_write(r, v);
-        self.lineages[d.0 as usize].kept();
+        self.lineages[d.0 as usize].kept_invariant();
     }
 
     /// The run notes an answer on the device: with its first one it acquires it, and sees it so;
@@ -144,7 +144,7 @@ impl Table {
             ≡ with_lineage self.old d.0 (answered_if result r.0 view wrote is_last) }
     {
         let noted = self.lineages[d.0 as usize].note(r, view, wrote, is_last);
-        self.lineages[d.0 as usize].kept();
+        self.lineages[d.0 as usize].kept_invariant();
         noted
     }
 
@@ -155,7 +155,7 @@ impl Table {
         ensures { self.new ≡ with_lineage self.old d.0 (released r.0) }
     {
         self.lineages[d.0 as usize].release(r);
-        self.lineages[d.0 as usize].kept();
+        self.lineages[d.0 as usize].kept_invariant();
     }
 
     /// Marks that what the run wrote is undone. Nothing changes where it has no access, or wrote
@@ -165,7 +165,7 @@ impl Table {
         ensures { self.new ≡ with_lineage self.old d.0 (undone r.0) }
     {
         self.lineages[d.0 as usize].undone(r);
-        self.lineages[d.0 as usize].kept();
+        self.lineages[d.0 as usize].kept_invariant();
     }
 
     /// Takes the access of the run out. Answers false where it has none.
@@ -175,7 +175,7 @@ impl Table {
         ensures left { self.new ≡ with_lineage self.old d.0 (removed r.0) }
     {
         let found = self.lineages[d.0 as usize].remove(r);
-        self.lineages[d.0 as usize].kept();
+        self.lineages[d.0 as usize].kept_invariant();
         self.devices.remove(r, d);
         found
     }
@@ -222,7 +222,7 @@ impl Table {
 
     /// Does nothing. Its contract is what the accesses to each device keep: the released ones stand
     /// before the acquired one, and that before the scheduled ones, and no run has two.
-    pub fn kept(&self)
+    pub fn kept_invariant(&self)
         ensures { (d : ℕ) → IsDisciplined (accesses_at self.now d) }
     {
         let _ = &self.lineages;
@@ -332,7 +332,7 @@ impl Table {
         ensures { self.new ≡ with_lineage self.old d.0 (counted_up up) }
     {
         self.lineages[d.0 as usize].set_up(up);
-        self.lineages[d.0 as usize].kept();
+        self.lineages[d.0 as usize].kept_invariant();
     }
 
     /// Whether the device is counted up.
@@ -351,7 +351,7 @@ impl Table {
     {
         take_out_through(&mut self.devices, self.lineages[d.0 as usize].chain(), d, r);
         self.lineages[d.0 as usize].settle(r);
-        self.lineages[d.0 as usize].kept();
+        self.lineages[d.0 as usize].kept_invariant();
     }
 
     /// Sets the committed value of a device that has no accesses, as under the weak model.
@@ -361,7 +361,7 @@ impl Table {
         ensures { self.new ≡ with_lineage self.old d.0 (with_committed v) }
     {
         self.lineages[d.0 as usize].set_committed(v);
-        self.lineages[d.0 as usize].kept();
+        self.lineages[d.0 as usize].kept_invariant();
     }
 
     /// The number of devices.

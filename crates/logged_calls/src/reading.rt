@@ -37,7 +37,7 @@ fn front_call(bytes: &[u8]) -> Option<Logged>
     match Record::in_front(bytes).call() {
         Some(call) => {
             // its contract says that it is loggable
-            call.kept();
+            call.kept_invariant();
             Some(call)
         }
         None => None,

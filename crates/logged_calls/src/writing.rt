@@ -17,7 +17,7 @@ impl Logged {
 
     /// Does nothing. Its contract is what holds of every call whose time is one of a calendar: that
     /// it is read back from its bytes.
-    pub fn kept(self)
+    pub fn kept_invariant(self)
         requires time { HasCivilTime self }
         ensures { IsLoggable self }
     {
@@ -35,6 +35,6 @@ pub fn write_call(bytes: &mut List<u8>, call: Logged) -> Result<(), NoMemory>
     ensures roomy { call_size ≤ bytes.old.spare → IsOk result }
     ensures loggable { IsLoggable call }
 {
-    call.kept();
+    call.kept_invariant();
     bytes.extend_from_slice(&call.bytes())
 }

@@ -44,7 +44,7 @@ pub fn open_window(
         drop(home);
         return None;
     };
-    home.kept();
+    home.kept_invariant();
     match home.open_window(alloc, roster, WINDOW_MODE, window.probes) {
         Ok(hub) => Some(hub),
         Err((home, _)) => {
@@ -66,7 +66,7 @@ pub fn work<D: Device>(hub: &mut Hub<D>, from: u64, until: u64)
         'runs: for run in 0..hub.run_count() {
             step(hub, RunNo(run + 1), turn);
         }
-        hub.kept();
+        hub.kept_invariant();
         'devices: for d in 0..hub.device_count() {
             if turn == PROBING_TURN {
                 probe(hub, DeviceNo(d as u16));

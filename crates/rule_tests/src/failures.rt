@@ -7,7 +7,7 @@ ghost use Rattle.lineage_table.specs.Accesses.{accesses_before, has_access, some
 ghost use Rattle.lineage_table.specs.Lineages.{accesses_at};
 
 use command_rules::{Roster, RosterRun};
-use failure_serialization::{fell, rose};
+use failure_serialization::{device_failed, device_recovered};
 use history_book::Book;
 use home_types::{
     Command, DeviceNo, Guard, Item, Job, List, NoMemory, Routine, RunNo, Stand, World,
@@ -116,7 +116,7 @@ fn fail(
         return Err(NoMemory);
     }
     line.reserve(1)?;
-    Ok(fell(line, table, book, d, 1, first))
+    Ok(device_failed(line, table, book, d, 1, first))
 }
 
 /// The device comes back.
@@ -128,7 +128,7 @@ fn restart(line: &mut Line, table: &mut Table, book: &Book, d: DeviceNo) -> Resu
         return Err(NoMemory);
     }
     line.reserve(1)?;
-    rose(line, table, book, d, 1);
+    device_recovered(line, table, book, d, 1);
     Ok(())
 }
 

@@ -23,12 +23,12 @@ impl<D: Device> Player<D> {
     {
         let mut draws = Draws::new(seed);
         let mut live = self.live_count();
-        self.kept();
+        self.kept_invariant();
         'draws: while live != 0 {
             let place = draws.below(live);
             self.pick_from(place, live);
             live = self.live_count();
-            self.kept();
+            self.kept_invariant();
         }
     }
 
@@ -78,14 +78,14 @@ impl<D: Device> Player<D> {
         ensures stays { PlayerStays D.shows self.old self.new }
         ensures fewer { steps_left self.new < steps_left self.old }
     {
-        self.kept();
+        self.kept_invariant();
         let first = self.live_at(place);
         let mut at = self.next_free(first);
         'ahead: while at < END {
             if !self.waits_at(at) {
                 return;
             }
-            self.kept();
+            self.kept_invariant();
             at = self.next_free(at + 1);
         }
         at = self.next_free(0);
@@ -93,7 +93,7 @@ impl<D: Device> Player<D> {
             if !self.waits_at(at) {
                 return;
             }
-            self.kept();
+            self.kept_invariant();
             at = self.next_free(at + 1);
         }
         unreachable!()

@@ -72,7 +72,7 @@ impl<D: Device> Hands<D> {
         ensures opened { IfOk result (λ player. PlayerIsOpened hub rounds player) }
         ensures refused { IfErr result (λ refused. refused.0 ≡ hub) }
     {
-        hub.kept();
+        hub.kept_invariant();
         let Ok(grips) = empty_hands(alloc, hub.run_count() as usize + 1) else {
             return Err((hub, NoMemory));
         };
@@ -92,7 +92,7 @@ impl<D: Device> Hands<D> {
         ensures picked { PlayerPicks D.shows self.old actor result self.new }
         ensures few { MovesAreFew self.new }
     {
-        self.kept();
+        self.kept_invariant();
         if self.has_ended(actor) {
             return Picked::Passed;
         }
@@ -149,7 +149,7 @@ impl<D: Device> Hands<D> {
         ensures { result ≡ is_ended self.now actor }
     {
         if actor == 0 {
-            self.hub.kept();
+            self.hub.kept_invariant();
             let all = u64::from(self.rounds) * self.hub.device_count();
             return !self.holds(0) && all <= self.place;
         }
@@ -180,7 +180,7 @@ impl<D: Device> Hands<D> {
         requires holds { is_full self.old actor ≡ true }
         ensures { PlayerSteps D.shows self.old actor (Picked.Made result) self.new }
     {
-        self.hub.kept();
+        self.hub.kept_invariant();
         self.hub.bounded();
         match mem::replace(&mut self.grips[actor as usize], None) {
             Some(grip) => {
@@ -244,7 +244,7 @@ impl<D: Device> Hands<D> {
         requires holds { is_full self.old 0 ≡ true }
         ensures { PlayerSteps D.shows self.old 0 (Picked.Made result) self.new }
     {
-        self.hub.kept();
+        self.hub.kept_invariant();
         match mem::replace(&mut self.grips[0], None) {
             Some(grip) => {
                 let given = self.hub.give_probe(grip.act());
@@ -264,7 +264,7 @@ impl<D: Device> Hands<D> {
         requires empty { is_full self.old 0 ≡ false }
         ensures { PlayerSteps D.shows self.old 0 result self.new }
     {
-        self.hub.kept();
+        self.hub.kept_invariant();
         let d = DeviceNo((self.place % self.hub.device_count()) as u16);
         let probed = self.hub.take_probe(d);
         self.place += 1;
@@ -279,11 +279,11 @@ impl<D: Device> Hands<D> {
 
     /// Does nothing. Its contract is what is kept of every player and of its hub, and that its
     /// window is never stuck.
-    pub(crate) fn kept(&self)
+    pub(crate) fn kept_invariant(&self)
         ensures player { PlayerStands self.now }
         ensures hub { HubStands D.shows self.now.hub }
     {
-        self.hub.kept();
+        self.hub.kept_invariant();
         self.hub.progress();
         self.hub.bounded();
     }
@@ -305,7 +305,7 @@ impl<D: Device> Hands<D> {
             place,
             moves,
         } = self;
-        hub.kept();
+        hub.kept_invariant();
         match hub.close_window() {
             Ok(closed) => {
                 'hands: while let Some(hand) = grips.pop() {

@@ -95,10 +95,10 @@ impl<D: Device> Player<D> {
 
     /// Does nothing. Its contract is what is kept of every player and of its hub, and that its
     /// window is never stuck.
-    pub(crate) fn kept(&self)
+    pub(crate) fn kept_invariant(&self)
         ensures player { PlayerStands self.now }
         ensures hub { HubStands D.shows self.now.hub }
     {
-        self.hands.kept();
+        self.hands.kept_invariant();
     }
 }

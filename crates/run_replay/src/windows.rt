@@ -34,7 +34,7 @@ impl<D: Device> Player<D> {
         };
         match Hands::open(alloc, hub, rounds) {
             Ok(hands) => {
-                hands.kept();
+                hands.kept_invariant();
                 let mut runs = 0;
                 'actors: for actor in 0..count {
                     if !hands.has_ended(actor) {
@@ -102,14 +102,14 @@ pub fn replay_window<D: Device>(
         (λ closed. IsReplayed D.shows hub turns.now seed rounds closed.0 closed.1) }
     ensures refused { IfErr result (λ refused. refused.0 ≡ hub) }
 {
-    hub.kept();
+    hub.kept_invariant();
     let mut player = match Player::open(alloc, hub, rounds) {
         Ok(player) => player,
         Err(refused) => return Err(refused),
     };
     player.play(turns);
     player.finish(seed);
-    player.kept();
+    player.kept_invariant();
     match player.close() {
         Ok(closed) => Ok(closed),
         Err((_player, _why)) => unreachable!(),

@@ -63,7 +63,7 @@ fn open_window(alloc: Global, script: &Script, mode: Mode) -> Result<Opened, All
     let Ok(home) = Home::build(alloc, &mut SimBench, script) else {
         return Err(AllocError);
     };
-    home.kept();
+    home.kept_invariant();
     match home.open_window(alloc, roster, mode, window.probes) {
         Ok(hub) => Ok(Opened {
             hub,

@@ -12,7 +12,7 @@ use history_book::{End, Entry, Kept, WindowRecord};
 use home_journal::{Disk, Journal, MemoryDisk};
 use home_types::{Bytes, Item, List, Mode, NoMemory, Scheduler, Stand, Visibility};
 use hub_core::{Home, Hub, script_kinds};
-use hub_threads::{KeepFault, Means, Naps, run_kept_window, run_window_by};
+use hub_threads::{BackOff, KeepFault, Means, run_kept_window, run_window_by};
 use routine_reader::{Script, read_script, roster};
 use std::alloc::Global;
 use std::sync::Wait;
@@ -60,8 +60,8 @@ const ROUNDS: u32 = 2;
 /// their place too.
 const SCHEDULERS: [Scheduler; 2] = [Scheduler::Fcfs, Scheduler::JustInTime];
 
-/// Naps of an hour: only a bell ends them in a test's time.
-const LONG: Naps = Naps {
+/// Pauses of an hour: only a waker ends them in a test's time.
+const LONG: BackOff = BackOff {
     blocked: 3_600_000,
     restless: 3_600_000,
 };
@@ -117,7 +117,7 @@ fn is_worked_right<R: Threads + Wait + Sync>(
 {
     let means = Means {
         threads,
-        naps: LONG,
+        back_off: LONG,
     };
     match run_window_by(rt, alloc, hub, ROUNDS, &SetClock::new(7), means) {
         Ok((home, closed)) => {
@@ -179,7 +179,7 @@ fn open_window<D: Device>(
         drop(home);
         return None;
     };
-    home.kept();
+    home.kept_invariant();
     let mode = Mode {
         model: Visibility::Eventual,
         scheduler,

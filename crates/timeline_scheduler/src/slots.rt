@@ -131,7 +131,7 @@ impl Slots {
             (devices_passed s.now.table s.now.runs r.0 x.0) self.old }
         ensures whole { result ≡ whole_passed s.now.table s.now.runs r.0 x.0 }
     {
-        s.table.kept();
+        s.table.kept_invariant();
         let doomed = s.book.is_doomed(x);
         let devices = devices_to_pass(s.table, x, followed);
         let mut whole = 0;
@@ -154,7 +154,7 @@ impl Slots {
         ensures { self.new ≡ changed (slot_waiting (runs_of roster.now) r.0 x.0 whole)
             (devices_among (runs_of roster.now) r.0 (length self.old)) self.old }
     {
-        roster.kept();
+        roster.kept_invariant();
         let waiting = roster.first_reads_of(r, x);
         let mut from = DeviceNo(0);
         'devices: while let Some(d) = waiting.next(from) {
@@ -262,9 +262,9 @@ fn find(table: &Table, d: DeviceNo, x: RunNo, near: &mut Option<Knot>) -> Access
     requires there { has_access x.0 (accesses_at table.now d.0) ≡ true }
     ensures { access_of x.0 (accesses_at table.now d.0) ≡ Some result }
 {
-    table.kept();
+    table.kept_invariant();
     let accesses = table.chain(d);
-    accesses.kept();
+    accesses.kept_invariant();
     let k = knot_from(accesses, x, *near).unwrap();
     *near = Some(k);
     *accesses.get(k)

@@ -12,6 +12,6 @@ pub use Rattle.window_devices.proofs.KnownDevices.{device_here, device_there, gr
 -- one more item at its end.
 pub use Rattle.window_devices.proofs.OpenedDevices.{There, get_front, get_last, known_as, known_there, none_out, past_end, there, unknown}
 -- Of each run of a window, the device whose grip it holds, as devices go out and come home.
-pub use Rattle.window_devices.proofs.Hands.{IsOf, hand_goes, hands_come, no_hands, others_hold, probe_goes, run_above, run_hand}
+pub use Rattle.window_devices.proofs.HeldTokens.{IsOf, hand_goes, hands_come, no_held_tokens, others_hold, probe_goes, run_above, run_hand}
 -- How devices are left where they are known to stand.
 pub use Rattle.window_devices.proofs.LeftDevices.{left_at, left_size}

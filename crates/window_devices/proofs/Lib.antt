@@ -2,6 +2,6 @@ mod SetPlaces
 mod Finds
 mod KnownDevices
 mod OpenedDevices
-mod Hands
+mod HeldTokens
 mod LeftDevices
 pub mod Cited

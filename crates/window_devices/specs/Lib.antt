@@ -1,3 +1,3 @@
-pub mod Away
+pub mod Checkouts
 pub mod KnownDevices
 pub mod LeftDevices

@@ -2,12 +2,12 @@
 // holds.
 #![tactic(auto)]
 
-mod away;
+mod checkouts;
 mod closings;
 mod known;
 mod openings;
 
-pub use away::{Away, Came};
+pub use checkouts::{Checkouts, ReturnedDevice};
 pub use closings::{Risen, rises_in, stands_known};
 pub use known::{DeviceCallCounts, DeviceProgress, Events};
 pub use openings::roomy_list;

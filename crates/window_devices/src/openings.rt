@@ -4,7 +4,7 @@ ghost use Rattle.device_gate.specs.Places.{AreNumbered, all_home};
 ghost use Rattle.home_types.specs.HomeStates.{stand_at};
 ghost use Rattle.window_devices.specs.KnownDevices.{AreKnown, IsRoomFor, known_first};
 
-use crate::away::Away;
+use crate::checkouts::Checkouts;
 use crate::known::{DeviceCallCounts, DeviceProgress, NO_EVENTS};
 use device_gate::Gate;
 use device_states::Device;
@@ -12,7 +12,7 @@ use home_types::{DeviceNo, List, NoMemory, World};
 use lock_leasing::Purpose;
 use std::alloc::Global;
 
-impl<D: Device> Away<D> {
+impl<D: Device> Checkouts<D> {
     /// The devices of a home that is in this state, all of them home. Each has so many rounds of
     /// probes, and none of so many runs holds one.
     ///
@@ -24,28 +24,34 @@ impl<D: Device> Away<D> {
         world: &World,
         runs: u64,
         rounds: u32,
-    ) -> Result<Away<D>, (List<D>, NoMemory)>
+    ) -> Result<Checkouts<D>, (List<D>, NoMemory)>
         requires numbers { AreNumbered D.shows devices.items }
         requires size { length devices.items ≤ length world.now.devices.items }
-        ensures places { IfOk result (λ away. away.gate.places ≡ all_home devices.items) }
-        ensures tickets { IfOk result (λ away. away.gate.tickets ≡ 0) }
-        ensures known { IfOk result (λ away. AreKnown D.shows devices.items world.now.devices.items
-            rounds (length devices.items) away.known.items) }
-        ensures hands { IfOk result (λ away. away.hands.items ≡ replicate runs None) }
+        ensures places { IfOk result (λ checkouts. checkouts.gate.places ≡ all_home devices.items) }
+        ensures tickets { IfOk result (λ checkouts. checkouts.gate.tickets ≡ 0) }
+        ensures known { IfOk result (λ checkouts. AreKnown D.shows devices.items
+            world.now.devices.items
+            rounds (length devices.items) checkouts.known.items) }
+        ensures held_tokens { IfOk result
+            (λ checkouts. checkouts.held_tokens.items ≡ replicate runs None) }
         ensures refused { IfErr result (λ refused. refused.0 ≡ devices) }
     {
         let Ok(known) = known_devices(alloc, &devices, world, rounds) else {
             return Err((devices, NoMemory));
         };
-        let Ok(hands) = no_hands(alloc, runs) else {
+        let Ok(held_tokens) = no_held_tokens(alloc, runs) else {
             drop(known);
             return Err((devices, NoMemory));
         };
         match Gate::open(alloc, devices) {
-            Ok(gate) => Ok(Away { gate, known, hands }),
+            Ok(gate) => Ok(Checkouts {
+                gate,
+                known,
+                held_tokens,
+            }),
             Err(refused) => {
                 drop(known);
-                drop(hands);
+                drop(held_tokens);
                 Err(refused)
             }
         }
@@ -95,14 +101,14 @@ fn known_device<D: Device>(devices: &List<D>, world: &World, at: u64, rounds: u3
 }
 
 /// None of so many runs holds a grip.
-fn no_hands(alloc: Global, runs: u64) -> Result<List<Option<DeviceNo>>, NoMemory>
-    ensures { IfOk result (λ hands. hands.items ≡ replicate runs None) }
+fn no_held_tokens(alloc: Global, runs: u64) -> Result<List<Option<DeviceNo>>, NoMemory>
+    ensures { IfOk result (λ held_tokens. held_tokens.items ≡ replicate runs None) }
 {
-    let mut hands = roomy_list(alloc, runs)?;
+    let mut held_tokens = roomy_list(alloc, runs)?;
     'runs: for _ in 0..runs {
-        hands.push(None)?;
+        held_tokens.push(None)?;
     }
-    Ok(hands)
+    Ok(held_tokens)
 }
 
 /// An empty list with room for so many items and no more.

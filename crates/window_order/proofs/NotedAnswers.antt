@@ -1,6 +1,6 @@
 -- How the calls of a lineage table that note an answer are one change.
 use Rattle.home_types.specs.declared.commands.View.{View}
-use Rattle.window_order.specs.KeptOrders.{MayNote, is_first, noted_first}
+use Rattle.window_order.specs.OrderStates.{MayNote, is_first, noted_first}
 use Rattle.lineage_table.proofs.Cited.{Pairs, pairs_from_all}
 use Rattle.lineage_table.specs.Accesses.{AreInTurn, IsDisciplined, access_of, accesses_before, is_of, is_released, is_scheduled, some_scheduled, status_of, with_change}
 use Rattle.lineage_table.specs.Answers.{answered_access, answered_if, lineage_answered}

@@ -27,7 +27,7 @@ use Rattle.std.specs.Prelude.{Bool, List, None, Option, Some, [], drop, false, g
 use Rattle.window_order.proofs.AgainAccesses.{MayStand, may_stand}
 use Rattle.window_order.proofs.NotedAnswers.{lineage_set}
 use Rattle.window_order.proofs.TableSteps.{with_both}
-use Rattle.window_order.specs.KeptOrders.{scheduled_so}
+use Rattle.window_order.specs.OrderStates.{scheduled_so}
 use Rattle.window_order.specs.TableChanges.{IsNewOn, first_with_access, rescheduled}
 
 -- after so many commands their devices are done, and the run has its access there

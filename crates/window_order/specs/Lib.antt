@@ -4,6 +4,6 @@ pub mod TableKept
 pub mod TableChanges
 pub mod MarksKept
 pub mod LostRuns
-pub mod KeptOrders
+pub mod OrderStates
 pub mod Joins
 pub mod Leavings

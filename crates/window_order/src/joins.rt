@@ -7,12 +7,12 @@ ghost use Rattle.home_types.specs.Limits.{most_devices, most_runs};
 ghost use Rattle.serial_line.specs.KeptRuns.{KeepsOneMore};
 ghost use Rattle.window_order.specs.Joins.{HasMoreRoom, HasRoomFor};
 
-use crate::kept_orders::KeptOrder;
+use crate::order_states::OrderState;
 use command_rules::RosterRun;
 use home_types::{Command, DeviceNo, NoMemory};
 use lineage_table::Table;
 
-impl KeptOrder {
+impl OrderState {
     /// Makes room for a run that joins the window: for one item more of the line than it has room
     /// for, and for one access more on each device of the run. All else stays, and so does the room
     /// that there was.

@@ -4,10 +4,10 @@
 #![tactic(auto)]
 
 mod joins;
-mod kept_orders;
 mod leavings;
+mod order_states;
 mod releases;
 mod reschedules;
 
-pub use kept_orders::{KeptOrder, Noted, note_of, seal};
 pub use leavings::{line_items, stands_in};
+pub use order_states::{Noted, OrderState, note_of, seal};

@@ -56,6 +56,6 @@ fn scheduled_before(table: &Table, d: DeviceNo, r: RunNo) -> Option<RunNo>
         ≡ first_before (λ x. is_scheduled x.status) r.0 (accesses_at table.now d.0) }
     ensures disciplined { IsDisciplined (accesses_at table.now d.0) }
 {
-    table.kept();
+    table.kept_invariant();
     table.first_before(d, r, |access| access.status == Status::Scheduled)
 }

@@ -16,7 +16,7 @@ pub(crate) fn wait_again(table: &mut Table, d: DeviceNo, first: Option<RunNo>)
     requires unused { some_acquired (accesses_from first (accesses_at table.old d.0)) ≡ false }
     ensures { table.new ≡ with_lineage table.old d.0 (rescheduled first) }
 {
-    table.kept();
+    table.kept_invariant();
     let Some(q) = first else {
         return;
     };

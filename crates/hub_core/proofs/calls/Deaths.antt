@@ -36,10 +36,10 @@ use Rattle.hub_core.proofs.kept.OrderSteps.{done_after, may_note, none_out, orde
 use Rattle.hub_core.proofs.kept.TableFits.{either_model}
 use Rattle.history_book.specs.Causes.{died_by}
 use Rattle.hub_core.specs.HubsKept.{IsWhole, open_of}
-use Rattle.hub_core.specs.KeptOrders.{HasFallen, MayTurn, OrderIsBeside}
-use Rattle.window_order.specs.KeptOrders.{MayNote, is_first, noted_first}
+use Rattle.hub_core.specs.OrderStates.{HasFallen, MayTurn, OrderIsBeside}
+use Rattle.window_order.specs.OrderStates.{MayNote, is_first, noted_first}
 use Rattle.hub_core.specs.OpenHubs.{configuration_of, held_in}
-use Rattle.window_order.specs.declared.kept_orders.KeptOrder.{KeptOrder}
+use Rattle.window_order.specs.declared.order_states.OrderState.{OrderState}
 use Rattle.window_devices.specs.declared.known.Events.{Events}
 use Rattle.hub_core.specs.declared.open_windows.OpenWindow.TheInside.{Inside}
 use Rattle.lineage_table.specs.Lineages.{LineageState, counted_up, lineage_at, with_lineage}
@@ -318,7 +318,7 @@ order_dies {rounds = rounds} h h₁ h₂ h₃ g f d r k cause mid after noted la
     none e = ap (λ x. grips_command x r e) home ∙ none_out (point w n g) d.0 r (Commands k) run at fits e
 
 -- what line and table note of it
-pub record DeathNoted {D : Type 0} (h t : Inside D) (slip : Slip) (events : Events) (first : Bool) (died : Option RunNo) (cause : Option Cause) (mid : HistoryState) (view : View) (wrote : Option ℕ) (last : Bool) (fallen noted : KeptOrder) : Type 0 where
+pub record DeathNoted {D : Type 0} (h t : Inside D) (slip : Slip) (events : Events) (first : Bool) (died : Option RunNo) (cause : Option Cause) (mid : HistoryState) (view : View) (wrote : Option ℕ) (last : Bool) (fallen noted : OrderState) : Type 0 where
   pub died_is : died ≡ (if first then Some (run_no slip.maker) else None)
   pub fell : HasFallen h.history slip.device died events.fell h.order.line fallen.line h.order.table fallen.table
   pub view_is : view ≡ ViewedDown
@@ -332,7 +332,7 @@ pub record DeathNoted {D : Type 0} (h t : Inside D) (slip : Slip) (events : Even
   pub changed : IsSome cause → ChangesEach (λ d. doomed_lineage slip.maker) noted.table t.order.table
 
 -- .. as its own slip says
-order_dead : {D : Type 0} {shows : D → Shown} (h t : Inside D) (k : ℕ) (grip : Gripped D Done) (events : Events) (first : Bool) (died : Option RunNo) (cause : Option Cause) (fell mid : HistoryState) (view : View) (wrote : Option ℕ) (last : Bool) (fallen noted : KeptOrder)
+order_dead : {D : Type 0} {shows : D → Shown} (h t : Inside D) (k : ℕ) (grip : Gripped D Done) (events : Events) (first : Bool) (died : Option RunNo) (cause : Option Cause) (fell mid : HistoryState) (view : View) (wrote : Option ℕ) (last : Bool) (fallen noted : OrderState)
     → IsReturned shows h (Commands k) grip → IsHome h t grip → IsDead h grip k grip.slip events first cause fell mid t.history → DeathNoted h t grip.slip events first died cause mid view wrote last fallen noted
     → IsWellFormed t.history.setting (entries_of t.history.history)
     → (configuration_of (open_of t)).grips ≡ put (configuration_of (open_of h)).grips grip.slip.device.0 None → IsWhole shows h
@@ -390,7 +390,7 @@ order_dead {D = D} h t k grip events first died cause fell mid view wrote last f
 -- a command died: what is kept is kept
 pub died_whole : {D : Type 0} {shows : D → Shown} (h t : Inside D) (k : ℕ) (grip : Gripped D Done) (slip : Slip) (events : Events)
     (first : Bool) (died : Option RunNo) (cause : Option Cause) (fell mid : HistoryState) (view : View) (wrote : Option ℕ) (last : Bool)
-    (fallen noted : KeptOrder)
+    (fallen noted : OrderState)
     → IsReturned shows h (Commands k) grip → IsHome h t grip → IsDead h grip k slip events first cause fell mid t.history
     → DeathNoted h t slip events first died cause mid view wrote last fallen noted → IsWhole shows h → IsWhole shows t
 died_whole h t k grip slip events first died cause fell mid view wrote last fallen noted returned home dead notes whole =

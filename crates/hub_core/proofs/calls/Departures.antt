@@ -25,9 +25,9 @@ use Rattle.hub_core.specs.HubKept.{probes_of}
 use Rattle.hub_core.specs.KeptByModel.{IsKeptByModel}
 use Rattle.hub_core.specs.HubCalls.{IsNextGrip, SameWindow}
 use Rattle.hub_core.specs.HubSteps.{carrying, task_of}
-use Rattle.window_devices.specs.Away.{HandsAre, IsSent}
+use Rattle.window_devices.specs.Checkouts.{HeldTokensAre, IsSent}
 use Rattle.hub_core.specs.HubsKept.{FitsAtHome, FitsOut, HubIsKept, IsWhole, all_probes_taken, is_away, open_of}
-use Rattle.hub_core.specs.KeptOrders.{OrderIsBeside}
+use Rattle.hub_core.specs.OrderStates.{OrderIsBeside}
 use Rattle.hub_core.specs.declared.open_windows.OpenWindow.TheInside.{Inside}
 use Rattle.home_types.specs.declared.numbers.DeviceNo.{DeviceNo}
 use Rattle.command_rules.specs.Rosters.{device_no}
@@ -273,18 +273,18 @@ gone_carries s r d left t purpose slip task does within = carried_set s.places d
 
 -- the device is sent to the maker, for this purpose and task, and so many of its probes are left: so the parts change, but for the history
 pub record IsGone {D : Type 0} (shows : D → Shown) (h t : Inside D) (r d : ℕ) (purpose : Purpose) (left : ℕ) (task : Task) (grip : Gripped D Ready) : Type 0 where
-  pub sent : IsSent shows h.away (device_no d) r (record (progress_at h.away.known.items d) { purpose = purpose; probes_left = left }) task grip t.away
+  pub sent : IsSent shows h.checkouts (device_no d) r (record (progress_at h.checkouts.known.items d) { purpose = purpose; probes_left = left }) task grip t.checkouts
   pub does : task ≡ task_of (configuration_of (open_of h)) r purpose
-  pub probed_so : left + probed task ≡ (progress_at h.away.known.items d).probes_left
+  pub probed_so : left + probed task ≡ (progress_at h.checkouts.known.items d).probes_left
   pub ticket : 1 ≤ one_for (nat_lt 0 r) + probed task
-  pub new : t ≡ record h { moment = t.moment; away = t.away; order = t.order }
+  pub new : t ≡ record h { moment = t.moment; checkouts = t.checkouts; order = t.order }
 
 -- the device is one of the home
 pub gone_within : {D : Type 0} {shows : D → Shown} (h t : Inside D) (r d : ℕ) (purpose : Purpose) (left : ℕ) (task : Task)
     (grip : Gripped D Ready) → IsGone shows h t r d purpose left task grip → IsWhole shows h
-    → (d < length h.away.gate.places) × (d < length h.away.known.items)
+    → (d < length h.checkouts.gate.places) × (d < length h.checkouts.known.items)
 gone_within h t r d purpose left task grip is k =
-    let within = slice_get_within h.away.gate.places d (Home grip.device) is.sent.at in
+    let within = slice_get_within h.checkouts.gate.places d (Home grip.device) is.sent.at in
     (within, omega (arith, within, k.shown.devices_size, k.shown.places_size))
 
 gone_leaves : {D : Type 0} {shows : D → Shown} (h t : Inside D) (r d : ℕ) (purpose : Purpose) (left : ℕ) (task : Task) (grip : Gripped D Ready)
@@ -314,19 +314,19 @@ gone_grips {D = D} h t r d purpose left task grip is k =
     ap (λ (x : OpenHub D). (configuration_of x).grips) (gone_shows h t r d purpose left task grip is)
     ∙ ap (λ (c : Configuration). c.grips) (gone_configuration (open_of h) r d left t.moment purpose grip.slip task is.sent.maker_is within.0 within.1)
 
--- what is kept is kept then, where configuration, line, table and hands are
+-- what is kept is kept then, where configuration, line, table and held tokens are
 pub gone_whole : {D : Type 0} {shows : D → Shown} (h t : Inside D) (r d : ℕ) (purpose : Purpose) (left : ℕ) (task : Task)
     (grip : Gripped D Ready) → IsGone shows h t r d purpose left task grip
     → IsKeptByModel (configuration_of (open_of t)) h.rounds h.opened (held_in (open_of h))
-    → OrderIsBeside h.rounds h.history (configuration_of (open_of t)).grips t.order.line t.order.table → HandsAre h.history.setting (configuration_of (open_of t)).grips t.away.hands.items → IsWhole shows h → IsWhole shows t
-gone_whole {D = D} {shows = shows} h t r d purpose left task grip is configuration order hands k =
+    → OrderIsBeside h.rounds h.history (configuration_of (open_of t)).grips t.order.line t.order.table → HeldTokensAre h.history.setting (configuration_of (open_of t)).grips t.checkouts.held_tokens.items → IsWhole shows h → IsWhole shows t
+gone_whole {D = D} {shows = shows} h t r d purpose left task grip is configuration order held_tokens k =
     subst (λ (x : Inside D). IsWhole shows x) (sym is.new) (record {
       shown = subst (λ (x : Inside D). HubIsKept shows (open_of x)) is.new (subst (λ (x : OpenHub D). HubIsKept shows x) (sym seen)
           (gone_kept shows (open_of h) r d left t.moment purpose grip.device grip.slip task is.sent.at (gone_leaves h t r d purpose left task grip is)
           (subst (λ (x : OpenHub D). IsKeptByModel (configuration_of x) h.rounds h.opened (held_in (open_of h))) seen configuration) k.shown));
       room = k.room;
       order = subst (λ (x : Inside D). OrderIsBeside h.rounds h.history (configuration_of (open_of x)).grips t.order.line t.order.table) is.new order;
-      hands = subst (λ (x : Inside D). HandsAre h.history.setting (configuration_of (open_of x)).grips t.away.hands.items) is.new hands;
+      held_tokens = subst (λ (x : Inside D). HeldTokensAre h.history.setting (configuration_of (open_of x)).grips t.checkouts.held_tokens.items) is.new held_tokens;
     })
   where
     seen : open_of t ≡ gone (open_of h) d purpose left grip.slip task t.moment
@@ -341,7 +341,7 @@ gone_window {D = D} h t r d purpose left task grip is k =
       setting = refl;
       rounds = refl;
       opened = refl;
-      at_opening = known_same (λ (p : DeviceProgress). p.at_opening) h.away.known.items d (record (progress_at h.away.known.items d) { purpose = purpose; probes_left = left }) (gone_within h t r d purpose left task grip is k).1 refl;
+      at_opening = known_same (λ (p : DeviceProgress). p.at_opening) h.checkouts.known.items d (record (progress_at h.checkouts.known.items d) { purpose = purpose; probes_left = left }) (gone_within h t r d purpose left task grip is k).1 refl;
     })
 
 -- its grip is the next one

@@ -25,7 +25,7 @@ use Rattle.hub_core.proofs.calls.OutFor.{IsFor, brings_back, entries_for, out_fo
 use Rattle.hub_core.proofs.kept.KeptByModel.{given_kept}
 use Rattle.hub_core.proofs.kept.Sizes.{few_events, history_fits}
 use Rattle.hub_core.proofs.steps.Calls.{calls_told, falls_of, give_calls, give_counted, give_down, give_falls, give_registers, give_rises, is_up_for, rises_of}
-use Rattle.window_devices.specs.Away.{HandsAre, IsHomeAgain, MayComeHome, with_hand}
+use Rattle.window_devices.specs.Checkouts.{HeldTokensAre, IsHomeAgain, MayComeHome, with_hand}
 use Rattle.window_devices.specs.KnownDevices.{events_after, grip_in, known_after, progress_at, turned}
 use Rattle.hub_core.specs.Bounds.{most_entries}
 use Rattle.hub_core.specs.Homes.{CountsAreLow}
@@ -34,7 +34,7 @@ use Rattle.hub_core.specs.HubKept.{is_of_run}
 use Rattle.hub_core.specs.HubSteps.{Carried, Gave, HubState, Returned, RunGiven, give, give_if, give_probe, task_of}
 use Rattle.hub_core.specs.HubsKept.{FitsAtHome, HasRoomLeft, HubIsKept, IsWhole, all_probes_taken, is_away, open_of}
 use Rattle.hub_core.specs.KeptByModel.{IsKeptByModel}
-use Rattle.hub_core.specs.KeptOrders.{OrderIsBeside}
+use Rattle.hub_core.specs.OrderStates.{OrderIsBeside}
 use Rattle.hub_core.specs.OpenHubs.{OpenHub, configuration_of, events_in, held_in, hub_state_of}
 use Rattle.lock_leasing.specs.declared.purposes.Purpose.TheVariants.{Commands, Probes, Undoes}
 use Rattle.lock_leasing.specs.declared.purposes.Purpose.{Purpose}
@@ -316,8 +316,8 @@ comes_back {D = D} shows s grip purpose t for called later kept =
 
 -- what is known of the grip, and of its device
 pub record IsReturned {D : Type 0} (shows : D → Shown) (h : Inside D) (why : Purpose) (grip : Gripped D Done) : Type 0 where
-  pub there : IsKept h.away.gate.places grip.slip grip.task
-  pub purpose : (progress_at h.away.known.items grip.slip.device.0).purpose ≡ why
+  pub there : IsKept h.checkouts.gate.places grip.slip grip.task
+  pub purpose : (progress_at h.checkouts.known.items grip.slip.device.0).purpose ≡ why
   pub called : WasCalled grip.stage.told grip.task grip.slip (shows grip.device)
 
 -- .. also where it is told of what the hub shows
@@ -348,7 +348,7 @@ pub takes_back : {D : Type 0} {shows : D → Shown} (h : Inside D) (why : Purpos
 takes_back h why grip returned k = (returned_comes h h.moment why grip returned (omega arith) k).configuration.history.well_formed
 
 -- it may
-pub may_come : {D : Type 0} {shows : D → Shown} (h : Inside D) (s : OpenHub D) (grip : Gripped D Done) → open_of h ≡ s → IsKept s.places grip.slip grip.task → IsWhole shows h → MayComeHome h.away grip
+pub may_come : {D : Type 0} {shows : D → Shown} (h : Inside D) (s : OpenHub D) (grip : Gripped D Done) → open_of h ≡ s → IsKept s.places grip.slip grip.task → IsWhole shows h → MayComeHome h.checkouts grip
 may_come {D = D} h s grip seen kept k =
     record {
       kept = there;
@@ -361,11 +361,11 @@ may_come {D = D} h s grip seen kept k =
     d : ℕ
     d = grip.slip.device.0
 
-    there : IsKept h.away.gate.places grip.slip grip.task
+    there : IsKept h.checkouts.gate.places grip.slip grip.task
     there = ap (λ (x : OpenHub D). slice_get x.places d) seen ∙ kept
 
     why : Purpose
-    why = (progress_at h.away.known.items d).purpose
+    why = (progress_at h.checkouts.known.items d).purpose
 
     for : IsFor (open_of h) grip.slip grip.task why
     for = out_for _ (open_of h) grip.slip grip.task why k.shown there refl
@@ -376,8 +376,8 @@ may_come {D = D} h s grip seen kept k =
     rounds : h.rounds ≤ 100
     rounds = k.shown.configuration.opens.few_rounds
 
-    by_maker : (b : Bool) → is_of_run why ≡ b → grip.slip.maker ≤ length h.away.hands.items
-    by_maker true of_run = let place = run_place h.history.setting.runs grip.slip.maker (for.run of_run) in omega (arith, place.0, place.1, k.hands.size)
+    by_maker : (b : Bool) → is_of_run why ≡ b → grip.slip.maker ≤ length h.checkouts.held_tokens.items
+    by_maker true of_run = let place = run_place h.history.setting.runs grip.slip.maker (for.run of_run) in omega (arith, place.0, place.1, k.held_tokens.size)
     by_maker false none = let detector : nat_lt 0 grip.slip.maker ≡ false = sym for.maker ∙ none in let zero' : grip.slip.maker ≡ 0 = grind (arith, common_steps) in omega (arith, zero')
 
 -- the history has a place for each entry
@@ -394,8 +394,8 @@ returned_places h why grip returned k =
 -- the parts when it is home again: they change, but for the history and the order
 pub record IsHome {D : Type 0} (h t : Inside D) (grip : Gripped D Done) : Type 0 where
   pub later : h.moment ≤ t.moment
-  pub home : IsHomeAgain h.away grip t.away
-  pub new : t ≡ record h { history = t.history; moment = t.moment; away = t.away; order = t.order }
+  pub home : IsHomeAgain h.checkouts grip t.checkouts
+  pub new : t ≡ record h { history = t.history; moment = t.moment; checkouts = t.checkouts; order = t.order }
 
 -- what is known of a grip that came back, of what became of the parts, and of the entries that its step makes
 pub record CameHome {D : Type 0} (shows : D → Shown) (h t : Inside D) (why : Purpose) (grip : Gripped D Done) (entries : List Entry) : Type 0 where
@@ -420,7 +420,7 @@ came_shows {D = D} h t why grip entries came =
 
 came_within : {D : Type 0} {shows : D → Shown} (h t : Inside D) (why : Purpose) (grip : Gripped D Done) (entries : List Entry)
     → CameHome shows h t why grip entries → IsWhole shows h
-    → (grip.slip.device.0 < length h.away.gate.places) × (grip.slip.device.0 < length h.away.known.items)
+    → (grip.slip.device.0 < length h.checkouts.gate.places) × (grip.slip.device.0 < length h.checkouts.known.items)
 came_within h t why grip entries came k =
     let for = returned_for h why grip came.returned k in
     (omega (arith, for.below, k.shown.places_size), omega (arith, for.below, k.shown.devices_size))
@@ -443,9 +443,9 @@ came_whole {D = D} {shows = shows} h t why grip entries came order k =
       shown = subst (λ (x : Inside D). HubIsKept shows (open_of x)) came.parts.new shown;
       room = room;
       order = subst (λ (x : Inside D). OrderIsBeside h.rounds t.history (configuration_of (open_of x)).grips t.order.line t.order.table) came.parts.new (order shown.configuration.history.well_formed grips);
-      hands = subst (λ (x : Inside D). HandsAre t.history.setting (configuration_of (open_of x)).grips t.away.hands.items) came.parts.new
-          (subst (λ (w : Setting). HandsAre w (configuration_of (open_of t)).grips t.away.hands.items) (sym (ap (λ (x : HistoryState). x.setting) came.history_is))
-          (subst (λ (g : Grips). HandsAre h.history.setting g t.away.hands.items) (sym grips) (subst (HandsAre h.history.setting (put (configuration_of (open_of h)).grips d None)) (sym came.parts.home.hands) hands)));
+      held_tokens = subst (λ (x : Inside D). HeldTokensAre t.history.setting (configuration_of (open_of x)).grips t.checkouts.held_tokens.items) came.parts.new
+          (subst (λ (w : Setting). HeldTokensAre w (configuration_of (open_of t)).grips t.checkouts.held_tokens.items) (sym (ap (λ (x : HistoryState). x.setting) came.history_is))
+          (subst (λ (g : Grips). HeldTokensAre h.history.setting g t.checkouts.held_tokens.items) (sym grips) (subst (HeldTokensAre h.history.setting (put (configuration_of (open_of h)).grips d None)) (sym came.parts.home.held_tokens) held_tokens)));
     })
   where
     d : ℕ
@@ -464,8 +464,8 @@ came_whole {D = D} {shows = shows} h t why grip entries came order k =
     shown = subst (λ (x : OpenHub D). HubIsKept shows x) (sym (came_shows h t why grip entries came))
         (back_kept shows (open_of h) grip entries t.moment came.returned.there (came_within h t why grip entries came k).1 comes k.shown)
 
-    hands : HandsAre h.history.setting (put (configuration_of (open_of h)).grips d None) (with_hand h.away.hands.items grip.slip.maker None)
-    hands = hands_come h.history.setting (read_in h.history) (configuration_of (open_of h)).grips grip.slip.maker d why h.away.hands.items (λ some. for.run (for.maker ∙ some)) for.grip k.shown.configuration.grips k.hands
+    held_tokens : HeldTokensAre h.history.setting (put (configuration_of (open_of h)).grips d None) (with_hand h.checkouts.held_tokens.items grip.slip.maker None)
+    held_tokens = hands_come h.history.setting (read_in h.history) (configuration_of (open_of h)).grips grip.slip.maker d why h.checkouts.held_tokens.items (λ some. for.run (for.maker ∙ some)) for.grip k.shown.configuration.grips k.held_tokens
 
     room : HasRoomLeft h.rounds t.history h.closing
     room = subst (λ x. HasRoomLeft h.rounds x h.closing) (sym came.history_is) (record {
@@ -504,7 +504,7 @@ came_window {D = D} h t why grip entries came k =
       setting = refl;
       rounds = refl;
       opened = refl;
-      at_opening = known_same (λ (p : DeviceProgress). p.at_opening) h.away.known.items grip.slip.device.0 (known_after grip.task grip.stage.told (progress_at h.away.known.items grip.slip.device.0)) (came_within h t why grip entries came k).1 refl;
+      at_opening = known_same (λ (p : DeviceProgress). p.at_opening) h.checkouts.known.items grip.slip.device.0 (known_after grip.task grip.stage.told (progress_at h.checkouts.known.items grip.slip.device.0)) (came_within h t why grip entries came k).1 refl;
     })
 
 -- the grip of a run is given

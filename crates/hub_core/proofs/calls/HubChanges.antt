@@ -26,7 +26,7 @@ use Rattle.hub_core.specs.HubCalls.{Answers}
 use Rattle.hub_core.specs.KeptByModel.{IsKeptByModel}
 use Rattle.hub_core.specs.HubSteps.{Chose, HubStep, SlipFits, Take, carried_after, task_of}
 use Rattle.hub_core.specs.HubsKept.{HasRoomLeft, HubIsKept, IsWhole, all_probes_taken, is_away, open_of}
-use Rattle.hub_core.specs.KeptOrders.{OrderIsBeside}
+use Rattle.hub_core.specs.OrderStates.{OrderIsBeside}
 use Rattle.hub_core.specs.OpenHubs.{OpenHub, configuration_of, events_in, held_in, hub_state_of}
 use Rattle.window_devices.specs.KnownDevices.{progress_at}
 use Rattle.lock_leasing.specs.declared.purposes.Purpose.TheVariants.{Commands, Probes, Undoes}
@@ -36,7 +36,7 @@ use Rattle.hub_core.specs.Steps.{Choice, Moves, Over, after_choice, after_take, 
 use Rattle.hub_core.specs.declared.decisions.Chosen.{Chosen}
 use Rattle.hub_core.specs.declared.open_windows.ClosingLists.{ClosingLists}
 use Rattle.hub_core.specs.declared.open_windows.OpenWindow.TheInside.{Inside}
-use Rattle.window_order.specs.declared.kept_orders.KeptOrder.{KeptOrder}
+use Rattle.window_order.specs.declared.order_states.OrderState.{OrderState}
 use Rattle.lock_leasing.specs.Configurations.{Configuration, read_of}
 use Rattle.std.proofs.Common.{ap, append_assoc, ap₂, arith, length-append, refl, subst, sym, ◌∙◌}
 use Rattle.std.proofs.lemmas.List.{length-map}
@@ -141,10 +141,10 @@ abbrev pub reached_at : {D : Type 0} → Inside D → ℕ → Inside D
 reached_at h m = record h { moment = max h.moment m }
 
 pub reached_whole : {D : Type 0} {shows : D → Shown} (h : Inside D) (m : ℕ) → IsWhole shows h → IsWhole shows (reached_at h m)
-reached_whole h m k = record { shown = reached _ (open_of h) m k.shown; room = k.room; order = k.order; hands = k.hands }
+reached_whole h m k = record { shown = reached _ (open_of h) m k.shown; room = k.room; order = k.order; held_tokens = k.held_tokens }
 
 -- it has these entries more then, and this line and table
-abbrev pub entered : {D : Type 0} → Inside D → ℕ → ℕ → List Entry → KeptOrder → Inside D
+abbrev pub entered : {D : Type 0} → Inside D → ℕ → ℕ → List Entry → OrderState → Inside D
 entered h r m es order = record h { history = with_more h.history r es; moment = max h.moment m; order = order }
 
 -- what the step of the run does is told of the parts, also where it is told of what the hub shows
@@ -203,7 +203,7 @@ entered_whole {D = D} {shows = shows} h t r m es c enters order k =
       shown = made;
       room = room_with h.rounds h.history r es h.closing (has_places h r m es c enters.chosen k) k.room;
       order = order made.configuration.history.well_formed;
-      hands = k.hands;
+      held_tokens = k.held_tokens;
     })
   where
     made : HubIsKept shows (open_of (entered h r m es t.order))

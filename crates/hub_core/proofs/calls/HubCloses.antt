@@ -104,12 +104,12 @@ still_low opened count then rise low is few = omega arith
 
 -- the lineage table leaves each device as the last state has it, and under the weak model what is known of each
 pub hub_leaves : {D : Type 0} {shows : D → Shown} (h : Inside D) (last : List Stand) → IsWhole shows h → not_quiet (configuration_of (open_of h)) ≡ None → (is_weak h.history.setting.mode ≡ false → last ≡ map stand_left h.order.table)
-    → (is_weak h.history.setting.mode ≡ true → last ≡ all_known_left h.away.known.items h.order.table (length h.order.table)) → IsLastState (configuration_of (open_of h)) last
+    → (is_weak h.history.setting.mode ≡ true → last ≡ all_known_left h.checkouts.known.items h.order.table (length h.order.table)) → IsLastState (configuration_of (open_of h)) last
 hub_leaves h last k quiet are known = either_model (IsLastState (configuration_of (open_of h)) last) h.history.setting
     (λ weak. record {
-      size = ap length (known weak) ∙ left_size h.away.known.items h.order.table (length h.order.table) ∙ k.order.table_is.devices;
+      size = ap length (known weak) ∙ left_size h.checkouts.known.items h.order.table (length h.order.table) ∙ k.order.table_is.devices;
       each = λ d below.
-          ap (λ l. stand_at l d) (known weak) ∙ left_at h.away.known.items h.order.table (length h.order.table) d (omega (arith, below, k.order.table_is.devices))
+          ap (λ l. stand_at l d) (known weak) ∙ left_at h.checkouts.known.items h.order.table (length h.order.table) d (omega (arith, below, k.order.table_is.devices))
           ∙ (λ i. record {
             value =
                 ((k.shown.configuration.weakly weak).held_is d below

@@ -21,10 +21,10 @@ use Rattle.hub_core.specs.Homes.{CountsAreLow, HomeIsKept, HomeState, setting_fo
 use Rattle.hub_core.specs.HubCalls.{IsOpened}
 use Rattle.hub_core.specs.HubsKept.{FitsAtHome, HasRoomLeft, HubIsKept}
 use Rattle.hub_core.specs.KeptByModel.{IsKeptByModel}
-use Rattle.hub_core.specs.KeptOrders.{OrderIsBeside}
 use Rattle.hub_core.specs.OpenHubs.{OpenHub, configuration_of, held_in}
 use Rattle.hub_core.specs.OpeningRooms.{IsClosingRoom, IsOrderRoom, IsScratchFor}
 use Rattle.hub_core.specs.Openings.{MayOpen}
+use Rattle.hub_core.specs.OrderStates.{OrderIsBeside}
 use Rattle.hub_core.specs.PlannedPlaces.{IsForHome}
 use Rattle.hub_core.specs.Steps.{opened}
 use Rattle.hub_core.specs.declared.open_windows.ClosingLists.{ClosingLists}
@@ -36,8 +36,8 @@ use Rattle.std.proofs.lemmas.Bool.{le-ltb, lt-ltb}
 use Rattle.std.proofs.lemmas.List.{length-map}
 use Rattle.std.specs.Prelude.{Bool, IsTrue, List, None, Option, Some, [], false, if◌then◌else◌, length, nat_lt, replicate, slice_get, true, ℕ, ◌≡◌, ◌≤◌}
 use Rattle.timeline_scheduler.specs.Scratches.{ScratchRoom}
-use Rattle.window_devices.proofs.Cited.{There, known_as, known_there, no_hands, none_out, past_end, there, unknown}
-use Rattle.window_devices.specs.Away.{HandsAre}
+use Rattle.window_devices.proofs.Cited.{There, known_as, known_there, no_held_tokens, none_out, past_end, there, unknown}
+use Rattle.window_devices.specs.Checkouts.{HeldTokensAre}
 use Rattle.window_devices.specs.KnownDevices.{AreKnown, no_events, progress_at}
 use Rattle.window_devices.specs.declared.known.DeviceProgress.{DeviceProgress}
 
@@ -236,8 +236,8 @@ first_scratch {D = D} home roster mode rounds kinds world devices opened' settin
     })
 
 -- no run holds a grip
-pub first_hands : {D : Type 0} (shows : D → Shown) (home : HomeState D) (roster : Roster) (mode : Mode) (rounds : ℕ) (known : List DeviceProgress) (hands : List (Option DeviceNo))
-    → Opens shows home roster mode rounds known → hands ≡ replicate (length roster.runs.items) None → HandsAre (setting_for home roster mode) (configuration_of (first_hub home roster mode rounds known)).grips hands
-first_hands shows home roster mode rounds known hands opens none =
-    subst (λ (x : List (Option DeviceNo)). HandsAre (setting_for home roster mode) (configuration_of (first_hub home roster mode rounds known)).grips x) (sym (none ∙ ap (λ n. replicate n None) (sym (length-map roster.runs.items plain_run))))
-    (no_hands (setting_for home roster mode) _ (λ d. ap (λ (c : Configuration). c.grips d) (first_configuration shows home roster mode rounds known opens)))
+pub first_hands : {D : Type 0} (shows : D → Shown) (home : HomeState D) (roster : Roster) (mode : Mode) (rounds : ℕ) (known : List DeviceProgress) (held_tokens : List (Option DeviceNo))
+    → Opens shows home roster mode rounds known → held_tokens ≡ replicate (length roster.runs.items) None → HeldTokensAre (setting_for home roster mode) (configuration_of (first_hub home roster mode rounds known)).grips held_tokens
+first_hands shows home roster mode rounds known held_tokens opens none =
+    subst (λ (x : List (Option DeviceNo)). HeldTokensAre (setting_for home roster mode) (configuration_of (first_hub home roster mode rounds known)).grips x) (sym (none ∙ ap (λ n. replicate n None) (sym (length-map roster.runs.items plain_run))))
+    (no_held_tokens (setting_for home roster mode) _ (λ d. ap (λ (c : Configuration). c.grips d) (first_configuration shows home roster mode rounds known opens)))

@@ -53,8 +53,8 @@ use Rattle.hub_core.specs.Bounds.{most_items}
 use Rattle.hub_core.specs.HubKept.{ConfigurationIsKept}
 use Rattle.hub_core.specs.HubsKept.{IsWhole, open_of}
 use Rattle.hub_core.specs.KeptByModel.{IsKeptByModel}
-use Rattle.hub_core.specs.KeptOrders.{OrderIsBeside}
-use Rattle.window_order.specs.KeptOrders.{IsSealed, MayArrange, MayNote, arranged, is_first, noted_first, scheduled_with}
+use Rattle.hub_core.specs.OrderStates.{OrderIsBeside}
+use Rattle.window_order.specs.OrderStates.{IsSealed, MayArrange, MayNote, arranged, is_first, noted_first, scheduled_with}
 use Rattle.lock_leasing.specs.declared.purposes.Purpose.TheVariants.{Commands, Probes, Undoes}
 use Rattle.lock_leasing.specs.declared.purposes.Purpose.{Purpose}
 use Rattle.hub_core.specs.OpenHubs.{OpenHub, configuration_of, held_in}
@@ -63,7 +63,7 @@ use Rattle.hub_core.specs.PlannedPlaces.{HoldsPlan, IsForHome}
 use Rattle.timeline_scheduler.specs.PlannedUses.{AreUsesOf}
 use Rattle.hub_core.specs.Steps.{HandsOut, Moves, choice_of}
 use Rattle.hub_core.specs.WeakSteps.{weak_rest}
-use Rattle.window_order.specs.declared.kept_orders.KeptOrder.{KeptOrder}
+use Rattle.window_order.specs.declared.order_states.OrderState.{OrderState}
 use Rattle.hub_core.specs.declared.open_windows.OpenWindow.TheInside.{Inside}
 use Rattle.history_book.specs.declared.planned_uses.PlannedUse.{PlannedUse}
 use Rattle.lineage_table.specs.Accesses.{IsDisciplined, effective_writer}
@@ -87,7 +87,7 @@ use Rattle.window_order.specs.TableChanges.{ChangesEach, IsNewOn, doomed_lineage
 use Rattle.window_order.specs.TableKept.{TableIsKept}
 use Rattle.history_book.specs.Packed.{entries_made}
 use Rattle.window_devices.proofs.Cited.{hand_goes, none_found, none_there, run_hand}
-use Rattle.window_devices.specs.Away.{HandsAre}
+use Rattle.window_devices.specs.Checkouts.{HeldTokensAre}
 use Rattle.window_devices.specs.KnownDevices.{progress_at}
 use Rattle.window_devices.specs.declared.known.DeviceProgress.{DeviceProgress}
 
@@ -177,7 +177,7 @@ bare_whole h k weak d = by_place (nat_lt d (length h.history.setting.first)) ref
 
 pub arrives_whole : {D : Type 0} {shows : D → Shown} (h t : Inside D) (r m : ℕ) → IsEntered h t r m (Arrived (run_no r) (max h.moment m) ∷ []) Going → t.order ≡ h.order → IsWhole shows h → IsWhole shows t
 arrives_whole h t r m enters same k = entered_whole h t r m _ Going enters (λ formed.
-    subst (λ (o : KeptOrder). OrderIsBeside h.rounds (with_entry h.history r (Arrived (run_no r) (max h.moment m))) (configuration_of (open_of h)).grips o.line o.table) (sym same) (order_arrived h.history _ _ r (max h.moment m) _ _ refl k.order)) k
+    subst (λ (o : OrderState). OrderIsBeside h.rounds (with_entry h.history r (Arrived (run_no r) (max h.moment m))) (configuration_of (open_of h)).grips o.line o.table) (sym same) (order_arrived h.history _ _ r (max h.moment m) _ _ refl k.order)) k
 
 -- A run is placed
 
@@ -486,7 +486,7 @@ may_tell_down h r m k must is whole = record {
     below = below_home w (command_at w.runs r k).device.0 down.device
 
 -- what the code wrote of it: the answer, which line and table note, and the doom of the run where it is a must
-pub record IsToldSo {D : Type 0} (h t : Inside D) (r k : ℕ) (must : Bool) (c : Command) (cause : Option Cause) (mid : HistoryState) (last : Bool) (between : KeptOrder) : Type 0 where
+pub record IsToldSo {D : Type 0} (h t : Inside D) (r k : ℕ) (must : Bool) (c : Command) (cause : Option Cause) (mid : HistoryState) (last : Bool) (between : OrderState) : Type 0 where
   pub command : c ≡ command_at h.history.setting.runs r k
   pub because : cause ≡ (if must then Some (MustDown k) else None)
   pub answered : mid ≡ with_entry h.history r (Did (run_no r) k Down)
@@ -538,7 +538,7 @@ down_made r k cause e o entry_is made = ap₂ (λ x y. entries_made (record { a 
     by_cause None = refl
     by_cause (Some c) = refl
 
-pub told_enters : {D : Type 0} (h t : Inside D) (r m k : ℕ) (must : Bool) (c : Command) (cause : Option Cause) (mid : HistoryState) (last : Bool) (between : KeptOrder)
+pub told_enters : {D : Type 0} (h t : Inside D) (r m k : ℕ) (must : Bool) (c : Command) (cause : Option Cause) (mid : HistoryState) (last : Bool) (between : OrderState)
     → choice_of (configuration_of (open_of h)) r m ≡ Moves (Did (run_no r) k Down ∷ (if must then Doomed (run_no r) (MustDown k) ∷ [] else [])) → t ≡ record h { history = t.history; moment = max h.moment m; order = t.order } → IsToldSo h t r k must c cause mid last between
     → IsEntered h t r m (answer_entries r k Down cause) Going
 told_enters h t r m k must c cause mid last between is new told = record {
@@ -546,7 +546,7 @@ told_enters h t r m k must c cause mid last between is new told = record {
   new = new ∙ λ i. record h { history = (told.doomed ∙ ap (λ x. with_doom x r cause) told.answered ∙ answered_more h.history r k Down cause) i; moment = max h.moment m; order = t.order };
 }
 
-pub told_whole : {D : Type 0} {shows : D → Shown} (h t : Inside D) (r m k : ℕ) (must : Bool) (c : Command) (cause : Option Cause) (mid : HistoryState) (last : Bool) (between : KeptOrder)
+pub told_whole : {D : Type 0} {shows : D → Shown} (h t : Inside D) (r m k : ℕ) (must : Bool) (c : Command) (cause : Option Cause) (mid : HistoryState) (last : Bool) (between : OrderState)
     → choice_of (configuration_of (open_of h)) r m ≡ Moves (Did (run_no r) k Down ∷ (if must then Doomed (run_no r) (MustDown k) ∷ [] else [])) → t ≡ record h { history = t.history; moment = max h.moment m; order = t.order } → IsToldSo h t r k must c cause mid last between
     → IsWhole shows h → IsWhole shows t
 told_whole {D = D} h t r m k must c cause mid last between is new told whole = entered_whole h t r m es Going enters (λ formed.
@@ -672,21 +672,21 @@ order_went {D = D} h t r m d purpose known task grip handed touched k =
     out = handed_out s h.rounds h.opened (held_in (open_of h)) r m d purpose k.shown.configuration handed.chosen
 
     gone : ◌≡◌ {A = Grips} (configuration_of (open_of t)).grips (put g d (Some (record { maker = r; purpose = purpose })))
-    gone = gone_grips h t r d purpose (progress_at h.away.known.items d).probes_left task grip (handed_gone h t r m d purpose known task grip handed k) k
+    gone = gone_grips h t r d purpose (progress_at h.checkouts.known.items d).probes_left task grip (handed_gone h t r m d purpose known task grip handed k) k
 
 -- its run's hand is one of those that are known
 hands_went : {D : Type 0} {shows : D → Shown} (h t : Inside D) (r m d : ℕ) (purpose : Purpose) (known : DeviceProgress) (task : Task) (grip : Gripped D Ready) → IsHanded shows h t r m d purpose known task grip
-    → IsWhole shows h → HandsAre h.history.setting (configuration_of (open_of t)).grips t.away.hands.items
+    → IsWhole shows h → HeldTokensAre h.history.setting (configuration_of (open_of t)).grips t.checkouts.held_tokens.items
 hands_went h t r m d purpose known task grip handed k =
     let out = handed_out (configuration_of (open_of h)) h.rounds h.opened (held_in (open_of h)) r m d purpose k.shown.configuration handed.chosen in
     hand_goes h.history.setting (configuration_of (open_of h)).grips (configuration_of (open_of t)).grips r (device_no d)
-    purpose h.away.hands.items t.away.hands.items out.run (below_home h.history.setting d out.device) out.free (none_there _ out.home)
-    (gone_grips h t r d purpose (progress_at h.away.known.items d).probes_left task grip (handed_gone h t r m d purpose known task grip handed k) k)
-    (handed.sent.hands ∙ run_hand h.history.setting.runs h.away.hands.items r (Some (device_no d)) out.run) k.hands
+    purpose h.checkouts.held_tokens.items t.checkouts.held_tokens.items out.run (below_home h.history.setting d out.device) out.free (none_there _ out.home)
+    (gone_grips h t r d purpose (progress_at h.checkouts.known.items d).probes_left task grip (handed_gone h t r m d purpose known task grip handed k) k)
+    (handed.sent.held_tokens ∙ run_hand h.history.setting.runs h.checkouts.held_tokens.items r (Some (device_no d)) out.run) k.held_tokens
 
 -- the device is handed out, and touched by its run
 pub handed_whole : {D : Type 0} {shows : D → Shown} (h t : Inside D) (r m d : ℕ) (purpose : Purpose) (known : DeviceProgress) (task : Task) (grip : Gripped D Ready) → IsHanded shows h t r m d purpose known task grip → IsTouched h t r d purpose
     → IsWhole shows h → IsWhole shows t
 handed_whole h t r m d purpose known task grip handed touched k =
-    gone_whole h t r d purpose (progress_at h.away.known.items d).probes_left task grip (handed_gone h t r m d purpose known task grip handed k) (handed_kept h t r m d purpose known task grip handed k)
+    gone_whole h t r d purpose (progress_at h.checkouts.known.items d).probes_left task grip (handed_gone h t r m d purpose known task grip handed k) (handed_kept h t r m d purpose known task grip handed k)
     (order_went h t r m d purpose known task grip handed touched k) (hands_went h t r m d purpose known task grip handed k) k

@@ -21,7 +21,7 @@ use Rattle.hub_core.proofs.calls.HubChanges.{step_is}
 use Rattle.window_devices.proofs.Cited.{put_at, run_above}
 use Rattle.hub_core.proofs.kept.KeptByModel.{taken_kept}
 use Rattle.hub_core.proofs.steps.Choices.{Commanding, Known, known_by}
-use Rattle.window_devices.specs.Away.{IsSent, MaySend}
+use Rattle.window_devices.specs.Checkouts.{IsSent, MaySend}
 use Rattle.hub_core.specs.HubCalls.{DeviceGoesOut, SameWindow}
 use Rattle.hub_core.specs.HubSteps.{Chose, HubStep, Take, carried_after, task_of}
 use Rattle.hub_core.specs.HubsKept.{HubIsKept, IsWhole, open_of}
@@ -158,8 +158,8 @@ stands_home shows s r m d purpose device k chosen at = (k.home d device at).stan
 
 -- it may go out to its run
 pub may_send : {D : Type 0} {shows : D → Shown} (h : Inside D) (r m d : ℕ) (purpose : Purpose) (known : DeviceProgress) (task : Task)
-    → choice_of (configuration_of (open_of h)) r m ≡ HandsOut d purpose → known ≡ progress_at h.away.known.items d → IsWhole shows h
-    → MaySend shows h.away d r known.held task
+    → choice_of (configuration_of (open_of h)) r m ≡ HandsOut d purpose → known ≡ progress_at h.checkouts.known.items d → IsWhole shows h
+    → MaySend shows h.checkouts d r known.held task
 may_send {shows = shows} h r m d purpose known task chosen known_is k =
     let home = out_home shows (open_of h) r m d purpose k.shown chosen in
     let out = handed_out (configuration_of (open_of h)) h.rounds h.opened (held_in (open_of h)) r m d purpose k.shown.configuration chosen in
@@ -170,7 +170,7 @@ may_send {shows = shows} h r m d purpose known task chosen known_is k =
       stood = λ device at up. stands_home shows (open_of h) r m d purpose device k.shown chosen at ∙ ap (λ (p : DeviceProgress). p.held) (sym known_is);
       tickets = few_tickets shows (open_of h) k.shown;
       known = omega (arith, home.0, k.shown.devices_size);
-      maker_is = omega (arith, place.0, place.1, k.hands.size);
+      maker_is = omega (arith, place.0, place.1, k.held_tokens.size);
     }
 
 -- The device goes out
@@ -197,20 +197,20 @@ went_state s r d m purpose slip task maker does within known =
 pub record IsHanded {D : Type 0} (shows : D → Shown) (h t : Inside D) (r m d : ℕ) (purpose : Purpose) (known : DeviceProgress) (task : Task) (grip : Gripped D Ready) : Type 0 where
   pub chosen : choice_of (configuration_of (open_of h)) r m ≡ HandsOut d purpose
   pub does : task ≡ task_of (configuration_of (open_of h)) r purpose
-  pub known_is : known ≡ progress_at h.away.known.items d
-  pub sent : IsSent shows h.away (device_no d) r (record known { purpose = purpose }) task grip t.away
+  pub known_is : known ≡ progress_at h.checkouts.known.items d
+  pub sent : IsSent shows h.checkouts (device_no d) r (record known { purpose = purpose }) task grip t.checkouts
   pub moment_is : t.moment ≡ max h.moment m
-  pub new : t ≡ record h { moment = t.moment; away = t.away; order = t.order }
+  pub new : t ≡ record h { moment = t.moment; checkouts = t.checkouts; order = t.order }
 
 -- so it is gone
 pub handed_gone : {D : Type 0} {shows : D → Shown} (h t : Inside D) (r m d : ℕ) (purpose : Purpose) (known : DeviceProgress) (task : Task) (grip : Gripped D Ready) → IsHanded shows h t r m d purpose known task grip → IsWhole shows h
-    → IsGone shows h t r d purpose (progress_at h.away.known.items d).probes_left task grip
+    → IsGone shows h t r d purpose (progress_at h.checkouts.known.items d).probes_left task grip
 handed_gone {shows = shows} h t r m d purpose known task grip handed k =
     let out = handed_out (configuration_of (open_of h)) h.rounds h.opened (held_in (open_of h)) r m d purpose k.shown.configuration handed.chosen in
     let none_probed : probed task ≡ 0 = ap probed handed.does ∙ not_probing (configuration_of (open_of h)) r d purpose out.for in
     let of_run : one_for (nat_lt 0 r) ≡ 1 = ap one_for (run_above h.history.setting.runs r out.run) in
     record {
-      sent = subst (λ (p : DeviceProgress). IsSent shows h.away (device_no d) r (record p { purpose = purpose }) task grip t.away) handed.known_is handed.sent;
+      sent = subst (λ (p : DeviceProgress). IsSent shows h.checkouts (device_no d) r (record p { purpose = purpose }) task grip t.checkouts) handed.known_is handed.sent;
       does = handed.does;
       probed_so = omega (arith, none_probed);
       ticket = omega (arith, of_run, none_probed);
@@ -219,17 +219,17 @@ handed_gone {shows = shows} h t r m d purpose known task grip handed k =
 
 -- the hub shows it
 handed_shows : {D : Type 0} {shows : D → Shown} (h t : Inside D) (r m d : ℕ) (purpose : Purpose) (known : DeviceProgress) (task : Task) (grip : Gripped D Ready) → IsHanded shows h t r m d purpose known task grip → IsWhole shows h
-    → open_of t ≡ gone (open_of h) d purpose (progress_at h.away.known.items d).probes_left grip.slip task (max h.moment m)
+    → open_of t ≡ gone (open_of h) d purpose (progress_at h.checkouts.known.items d).probes_left grip.slip task (max h.moment m)
 handed_shows h t r m d purpose known task grip handed k =
-    gone_shows h t r d purpose (progress_at h.away.known.items d).probes_left task grip (handed_gone h t r m d purpose known task grip handed k)
-    ∙ ap (λ x. gone (open_of h) d purpose (progress_at h.away.known.items d).probes_left grip.slip task x) handed.moment_is
+    gone_shows h t r d purpose (progress_at h.checkouts.known.items d).probes_left task grip (handed_gone h t r m d purpose known task grip handed k)
+    ∙ ap (λ x. gone (open_of h) d purpose (progress_at h.checkouts.known.items d).probes_left grip.slip task x) handed.moment_is
 
 -- what is kept of its configuration
 pub handed_kept : {D : Type 0} {shows : D → Shown} (h t : Inside D) (r m d : ℕ) (purpose : Purpose) (known : DeviceProgress) (task : Task) (grip : Gripped D Ready) → IsHanded shows h t r m d purpose known task grip → IsWhole shows h
     → IsKeptByModel (configuration_of (open_of t)) h.rounds h.opened (held_in (open_of h))
 handed_kept {D = D} h t r m d purpose known task grip handed k =
     let s = open_of h in
-    let within = gone_within h t r d purpose (progress_at h.away.known.items d).probes_left task grip (handed_gone h t r m d purpose known task grip handed k) k in
+    let within = gone_within h t r d purpose (progress_at h.checkouts.known.items d).probes_left task grip (handed_gone h t r m d purpose known task grip handed k) k in
     subst (λ (c : Configuration). IsKeptByModel c s.rounds s.opened (held_in s)) (sym (ap (λ (x : OpenHub D). configuration_of x) (handed_shows h t r m d purpose known task grip handed k) ∙ went_configuration s r d m purpose grip.slip task handed.sent.maker_is within.0 within.1))
     (subst (λ c. IsKeptByModel (after_choice (at_moment (configuration_of s) m) r c) s.rounds s.opened (held_in s)) handed.chosen (taken_kept (configuration_of s) s.rounds s.opened (held_in s) r m k.shown.configuration))
 
@@ -251,25 +251,25 @@ went_out {D = D} {shows = shows} h t s₀ r m d purpose known task grip seen han
         task = sent.does ∙ handed.does;
         home = subst (λ e. slice_get s.places e ≡ Some (Home grip.device)) (sym number) sent.at;
         places = sent.places ∙ ap₂ (λ e x. slice_set s.places e (Out grip.slip x)) (sym number) (sym sent.does);
-        next = gone_next h t r d purpose (progress_at h.away.known.items d).probes_left task grip is;
+        next = gone_next h t r d purpose (progress_at h.checkouts.known.items d).probes_left task grip is;
       };
-      window = gone_window h t r d purpose (progress_at h.away.known.items d).probes_left task grip is k;
+      window = gone_window h t r d purpose (progress_at h.checkouts.known.items d).probes_left task grip is k;
     })
   where
     s : OpenHub D
     s = open_of h
 
-    is : IsGone shows h t r d purpose (progress_at h.away.known.items d).probes_left task grip
+    is : IsGone shows h t r d purpose (progress_at h.checkouts.known.items d).probes_left task grip
     is = handed_gone h t r m d purpose known task grip handed k
 
-    sent : IsSent shows h.away (device_no d) r (record known { purpose = purpose }) task grip t.away
+    sent : IsSent shows h.checkouts (device_no d) r (record known { purpose = purpose }) task grip t.checkouts
     sent = handed.sent
 
     number : grip.slip.device.0 ≡ d
     number = ap (λ (x : DeviceNo). x.0) sent.device
 
-    within : (d < length h.away.gate.places) × (d < length h.away.known.items)
-    within = gone_within h t r d purpose (progress_at h.away.known.items d).probes_left task grip is k
+    within : (d < length h.checkouts.gate.places) × (d < length h.checkouts.known.items)
+    within = gone_within h t r d purpose (progress_at h.checkouts.known.items d).probes_left task grip is k
 
 -- .. also where the hub is seen otherwise
 pub command_given : {D : Type 0} (shows : D → Shown) (s s₀ : OpenHub D) (r m d k : ℕ) (purpose : Purpose) → HubIsKept shows s → s ≡ s₀ → choice_of (configuration_of s₀) r m ≡ HandsOut d purpose

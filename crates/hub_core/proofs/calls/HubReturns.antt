@@ -49,7 +49,7 @@ command_back {D = D} h s slip task k seen there for whole =
 
 -- no probe was out
 pub no_probe : {D : Type 0} {shows : D → Shown} (h : Inside D) (s : OpenHub D) (slip : Slip) (task : Task) (v : Option ℕ) → open_of h ≡ s
-    → IsKept s.places slip task → 0 < slip.maker → (progress_at h.away.known.items slip.device.0).purpose ≡ Probes v
+    → IsKept s.places slip task → 0 < slip.maker → (progress_at h.checkouts.known.items slip.device.0).purpose ≡ Probes v
     → IsWhole shows h → ⊥
 no_probe {D = D} h s slip task v seen there maker for k =
     let out = out_for _ (open_of h) slip task (Probes v) k.shown (ap (λ (x : OpenHub D). slice_get x.places slip.device.0) seen ∙ there) for in

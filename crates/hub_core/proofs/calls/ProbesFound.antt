@@ -34,14 +34,14 @@ use Rattle.hub_core.proofs.kept.OrderSteps.{read_more}
 use Rattle.hub_core.proofs.kept.ProbeSteps.{order_fell, order_lost, order_probe_home, order_rose}
 use Rattle.hub_core.proofs.kept.TableFits.{either_model}
 use Rattle.hub_core.proofs.steps.Calls.{back_entries, dead_entries}
-use Rattle.window_devices.specs.Away.{HandsAre, IsHomeAgain, with_hand}
+use Rattle.window_devices.specs.Checkouts.{HeldTokensAre, IsHomeAgain, with_hand}
 use Rattle.window_devices.specs.KnownDevices.{events_after, progress_at}
 use Rattle.hub_core.specs.HubsKept.{IsWhole, open_of}
-use Rattle.hub_core.specs.KeptOrders.{HasFallen, HasRisen, IsLostTo, MayTurn, OrderIsBeside, hand_of}
+use Rattle.hub_core.specs.OrderStates.{HasFallen, HasRisen, IsLostTo, MayTurn, OrderIsBeside, hand_of}
 use Rattle.hub_core.specs.OpenHubs.{OpenHub, configuration_of, held_in}
 use Rattle.hub_core.specs.Steps.{probe_entries}
-use Rattle.window_devices.specs.declared.away.Away.{Away}
-use Rattle.window_order.specs.declared.kept_orders.KeptOrder.{KeptOrder}
+use Rattle.window_devices.specs.declared.checkouts.Checkouts.{Checkouts}
+use Rattle.window_order.specs.declared.order_states.OrderState.{OrderState}
 use Rattle.window_devices.specs.declared.known.Events.{Events}
 use Rattle.hub_core.specs.declared.open_windows.OpenWindow.TheInside.{Inside}
 use Rattle.lock_leasing.specs.declared.purposes.Purpose.TheVariants.{Commands, Probes, Undoes}
@@ -83,10 +83,10 @@ probe_here : {D : Type 0} {shows : D → Shown} (h : Inside D) (s : OpenHub D) (
 probe_here {D = D} {shows = shows} h s grip sl known k =
     record { v = out.0; returned = returned; for = returned_for h (Probes out.0) grip returned k }
   where
-    there : IsKept h.away.gate.places grip.slip grip.task
+    there : IsKept h.checkouts.gate.places grip.slip grip.task
     there = ap (λ (x : OpenHub D). slice_get x.places grip.slip.device.0) known.seen ∙ known.there
 
-    out : (v : Option ℕ) × ((progress_at h.away.known.items grip.slip.device.0).purpose ≡ Probes v)
+    out : (v : Option ℕ) × ((progress_at h.checkouts.known.items grip.slip.device.0).purpose ≡ Probes v)
     out = probe_purpose _ (open_of h) grip.slip grip.task k.shown there known.maker
 
     returned : IsReturned shows h (Probes out.0) grip
@@ -99,8 +99,8 @@ probe_grip : {D : Type 0} {shows : D → Shown} {h : Inside D} {grip : Gripped D
 probe_grip here none = here.for.grip ∙ ap (λ m. Some (record { maker = m; purpose = Probes here.v })) none
 
 -- it was in no run's hand
-hands_same : {D : Type 0} (a b : Away D) (grip : Gripped D Done) → IsHomeAgain a grip b → grip.slip.maker ≡ 0 → b.hands.items ≡ a.hands.items
-hands_same a b grip home none = home.hands ∙ ap (λ m. with_hand a.hands.items m None) none
+hands_same : {D : Type 0} (a b : Checkouts D) (grip : Gripped D Done) → IsHomeAgain a grip b → grip.slip.maker ≡ 0 → b.held_tokens.items ≡ a.held_tokens.items
+hands_same a b grip home none = home.held_tokens ∙ ap (λ m. with_hand a.held_tokens.items m None) none
 
 -- how the device is counted, also where it is told of what the hub shows
 counted_here : {D : Type 0} (h : Inside D) (s : OpenHub D) (d : ℕ) (b : Bool) → open_of h ≡ s → (read_of (configuration_of s)).up d ≡ b → (read_in h.history).up d ≡ b
@@ -140,7 +140,7 @@ same_whole h t s grip sl known same parts history order k =
     let here = probe_here h s grip sl known k in
     came_whole h t (Probes here.v) grip [] (same_back h t s grip sl known same parts history here)
     (λ formed home. subst (λ (x : HistoryState). OrderIsBeside h.rounds x (configuration_of (open_of t)).grips t.order.line t.order.table) (sym history)
-    (subst (λ (x : KeptOrder). OrderIsBeside h.rounds h.history (configuration_of (open_of t)).grips x.line x.table) (sym order)
+    (subst (λ (x : OrderState). OrderIsBeside h.rounds h.history (configuration_of (open_of t)).grips x.line x.table) (sym order)
     (order_probe_home h.history.setting (read_in h.history) (configuration_of (open_of h)).grips (configuration_of (open_of t)).grips grip.slip.device.0 here.v h.order.line h.order.table (probe_grip here known.maker) home k.order))) k
 
 pub same_given : {D : Type 0} {shows : D → Shown} (h t : Inside D) (s : OpenHub D) (grip : Gripped D Done) (sl : Slip) (made : List Entry)
@@ -161,7 +161,7 @@ rose_gives w n d Died down lives = absurd (cc)
 pub record FoundBack {D : Type 0} (h : Inside D) (s : OpenHub D) (grip : Gripped D Done) (events : Events) : Type 0 where
   pub down : (read_of (configuration_of s)).up grip.slip.device.0 ≡ false
   pub lives : has_died grip.stage.told ≡ false
-  pub events_are : events ≡ events_after grip.task grip.stage.told (progress_at h.away.known.items grip.slip.device.0).events
+  pub events_are : events ≡ events_after grip.task grip.stage.told (progress_at h.checkouts.known.items grip.slip.device.0).events
 
 back_tells : {D : Type 0} {shows : D → Shown} (h : Inside D) (s : OpenHub D) (grip : Gripped D Done) (sl : Slip) (events : Events)
     → ProbeKnown shows h s grip sl → FoundBack h s grip events
@@ -362,19 +362,19 @@ out_commands w n g r out fit run sound held e = for_commands w n g r e fit run s
     by_out (Some x) is = alone x (sym is)
 
 -- .. of its hand
-pub hand_commands : (w : Setting) (n : Reading) (g : Grips) (r : ℕ) (hands : List (Option DeviceNo)) → GripsFit (point w n g) → HandsAre w g hands → is_run w.runs r ≡ true → is_doomed n r ≡ false → (e : ℕ) → grips_command g r e ≡ is_named_device (hand_of hands r) e
-hand_commands w n g r hands fit are run sound = out_commands w n g r (hand_of hands r) fit run sound (by_hand (slice_get hands (r - 1)) refl)
+pub hand_commands : (w : Setting) (n : Reading) (g : Grips) (r : ℕ) (held_tokens : List (Option DeviceNo)) → GripsFit (point w n g) → HeldTokensAre w g held_tokens → is_run w.runs r ≡ true → is_doomed n r ≡ false → (e : ℕ) → grips_command g r e ≡ is_named_device (hand_of held_tokens r) e
+hand_commands w n g r held_tokens fit are run sound = out_commands w n g r (hand_of held_tokens r) fit run sound (by_hand (slice_get held_tokens (r - 1)) refl)
   where
     place : (r ≡ suc (r - 1)) × (r - 1 < length w.runs)
     place = run_place w.runs r run
 
     -- what the hand says
-    holds : (hand : Option DeviceNo) → slice_get hands (r - 1) ≡ Some hand → option_map (λ d. d.0) hand ≡ grip_wait w g r
+    holds : (hand : Option DeviceNo) → slice_get held_tokens (r - 1) ≡ Some hand → option_map (λ d. d.0) hand ≡ grip_wait w g r
     holds hand at = are.each (r - 1) hand at ∙ ap (grip_wait w g) (sym place.0)
 
-    by_hand : (o : Option (Option DeviceNo)) → slice_get hands (r - 1) ≡ o → option_map (λ d. d.0) (hand_of hands r) ≡ grip_wait w g r
-    by_hand None at = absurd (let size = are.size in let past = gone_past hands (r - 1) at in omega (arith, size, past, place.1))
-    by_hand (Some hand) at = ap (option_map (λ d. d.0)) (hand_is hands (r - 1) hand at) ∙ holds hand at
+    by_hand : (o : Option (Option DeviceNo)) → slice_get held_tokens (r - 1) ≡ o → option_map (λ d. d.0) (hand_of held_tokens r) ≡ grip_wait w g r
+    by_hand None at = absurd (let size = are.size in let past = gone_past held_tokens (r - 1) at in omega (arith, size, past, place.1))
+    by_hand (Some hand) at = ap (option_map (λ d. d.0)) (hand_is held_tokens (r - 1) hand at) ∙ holds hand at
       where
         hand_is : (xs : List (Option DeviceNo)) (i : ℕ) (x : Option DeviceNo) → slice_get xs i ≡ Some x → slice_index_or xs i None ≡ x
         hand_is [] i x at' = absurd (cc)
@@ -392,7 +392,7 @@ fell_gives w n d Died up died = ap (λ b. if b then dead_entries d (lost_by w n 
 pub record FoundDead {D : Type 0} (h : Inside D) (s : OpenHub D) (grip : Gripped D Done) (events : Events) : Type 0 where
   pub up : (read_of (configuration_of s)).up grip.slip.device.0 ≡ true
   pub died : has_died grip.stage.told ≡ true
-  pub events_are : events ≡ events_after grip.task grip.stage.told (progress_at h.away.known.items grip.slip.device.0).events
+  pub events_are : events ≡ events_after grip.task grip.stage.told (progress_at h.checkouts.known.items grip.slip.device.0).events
 
 -- the run that is lost
 abbrev lost_here : {D : Type 0} → Inside D → Gripped D Done → Option ℕ
@@ -437,17 +437,17 @@ dead_follows h s grip sl events known found k =
     (tells_may h (Probes here.v) grip (Fell grip.slip.device) (doom_entries grip.slip.device (lost_here h grip)) (dead_tells h s grip sl events known found here) k)
 
 -- what the code finds of the lost run: it is one of the window, and its doom has a place and may be told
-pub record LostFits (fell : HistoryState) (d : DeviceNo) (hands : ℕ) (lost : Option RunNo) : Type 0 where
-  pub run : IfSome lost (λ r. IsTrue (is_run fell.setting.runs r.0) × (r.0 ≤ hands))
+pub record LostFits (fell : HistoryState) (d : DeviceNo) (held_tokens : ℕ) (lost : Option RunNo) : Type 0 where
+  pub run : IfSome lost (λ r. IsTrue (is_run fell.setting.runs r.0) × (r.0 ≤ held_tokens))
   pub room : IsSome lost → 0 < fell.spare
   pub follows : IfSome lost (λ r. IsTrue (may_follow fell.setting (read_in fell) (Doomed r (Lost d))))
 
-pub lost_fits : {D : Type 0} {shows : D → Shown} (h : Inside D) (away : Away D) (s : OpenHub D) (grip : Gripped D Done) (sl : Slip)
+pub lost_fits : {D : Type 0} {shows : D → Shown} (h : Inside D) (away : Checkouts D) (s : OpenHub D) (grip : Gripped D Done) (sl : Slip)
     (events : Events) (lost : Option RunNo) (fell : HistoryState) → ProbeKnown shows h s grip sl → FoundDead h s grip events
-    → lost ≡ lost_run h.history.history (accesses_at h.order.table sl.device.0) → fell ≡ with_entry h.history 0 (Fell sl.device) → IsHomeAgain h.away grip away → IsWhole shows h → LostFits fell sl.device (length away.hands.items) lost
+    → lost ≡ lost_run h.history.history (accesses_at h.order.table sl.device.0) → fell ≡ with_entry h.history 0 (Fell sl.device) → IsHomeAgain h.checkouts grip away → IsWhole shows h → LostFits fell sl.device (length away.held_tokens.items) lost
 lost_fits {D = D} {shows = shows} h away s grip sl events lost fell known dead found told home k =
-    subst (λ x. LostFits fell sl.device (length x) lost) (sym (hands_same h.away away grip home known.maker)) (record {
-      run = subst (λ (w : Setting). IfSome lost (λ r. IsTrue (is_run w.runs r.0) × (r.0 ≤ length h.away.hands.items))) (sym (ap (λ (x : HistoryState). x.setting) told)) (runs lost loses);
+    subst (λ x. LostFits fell sl.device (length x) lost) (sym (hands_same h.checkouts away grip home known.maker)) (record {
+      run = subst (λ (w : Setting). IfSome lost (λ r. IsTrue (is_run w.runs r.0) × (r.0 ≤ length h.checkouts.held_tokens.items))) (sym (ap (λ (x : HistoryState). x.setting) told)) (runs lost loses);
       room = λ some. places lost some loses;
       follows = may lost loses;
     })
@@ -467,12 +467,12 @@ lost_fits {D = D} {shows = shows} h away s grip sl events lost fell known dead f
     loses : option_map (λ (r : RunNo). r.0) lost ≡ lost_by w n d
     loses = ap (option_map (λ (r : RunNo). r.0)) (found ∙ ap (λ (z : Slip). lost_run h.history.history (accesses_at h.order.table z.device.0)) known.same) ∙ lost_is h d here.v (probe_grip here known.maker) here.for.below k
 
-    runs : (o : Option RunNo) → option_map (λ (r : RunNo). r.0) o ≡ lost_by w n d → IfSome o (λ r. IsTrue (is_run w.runs r.0) × (r.0 ≤ length h.away.hands.items))
+    runs : (o : Option RunNo) → option_map (λ (r : RunNo). r.0) o ≡ lost_by w n d → IfSome o (λ r. IsTrue (is_run w.runs r.0) × (r.0 ≤ length h.checkouts.held_tokens.items))
     runs None is = tt
     runs (Some r) is =
         let of = lost_runs w n d r.0 (read_whole h k) (sym is) in
         let place = run_place w.runs r.0 of.run in
-        (of.run, omega (arith, place.0, place.1, k.hands.size))
+        (of.run, omega (arith, place.0, place.1, k.held_tokens.size))
 
     places : (o : Option RunNo) → IsSome o → option_map (λ (r : RunNo). r.0) o ≡ lost_by w n d → 0 < fell.spare
     places None none is = absurd (cc none)
@@ -496,13 +496,13 @@ lost_fits {D = D} {shows = shows} h away s grip sl events lost fell known dead f
         subst (λ (x : HistoryState). IsTrue (may_follow x.setting (read_in x) (Doomed r (Lost sl.device)))) (sym told) (takes_first (with_entry h.history 0 (Fell sl.device)) 0 (Doomed r (Lost sl.device)) [] (takes_rest h.history 0 (Fell sl.device) (Doomed r (Lost sl.device) ∷ []) both))
 
 -- what the code wrote of it
-pub record IsFallen {D : Type 0} (h t : Inside D) (sl : Slip) (events : Events) (lost : Option RunNo) (fell : HistoryState) (fallen : KeptOrder) : Type 0 where
+pub record IsFallen {D : Type 0} (h t : Inside D) (sl : Slip) (events : Events) (lost : Option RunNo) (fell : HistoryState) (fallen : OrderState) : Type 0 where
   pub told : fell ≡ with_entry h.history 0 (Fell sl.device)
   pub falls : HasFallen h.history sl.device None events.fell h.order.line fallen.line h.order.table fallen.table
   pub found : lost ≡ lost_run h.history.history (accesses_at h.order.table sl.device.0)
   pub doomed : t.history ≡ with_lost fell sl.device lost
   pub line : t.order.line ≡ fallen.line
-  pub table : IsLostTo lost t.away.hands.items fallen.table t.order.table
+  pub table : IsLostTo lost t.checkouts.held_tokens.items fallen.table t.order.table
 
 -- its entries
 fallen_more : (h : HistoryState) (d : DeviceNo) (lost : Option RunNo) → with_lost (with_entry h 0 (Fell d)) d lost ≡ with_more h 0 (dead_entries d.0 (option_map (λ (r : RunNo). r.0) lost))
@@ -511,7 +511,7 @@ fallen_more h d (Some r) = more_after h 0 (Fell d) (Doomed r (Lost d) ∷ [])
 
 -- .. of the probe that came home
 fallen_back : {D : Type 0} {shows : D → Shown} (h t : Inside D) (s : OpenHub D) (grip : Gripped D Done) (sl : Slip) (events : Events)
-    (lost : Option RunNo) (fell : HistoryState) (fallen : KeptOrder) → ProbeKnown shows h s grip sl → FoundDead h s grip events
+    (lost : Option RunNo) (fell : HistoryState) (fallen : OrderState) → ProbeKnown shows h s grip sl → FoundDead h s grip events
     → IsHome h t grip → IsFallen h t sl events lost fell fallen
     → (here : ProbeHere shows h grip) → IsWhole shows h → CameHome shows h t (Probes here.v) grip (dead_entries grip.slip.device.0 (lost_here h grip))
 fallen_back h t s grip sl events lost fell fallen known found parts is here k =
@@ -526,11 +526,11 @@ fallen_back h t s grip sl events lost fell fallen known found parts is here k =
     }
 
 -- line and table, by the run that is lost
-order_fallen : {rounds : ℕ} (w : Setting) (h fell t : HistoryState) (g : Grips) (held : ℕ → ℕ) (d : DeviceNo) (v : Option ℕ) (number : ℕ) (lost : Option RunNo) (hands : List (Option DeviceNo)) (line mid after : Marked) (table between later : List LineageState)
+order_fallen : {rounds : ℕ} (w : Setting) (h fell t : HistoryState) (g : Grips) (held : ℕ → ℕ) (d : DeviceNo) (v : Option ℕ) (number : ℕ) (lost : Option RunNo) (held_tokens : List (Option DeviceNo)) (line mid after : Marked) (table between later : List LineageState)
     → h.setting ≡ w → d.0 < length table → fell ≡ with_entry h 0 (Fell d) → event_place h.history None (accesses_at table d.0) line.marks ≡ event_place_of h.setting (read_in h) d.0 → number ≡ (read_in h).fell d.0 + 1 → HasFallen h d None number line mid table between
-    → IsWellFormed h.setting (entries_of h.history) → may_follow h.setting (read_in h) (Fell d) ≡ true → GripsFit (point h.setting (read_in h) g) → HandsAre h.setting g hands → IfSome lost (λ r. IsLostRun h.setting (read_in h) r.0)
-    → t ≡ with_lost fell d lost → after ≡ mid → IsLostTo lost hands between later → OrderIsBeside rounds h g line table → OrderIsBeside rounds t g after later
-order_fallen {rounds = rounds} w h fell t g held d v number lost hands line mid after table between later same below told place number_is falls formed may fit are lost_one doomed kept changed beside = by_lost lost lost_one doomed changed
+    → IsWellFormed h.setting (entries_of h.history) → may_follow h.setting (read_in h) (Fell d) ≡ true → GripsFit (point h.setting (read_in h) g) → HeldTokensAre h.setting g held_tokens → IfSome lost (λ r. IsLostRun h.setting (read_in h) r.0)
+    → t ≡ with_lost fell d lost → after ≡ mid → IsLostTo lost held_tokens between later → OrderIsBeside rounds h g line table → OrderIsBeside rounds t g after later
+order_fallen {rounds = rounds} w h fell t g held d v number lost held_tokens line mid after table between later same below told place number_is falls formed may fit are lost_one doomed kept changed beside = by_lost lost lost_one doomed changed
   where
     next : Reading
     next = entry h.setting (read_in h) (Fell d)
@@ -550,27 +550,27 @@ order_fallen {rounds = rounds} w h fell t g held d v number lost hands line mid 
     fit_then : GripsFit (point fell.setting (read_in fell) g)
     fit_then = subst (λ x. GripsFit (point x (read_in fell) g)) (sym setting) (subst (λ x. GripsFit (point h.setting x g)) (sym reads) (fits_same h.setting (read_in h) next g (λ q e k. refl) (λ q e. refl) fit))
 
-    by_lost : (o : Option RunNo) → IfSome o (λ r. IsLostRun h.setting (read_in h) r.0) → t ≡ with_lost fell d o → IsLostTo o hands between later → OrderIsBeside rounds t g after later
+    by_lost : (o : Option RunNo) → IfSome o (λ r. IsLostRun h.setting (read_in h) r.0) → t ≡ with_lost fell d o → IsLostTo o held_tokens between later → OrderIsBeside rounds t g after later
     by_lost None one is change =
         subst (λ (x : HistoryState). OrderIsBeside rounds x g after later) (sym is) (subst (λ (x : Marked). OrderIsBeside rounds fell g x later) (sym kept) (subst (λ (x : List LineageState). OrderIsBeside rounds fell g mid x) (sym change) fallen))
     by_lost (Some r) one is change =
-        order_lost fell t g 0 r.0 (Lost d) (hand_of hands r.0) mid after between later (read_facts fell.setting (entries_of fell.history) formed_then) fit_then
-        (ap (λ x. is_doomed x r.0) reads ∙ one.sound) (hand_commands h.setting (read_in h) g r.0 hands fit are one.run one.sound) is kept change fallen
+        order_lost fell t g 0 r.0 (Lost d) (hand_of held_tokens r.0) mid after between later (read_facts fell.setting (entries_of fell.history) formed_then) fit_then
+        (ap (λ x. is_doomed x r.0) reads ∙ one.sound) (hand_commands h.setting (read_in h) g r.0 held_tokens fit are one.run one.sound) is kept change fallen
 
 pub fallen_whole : {D : Type 0} {shows : D → Shown} (h t : Inside D) (s : OpenHub D) (grip : Gripped D Done) (sl : Slip)
-    (events : Events) (lost : Option RunNo) (fell : HistoryState) (fallen : KeptOrder) → ProbeKnown shows h s grip sl
+    (events : Events) (lost : Option RunNo) (fell : HistoryState) (fallen : OrderState) → ProbeKnown shows h s grip sl
     → FoundDead h s grip events → IsHome h t grip → IsFallen h t sl events lost fell fallen
     → IsWhole shows h → IsWhole shows t
 fallen_whole {D = D} {shows = shows} h t s grip sl events lost fell fallen known found parts falls k =
     came_whole h t (Probes here.v) grip (dead_entries d.0 (lost_by w n d.0)) (fallen_back h t s grip sl events lost fell fallen known found parts falls here k)
     (λ formed home. order_probe_home t.history.setting (read_in t.history) (configuration_of (open_of h)).grips (configuration_of (open_of t)).grips d.0 here.v t.order.line t.order.table out home
     (order_fallen w h.history fell t.history (configuration_of (open_of h)).grips
-    (held_in (open_of h)) d here.v events.fell lost h.away.hands.items h.order.line fallen.line t.order.line h.order.table fallen.table t.order.table refl
+    (held_in (open_of h)) d here.v events.fell lost h.checkouts.held_tokens.items h.order.line fallen.line t.order.line h.order.table fallen.table t.order.table refl
     (table_place h d.0 here.for.below k) own.told (place_told h d here.for.below k)
     (fallen_number h (Probes here.v) grip sl events here.returned (dead_falls h s grip sl events known found here) k) own.falls k.shown.configuration.history.well_formed
     (tells_may h (Probes here.v) grip (Fell d) (doom_entries d (lost_here h grip)) (dead_tells h s grip sl events known found here) k)
-    k.shown.configuration.grips k.hands (one lost loses) own.doomed own.line
-    (subst (λ x. IsLostTo lost x fallen.table t.order.table) (hands_same h.away t.away grip parts.home known.maker) own.table) k.order)) k
+    k.shown.configuration.grips k.held_tokens (one lost loses) own.doomed own.line
+    (subst (λ x. IsLostTo lost x fallen.table t.order.table) (hands_same h.checkouts t.checkouts grip parts.home known.maker) own.table) k.order)) k
   where
     w : Setting
     w = h.history.setting
@@ -606,7 +606,7 @@ fallen_made d lost e o fell_is doom_is = (λ i. entries_made (record { a = Some 
     by_lost (Some r) = refl
 
 pub fallen_given : {D : Type 0} {shows : D → Shown} (h t : Inside D) (s : OpenHub D) (grip : Gripped D Done) (sl : Slip)
-    (events : Events) (lost : Option RunNo) (fell : HistoryState) (fallen : KeptOrder) (made : List Entry) → ProbeKnown shows h s grip sl
+    (events : Events) (lost : Option RunNo) (fell : HistoryState) (fallen : OrderState) (made : List Entry) → ProbeKnown shows h s grip sl
     → FoundDead h s grip events → IsHome h t grip → t.moment ≡ h.moment
     → IsFallen h t sl events lost fell fallen → made ≡ dead_entries sl.device.0 (option_map (λ (r : RunNo). r.0) lost) → IsWhole shows h → ProbeBack s (open_of t) grip made
 fallen_given h t s grip sl events lost fell fallen made known found parts moment falls made_is k =

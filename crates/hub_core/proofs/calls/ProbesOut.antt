@@ -12,7 +12,7 @@ use Rattle.history_book.specs.Settings.{is_device, is_weak}
 use Rattle.hub_core.proofs.calls.Departures.{IsGone, few_tickets, gone_carries, gone_configuration, gone_grips, gone_next, gone_shows, gone_whole, gone_window, gone_within, has_room, home_place}
 use Rattle.command_rules.specs.Rosters.{device_no}
 use Rattle.home_types.specs.declared.numbers.DeviceNo.{DeviceNo}
-use Rattle.window_devices.specs.Away.{HandsAre, IsSent, MaySend}
+use Rattle.window_devices.specs.Checkouts.{HeldTokensAre, IsSent, MaySend}
 use Rattle.window_devices.proofs.Cited.{probe_goes}
 use Rattle.hub_core.proofs.kept.ProbeSteps.{order_probe_out}
 use Rattle.hub_core.proofs.kept.KeptByModel.{probe_taken_kept}
@@ -22,13 +22,13 @@ use Rattle.hub_core.specs.HubCalls.{IsProbed, SameWindow}
 use Rattle.hub_core.specs.KeptByModel.{IsKeptByModel}
 use Rattle.hub_core.specs.HubSteps.{ProbeTaken, Probed, carrying, take_probe}
 use Rattle.hub_core.specs.HubsKept.{IsWhole, open_of}
-use Rattle.hub_core.specs.KeptOrders.{OrderIsBeside}
+use Rattle.hub_core.specs.OrderStates.{OrderIsBeside}
 use Rattle.hub_core.specs.OpenHubs.{OpenHub, configuration_of, held_in, hub_state_of}
 use Rattle.window_devices.specs.KnownDevices.{progress_at}
 use Rattle.history_book.specs.ReadHistories.{read_in}
 use Rattle.hub_core.specs.Steps.{after_take_probe, may_probe, probe_grip, restored}
 use Rattle.hub_core.specs.declared.open_windows.OpenWindow.TheInside.{Inside}
-use Rattle.window_order.specs.declared.kept_orders.KeptOrder.{KeptOrder}
+use Rattle.window_order.specs.declared.order_states.OrderState.{OrderState}
 use Rattle.window_devices.specs.declared.known.DeviceProgress.{DeviceProgress}
 use Rattle.lock_leasing.specs.declared.purposes.Purpose.TheVariants.{Probes}
 use Rattle.lineage_table.specs.Accesses.{IsDisciplined, value_standing}
@@ -98,8 +98,8 @@ counted_then s d value is up = by_up ((read_of s).up d) (subst (λ v. IsTrue (is
 
 -- it may go out to the detector
 pub may_send_probe : {D : Type 0} {shows : D → Shown} (h : Inside D) (s : OpenHub D) (d : ℕ) (value : Option ℕ) (known : DeviceProgress)
-    → open_of h ≡ s → may_probe (configuration_of s) d ≡ true → value ≡ restored (configuration_of s) d → known ≡ progress_at h.away.known.items d
-    → IsWhole shows h → MaySend shows h.away d 0 known.held (Probe value)
+    → open_of h ≡ s → may_probe (configuration_of s) d ≡ true → value ≡ restored (configuration_of s) d → known ≡ progress_at h.checkouts.known.items d
+    → IsWhole shows h → MaySend shows h.checkouts d 0 known.held (Probe value)
 may_send_probe {D = D} {shows = shows} h s d value known seen may value_is known_is k =
     let parts = may_parts (configuration_of (open_of h)) d (ap (λ (x : OpenHub D). may_probe (configuration_of x) d) seen ∙ may) in
     let below = below_home h.history.setting d parts.device in
@@ -118,20 +118,20 @@ may_send_probe {D = D} {shows = shows} h s d value known seen may value_is known
 pub record IsProbedOut {D : Type 0} (shows : D → Shown) (h t : Inside D) (d : ℕ) (value : Option ℕ) (known : DeviceProgress) (grip : Gripped D Ready) : Type 0 where
   pub may : may_probe (configuration_of (open_of h)) d ≡ true
   pub value_is : value ≡ restored (configuration_of (open_of h)) d
-  pub known_is : known ≡ progress_at h.away.known.items d
-  pub sent : IsSent shows h.away (device_no d) 0 (record known { purpose = Probes value; probes_left = known.probes_left - 1 }) (Probe value) grip t.away
+  pub known_is : known ≡ progress_at h.checkouts.known.items d
+  pub sent : IsSent shows h.checkouts (device_no d) 0 (record known { purpose = Probes value; probes_left = known.probes_left - 1 }) (Probe value) grip t.checkouts
   pub moment_is : t.moment ≡ h.moment
-  pub new : t ≡ record h { moment = t.moment; away = t.away; order = t.order }
+  pub new : t ≡ record h { moment = t.moment; checkouts = t.checkouts; order = t.order }
 
 -- so it is gone
 sent_gone : {D : Type 0} {shows : D → Shown} (h t : Inside D) (d : ℕ) (value : Option ℕ) (known : DeviceProgress) (grip : Gripped D Ready)
     → IsProbedOut shows h t d value known grip
-    → IsGone shows h t 0 d (Probes value) ((progress_at h.away.known.items d).probes_left - 1) (Probe value) grip
+    → IsGone shows h t 0 d (Probes value) ((progress_at h.checkouts.known.items d).probes_left - 1) (Probe value) grip
 sent_gone {shows = shows} h t d value known grip out =
     record {
-      sent = subst (λ (p : DeviceProgress). IsSent shows h.away (device_no d) 0 (record p { purpose = Probes value; probes_left = p.probes_left - 1 }) (Probe value) grip t.away) out.known_is out.sent;
+      sent = subst (λ (p : DeviceProgress). IsSent shows h.checkouts (device_no d) 0 (record p { purpose = Probes value; probes_left = p.probes_left - 1 }) (Probe value) grip t.checkouts) out.known_is out.sent;
       does = refl;
-      probed_so = one_less (progress_at h.away.known.items d).probes_left (may_parts (configuration_of (open_of h)) d out.may).left;
+      probed_so = one_less (progress_at h.checkouts.known.items d).probes_left (may_parts (configuration_of (open_of h)) d out.may).left;
       ticket = omega arith;
       new = out.new;
     }
@@ -145,7 +145,7 @@ sent_configuration : {D : Type 0} {shows : D → Shown} (h t : Inside D) (d : �
     → configuration_of (open_of t) ≡ after_take_probe (configuration_of (open_of h)) d
 sent_configuration {D = D} h t d value known grip out k =
     let is = sent_gone h t d value known grip out in
-    let left = (progress_at h.away.known.items d).probes_left - 1 in
+    let left = (progress_at h.checkouts.known.items d).probes_left - 1 in
     let within = gone_within h t 0 d (Probes value) left (Probe value) grip is k in
     ap (λ (x : OpenHub D). configuration_of x) (gone_shows h t 0 d (Probes value) left (Probe value) grip is)
     ∙ gone_configuration (open_of h) 0 d left t.moment (Probes value) grip.slip (Probe value) out.sent.maker_is within.0 within.1
@@ -156,18 +156,18 @@ sent_configuration {D = D} h t d value known grip out k =
 pub sent_whole : {D : Type 0} {shows : D → Shown} (h t : Inside D) (d : ℕ) (value : Option ℕ) (known : DeviceProgress) (grip : Gripped D Ready)
     → IsProbedOut shows h t d value known grip → t.order ≡ h.order → IsWhole shows h → IsWhole shows t
 sent_whole {D = D} h t d value known grip out order k =
-    gone_whole h t 0 d (Probes value) ((progress_at h.away.known.items d).probes_left - 1) (Probe value) grip (sent_gone h t d value known grip out)
+    gone_whole h t 0 d (Probes value) ((progress_at h.checkouts.known.items d).probes_left - 1) (Probe value) grip (sent_gone h t d value known grip out)
     (subst (λ (c : Configuration). IsKeptByModel c h.rounds h.opened (held_in (open_of h))) (sym (sent_configuration h t d value known grip out k)) (probe_taken_kept (configuration_of (open_of h)) h.rounds h.opened (held_in (open_of h)) d k.shown.configuration))
-    (subst (λ (x : KeptOrder). OrderIsBeside h.rounds h.history (configuration_of (open_of t)).grips x.line x.table) (sym order)
+    (subst (λ (x : OrderState). OrderIsBeside h.rounds h.history (configuration_of (open_of t)).grips x.line x.table) (sym order)
     (order_probe_out h.history.setting (read_in h.history) (configuration_of (open_of h)).grips
     (configuration_of (open_of t)).grips d value h.order.line h.order.table home grips k.order))
-    (subst (HandsAre h.history.setting (configuration_of (open_of t)).grips) (sym out.sent.hands) (probe_goes h.history.setting (configuration_of (open_of h)).grips (configuration_of (open_of t)).grips d (Probes value) h.away.hands.items home grips k.hands)) k
+    (subst (HeldTokensAre h.history.setting (configuration_of (open_of t)).grips) (sym out.sent.held_tokens) (probe_goes h.history.setting (configuration_of (open_of h)).grips (configuration_of (open_of t)).grips d (Probes value) h.checkouts.held_tokens.items home grips k.held_tokens)) k
   where
     home : (configuration_of (open_of h)).grips d ≡ None
     home = none_out (configuration_of (open_of h)).grips d (may_parts (configuration_of (open_of h)) d out.may).home
 
     grips : (configuration_of (open_of t)).grips ≡ put (configuration_of (open_of h)).grips d (Some (record { maker = 0; purpose = Probes value }))
-    grips = gone_grips h t 0 d (Probes value) ((progress_at h.away.known.items d).probes_left - 1) (Probe value) grip (sent_gone h t d value known grip out) k
+    grips = gone_grips h t 0 d (Probes value) ((progress_at h.checkouts.known.items d).probes_left - 1) (Probe value) grip (sent_gone h t d value known grip out) k
 
 -- and it is the step that it says
 pub record ProbeSent {D : Type 0} (s t : OpenHub D) (d : ℕ) (grip : Gripped D Ready) : Type 0 where
@@ -186,7 +186,7 @@ probe_sent {D = D} h t s₀ d value known grip seen out k =
           (λ may. record { device = ap (λ (x : DeviceNo). x.0) out.sent.device; maker = out.sent.maker_is }),
         ),
         out.sent.at,
-        out.sent.places ∙ ap (λ x. slice_set h.away.gate.places d (Out grip.slip x)) (sym out.sent.does),
+        out.sent.places ∙ ap (λ x. slice_set h.checkouts.gate.places d (Out grip.slip x)) (sym out.sent.does),
         gone_next h t 0 d (Probes value) left (Probe value) grip (sent_gone h t d value known grip out),
       );
       window = gone_window h t 0 d (Probes value) left (Probe value) grip (sent_gone h t d value known grip out) k;
@@ -196,7 +196,7 @@ probe_sent {D = D} h t s₀ d value known grip seen out k =
     s = open_of h
 
     left : ℕ
-    left = (progress_at h.away.known.items d).probes_left - 1
+    left = (progress_at h.checkouts.known.items d).probes_left - 1
 
     takes : take_probe (hub_state_of s) d grip.slip ≡ record { task = Some (Probe (restored (configuration_of s) d)); next = record { configuration = after_take_probe (configuration_of s) d; carried = carrying (hub_state_of s) 0 d (Probes (restored (configuration_of s) d)) grip.slip } }
     takes =

@@ -30,13 +30,13 @@ use Rattle.hub_core.proofs.calls.OutFor.{IsForCommand, for_command}
 use Rattle.hub_core.proofs.kept.OrderSteps.{done_after, last_follows, may_note, none_out, order_answered, order_answered_weakly, order_doomed_if, order_undone, read_more}
 use Rattle.hub_core.proofs.steps.Gives.{told_access}
 use Rattle.hub_core.specs.HubsKept.{IsWhole, open_of}
-use Rattle.hub_core.specs.KeptOrders.{OrderIsBeside}
-use Rattle.window_order.specs.KeptOrders.{MayNote, is_first, noted_first}
+use Rattle.hub_core.specs.OrderStates.{OrderIsBeside}
+use Rattle.window_order.specs.OrderStates.{MayNote, is_first, noted_first}
 use Rattle.hub_core.specs.OpenHubs.{configuration_of, held_in}
 use Rattle.window_devices.specs.KnownDevices.{progress_at}
 use Rattle.history_book.specs.ReadHistories.{HistoryState, read_in, with_doom, with_entry}
 use Rattle.hub_core.specs.declared.open_windows.OpenWindow.TheInside.{Inside}
-use Rattle.window_order.specs.declared.kept_orders.KeptOrder.{KeptOrder}
+use Rattle.window_order.specs.declared.order_states.OrderState.{OrderState}
 use Rattle.lock_leasing.specs.declared.purposes.Purpose.TheVariants.{Commands, Undoes}
 use Rattle.lineage_table.specs.Lineages.{LineageState, lineage_at, with_lineage}
 use Rattle.lock_leasing.specs.Configurations.{Grips, grips_command, point}
@@ -130,8 +130,8 @@ order_told {rounds = rounds} h h₁ h₂ g f d r k a cause mid after between lat
     none e = ap (λ x. grips_command x r e) home ∙ none_out (point h.setting (read_in h) g) d r (Commands k) run at fits e
 
 -- what line and table note of a command that came back: what it tells of its device, and then the doom of its run where there is a cause
-pub record IsNoted {D : Type 0} (h t : Inside D) (grip : Gripped D Done) (value : ℕ) (slip : Slip) (a : Answer) (cause : Option Cause) (mid : HistoryState) (view : View) (wrote : Option ℕ) (last : Bool) (between : KeptOrder) : Type 0 where
-  pub value_is : value ≡ held_after grip.stage.told grip.task (progress_at h.away.known.items grip.slip.device.0).held
+pub record IsNoted {D : Type 0} (h t : Inside D) (grip : Gripped D Done) (value : ℕ) (slip : Slip) (a : Answer) (cause : Option Cause) (mid : HistoryState) (view : View) (wrote : Option ℕ) (last : Bool) (between : OrderState) : Type 0 where
+  pub value_is : value ≡ held_after grip.stage.told grip.task (progress_at h.checkouts.known.items grip.slip.device.0).held
   pub view_is : view ≡ view_when (is_told a)
   pub wrote_is : wrote ≡ (if is_fine a then Some value else None)
   pub last_is : last ≡ (is_doomed (read_in mid) slip.maker || not (pends mid.setting (read_in mid) slip.maker slip.device.0))
@@ -143,7 +143,7 @@ pub record IsNoted {D : Type 0} (h t : Inside D) (grip : Gripped D Done) (value 
   pub changed : IsSome cause → ChangesEach (λ d. doomed_lineage slip.maker) between.table t.order.table
 
 -- .. when its device is home again
-order_came : {D : Type 0} {shows : D → Shown} (h t : Inside D) (value k : ℕ) (grip : Gripped D Done) (slip : Slip) (a : Answer) (cause : Option Cause) (mid : HistoryState) (view : View) (wrote : Option ℕ) (last : Bool) (between : KeptOrder)
+order_came : {D : Type 0} {shows : D → Shown} (h t : Inside D) (value k : ℕ) (grip : Gripped D Done) (slip : Slip) (a : Answer) (cause : Option Cause) (mid : HistoryState) (view : View) (wrote : Option ℕ) (last : Bool) (between : OrderState)
     → IsReturned shows h (Commands k) grip → IsHome h t grip → IsAnswered h grip k slip a cause mid t.history → IsNoted h t grip value slip a cause mid view wrote last between
     → IsWellFormed t.history.setting (entries_of t.history.history)
     → (configuration_of (open_of t)).grips ≡ put (configuration_of (open_of h)).grips grip.slip.device.0 None → IsWhole shows h
@@ -158,8 +158,8 @@ order_came {D = D} h t value k grip slip a cause mid view wrote last between ret
     access (read_whole h whole) strong (whole.shown.configuration.ordered strong).order for.grip below new gripped (record {
       view_is = noted.view_is;
       wrote_is =
-          noted.wrote_is ∙ wrote_is w n r (command_at w.runs r k) a grip.task value (progress_at h.away.known.items d).held suited for.does (noted.value_is
-          ∙ ap (λ b. if b then (progress_at h.away.known.items d).held else value_after grip.task (progress_at h.away.known.items d).held) answered.lives);
+          noted.wrote_is ∙ wrote_is w n r (command_at w.runs r k) a grip.task value (progress_at h.checkouts.known.items d).held suited for.does (noted.value_is
+          ∙ ap (λ b. if b then (progress_at h.checkouts.known.items d).held else value_after grip.task (progress_at h.checkouts.known.items d).held) answered.lives);
       last_is =
           noted.last_is ∙ (λ i. is_doomed (read_in (new i)) (answered.same i).maker
           || not (pends (new i).setting (read_in (new i)) (answered.same i).maker (answered.same i).device.0))
@@ -200,7 +200,7 @@ order_came {D = D} h t value k grip slip a cause mid view wrote last between ret
     suited = fourth (may_act w n r) (k == next_of n r) (nat_lt k (length (commands_of w.runs r))) (suits w n r (command_at w.runs r k) a) ((n.run r).answered_doomed) may
 
 -- a command came back: what is kept is kept
-pub answered_whole : {D : Type 0} {shows : D → Shown} (h t : Inside D) (value k : ℕ) (grip : Gripped D Done) (slip : Slip) (a : Answer) (cause : Option Cause) (mid : HistoryState) (view : View) (wrote : Option ℕ) (last : Bool) (between : KeptOrder)
+pub answered_whole : {D : Type 0} {shows : D → Shown} (h t : Inside D) (value k : ℕ) (grip : Gripped D Done) (slip : Slip) (a : Answer) (cause : Option Cause) (mid : HistoryState) (view : View) (wrote : Option ℕ) (last : Bool) (between : OrderState)
     → IsReturned shows h (Commands k) grip → IsHome h t grip → IsAnswered h grip k slip a cause mid t.history → IsNoted h t grip value slip a cause mid view wrote last between → IsWhole shows h → IsWhole shows t
 answered_whole h t value k grip slip a cause mid view wrote last between returned home answered noted whole =
     came_whole h t (Commands k) grip (answer_entries slip.maker k a cause) (answered_back h t k grip slip a cause mid returned home answered)
@@ -211,6 +211,6 @@ pub undone_whole : {D : Type 0} {shows : D → Shown} (h t : Inside D) (v : ℕ)
     → t.history ≡ with_entry h.history slip.maker (Undid (run_no slip.maker) slip.device true) → t.order ≡ h.order → IsWhole shows h → IsWhole shows t
 undone_whole h t v grip slip returned home same lives new order whole =
     came_whole h t (Undoes v) grip (Undid (run_no slip.maker) slip.device true ∷ []) (undone_back h t v grip slip returned home same lives new)
-    (λ formed gripped. subst (λ (o : KeptOrder). OrderIsBeside h.rounds t.history (configuration_of (open_of t)).grips o.line o.table) (sym order)
+    (λ formed gripped. subst (λ (o : OrderState). OrderIsBeside h.rounds t.history (configuration_of (open_of t)).grips o.line o.table) (sym order)
     (order_undone h.history t.history (configuration_of (open_of h)).grips (configuration_of (open_of t)).grips grip.slip.maker grip.slip.device.0 v h.order.line h.order.table
     (new ∙ ap (λ (y : Slip). with_entry h.history y.maker (Undid (run_no y.maker) y.device true)) same) (returned_for h (Undoes v) grip returned whole).grip gripped whole.order)) whole

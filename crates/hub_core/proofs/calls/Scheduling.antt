@@ -10,7 +10,7 @@ use Rattle.std.proofs.lemmas.Option.{get_or_from_slice_get}
 use Rattle.std.specs.List.{list_any}
 use Rattle.std.specs.Prelude.{Bool, List, None, Option, Some, false, get_or, if◌then◌else◌, true, ℕ, ◌==◌, ◌≡◌}
 use Rattle.timeline_scheduler.specs.PlannedUses.{AreUsesOf, planned_use}
-use Rattle.window_order.specs.KeptOrders.{scheduled_so, scheduled_with}
+use Rattle.window_order.specs.OrderStates.{scheduled_so, scheduled_with}
 use Rattle.window_order.specs.TableChanges.{ChangesEach, first_with_access, rescheduled, scheduled_on, waiting_access}
 
 -- Uses that a scratch holds

@@ -15,8 +15,8 @@ use Rattle.hub_core.proofs.kept.SkippedOrders.{may_leave, order_skipped, order_s
 use Rattle.hub_core.proofs.kept.TableFits.{either_model}
 use Rattle.hub_core.proofs.steps.Takes.{live_run}
 use Rattle.hub_core.specs.HubsKept.{IsWhole, open_of}
-use Rattle.hub_core.specs.KeptOrders.{OrderIsBeside}
-use Rattle.window_order.specs.KeptOrders.{IsUnreleased, is_first, left_by}
+use Rattle.hub_core.specs.OrderStates.{OrderIsBeside}
+use Rattle.window_order.specs.OrderStates.{IsUnreleased, is_first, left_by}
 use Rattle.hub_core.specs.OpenHubs.{configuration_of, held_in}
 use Rattle.history_book.specs.ReadHistories.{HistoryState, read_in, with_entry, with_more}
 use Rattle.hub_core.specs.Steps.{Moves, choice_of, skip_entries}

@@ -26,7 +26,7 @@ use Rattle.hub_core.proofs.steps.Calls.{is_up_for}
 use Rattle.window_devices.specs.KnownDevices.{events_after, progress_at, turned}
 use Rattle.hub_core.specs.Bounds.{most_items}
 use Rattle.hub_core.specs.HubsKept.{IsWhole, open_of}
-use Rattle.hub_core.specs.KeptOrders.{MayTurn}
+use Rattle.hub_core.specs.OrderStates.{MayTurn}
 use Rattle.hub_core.specs.OpenHubs.{configuration_of, events_in, held_in}
 use Rattle.lock_leasing.specs.declared.purposes.Purpose.{Purpose}
 use Rattle.window_devices.specs.declared.known.Events.{Events}
@@ -84,7 +84,7 @@ turn_room h why grip e es tells longer k = (
 
 -- what is counted then, where it died that was counted up, or answered that was counted down
 turned_to : {D : Type 0} {shows : D → Shown} (h : Inside D) (why : Purpose) (grip : Gripped D Done) (events : Events) (up died : Bool) → IsReturned shows h why grip → is_up_for why ≡ up → has_died grip.stage.told ≡ died
-    → events ≡ events_after grip.task grip.stage.told (progress_at h.away.known.items grip.slip.device.0).events → IsWhole shows h → events ≡ turned up died (events_in (read_in h.history) grip.slip.device.0)
+    → events ≡ events_after grip.task grip.stage.told (progress_at h.checkouts.known.items grip.slip.device.0).events → IsWhole shows h → events ≡ turned up died (events_in (read_in h.history) grip.slip.device.0)
 turned_to h why grip events up died returned up_is died_is events_are k =
     let for = returned_for h why grip returned k in
     events_are ∙ (λ i. turned ((for.up ∙ up_is) i) (died_is i) (k.shown.events grip.slip.device.0 for.below i))
@@ -94,7 +94,7 @@ pub record Falls {D : Type 0} (h : Inside D) (why : Purpose) (grip : Gripped D D
   pub same : sl ≡ grip.slip
   pub up : is_up_for why ≡ true
   pub died : has_died grip.stage.told ≡ true
-  pub events_are : events ≡ events_after grip.task grip.stage.told (progress_at h.away.known.items grip.slip.device.0).events
+  pub events_are : events ≡ events_after grip.task grip.stage.told (progress_at h.checkouts.known.items grip.slip.device.0).events
 
 pub fallen_number : {D : Type 0} {shows : D → Shown} (h : Inside D) (why : Purpose) (grip : Gripped D Done) (sl : Slip)
     (events : Events) → IsReturned shows h why grip → Falls h why grip sl events → IsWhole shows h
@@ -106,7 +106,7 @@ pub record Rises {D : Type 0} (h : Inside D) (why : Purpose) (grip : Gripped D D
   pub same : sl ≡ grip.slip
   pub down : is_up_for why ≡ false
   pub lives : has_died grip.stage.told ≡ false
-  pub events_are : events ≡ events_after grip.task grip.stage.told (progress_at h.away.known.items grip.slip.device.0).events
+  pub events_are : events ≡ events_after grip.task grip.stage.told (progress_at h.checkouts.known.items grip.slip.device.0).events
 
 pub risen_number : {D : Type 0} {shows : D → Shown} (h : Inside D) (why : Purpose) (grip : Gripped D Done) (sl : Slip)
     (events : Events) → IsReturned shows h why grip → Rises h why grip sl events → IsWhole shows h

@@ -5,7 +5,7 @@ use Rattle.history_book.specs.Joined.{with_joined}
 use Rattle.history_book.specs.Readings.{Reading}
 use Rattle.history_book.specs.Settings.{Setting}
 use Rattle.hub_core.proofs.joins.JoinedRooms.{joined_items}
-use Rattle.hub_core.specs.KeptOrders.{IsOrderOf}
+use Rattle.hub_core.specs.OrderStates.{IsOrderOf}
 use Rattle.lineage_table.specs.Lineages.{LineageState, lineage_at}
 use Rattle.lock_leasing.specs.Configurations.{Grips, Point, point}
 use Rattle.serial_line.specs.KeptRuns.{AreKeptOf}

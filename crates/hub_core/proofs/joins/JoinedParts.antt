@@ -38,7 +38,7 @@ use Rattle.lock_leasing.specs.declared.purposes.Purpose.{Purpose}
 use Rattle.std.proofs.Common.{ap, arith, inl, inr, length-append, refl, subst, sym, ◌∙◌}
 use Rattle.std.proofs.lemmas.Grind.{common_steps}
 use Rattle.std.specs.Prelude.{Bool, IsTrue, List, None, Option, Some, [], false, find, if◌then◌else◌, length, not, option_map, slice_get, slice_index_or, suc, true, unwrap_or, zero, ℕ, ◌⊎◌, ◌+◌, ◌++◌, ◌==◌, ◌∷◌, ◌≡◌, ◌≤◌}
-use Rattle.window_devices.specs.Away.{HandsAre}
+use Rattle.window_devices.specs.Checkouts.{HeldTokensAre}
 use Rattle.window_devices.specs.KnownDevices.{grip_in, progress_at}
 use Rattle.window_order.proofs.Cited.{stranger_idle}
 
@@ -185,7 +185,7 @@ joined_hub shows s q may kept = record {
     told : (d : ℕ) → told_calls (with_joined s.setting q).runs (entries_of s.history) d ≡ told_calls s.setting.runs (entries_of s.history) d
     told d = same_told s.setting q (entries_of s.history) d ok
 
--- The hands
+-- The held tokens
 
 -- no grip is that of a run that is none of the window, but for the detector's
 pub new_hand : (w : Setting) (n : Reading) (g : Grips) → ReadsOwn w n → GripsFit (point w n g) → grip_wait w g (suc (length w.runs)) ≡ None
@@ -207,10 +207,10 @@ new_hand w n g reads fit = none_found (has_grip g (suc (length w.runs))) (device
     free d None out = ap (λ o. unwrap_or (option_map (λ p. p.maker == suc (length w.runs)) o) false) out
     free d (Some grip) out = ap (λ o. unwrap_or (option_map (λ p. p.maker == suc (length w.runs)) o) false) out ∙ of_purpose d grip.maker grip.purpose out
 
-pub joined_hands : (w : Setting) (q : Run) (n : Reading) (g : Grips) (hands : List (Option DeviceNo)) → ReadsOwn w n → GripsFit (point w n g) → HandsAre w g hands → HandsAre (with_joined w q) g (hands ++ None ∷ [])
-joined_hands w q n g hands reads fit kept = record {
-  size = length-append hands (None ∷ []) ∙ (λ k. kept.size k + 1) ∙ sym (length-append w.runs (q ∷ []));
-  each = λ i hand at. by i hand (more_at hands i hand at);
+pub joined_hands : (w : Setting) (q : Run) (n : Reading) (g : Grips) (held_tokens : List (Option DeviceNo)) → ReadsOwn w n → GripsFit (point w n g) → HeldTokensAre w g held_tokens → HeldTokensAre (with_joined w q) g (held_tokens ++ None ∷ [])
+joined_hands w q n g held_tokens reads fit kept = record {
+  size = length-append held_tokens (None ∷ []) ∙ (λ k. kept.size k + 1) ∙ sym (length-append w.runs (q ∷ []));
+  each = λ i hand at. by i hand (more_at held_tokens i hand at);
 }
   where
     data_at : List (Option DeviceNo) → ℕ → Option DeviceNo → Type 0
@@ -226,6 +226,6 @@ joined_hands w q n g hands reads fit kept = record {
         behind_first xs i hand (inl was) = inl was
         behind_first xs i hand (inr last) = inr (ap suc last.0, last.1)
 
-    by : (i : ℕ) (hand : Option DeviceNo) → data_at hands i hand → option_map (λ d. d.0) hand ≡ grip_wait (with_joined w q) g (suc i)
+    by : (i : ℕ) (hand : Option DeviceNo) → data_at held_tokens i hand → option_map (λ d. d.0) hand ≡ grip_wait (with_joined w q) g (suc i)
     by i hand (inl at) = kept.each i hand at
     by i hand (inr last) = ap (option_map (λ d. d.0)) last.1 ∙ sym (new_hand w n g reads fit) ∙ ap (λ k. grip_wait w g (suc k)) (sym (last.0 ∙ kept.size))

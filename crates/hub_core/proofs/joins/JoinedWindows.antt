@@ -19,27 +19,27 @@ use Rattle.hub_core.proofs.joins.JoinedRooms.{joined_entries}
 use Rattle.hub_core.specs.Bounds.{most_items}
 use Rattle.hub_core.specs.HubsKept.{HasRoomLeft, HubIsKept, IsWhole, open_of}
 use Rattle.hub_core.specs.Joins.{MayJoin, joined}
-use Rattle.hub_core.specs.KeptOrders.{IsOrderOf, OrderIsBeside}
 use Rattle.hub_core.specs.OpenHubs.{OpenHub, configuration_of}
+use Rattle.hub_core.specs.OrderStates.{IsOrderOf, OrderIsBeside}
 use Rattle.hub_core.specs.declared.open_windows.OpenWindow.TheInside.{Inside}
 use Rattle.lock_leasing.specs.Configurations.{Grips, point}
 use Rattle.serial_line.specs.KeptRuns.{KeepsOneMore}
 use Rattle.std.proofs.Common.{arith, length-append, subst, sym, ◌∙◌}
 use Rattle.std.proofs.lemmas.Grind.{common_steps}
 use Rattle.std.specs.Prelude.{None, Option, Some, [], length, slice_get, ℕ, ◌+◌, ◌++◌, ◌<◌, ◌∷◌, ◌≡◌, ◌≤◌}
-use Rattle.window_devices.specs.Away.{HandsAre}
+use Rattle.window_devices.specs.Checkouts.{HeldTokensAre}
 use Rattle.window_order.specs.Joins.{HasMoreRoom, HasRoomFor}
-use Rattle.window_order.specs.declared.kept_orders.KeptOrder.{KeptOrder}
+use Rattle.window_order.specs.declared.order_states.OrderState.{OrderState}
 
 -- the window with this history, line and table, this list for the order of its record, and these
--- hands of its runs
-abbrev pub with_parts : {D : Type 0} → Inside D → HistoryState → KeptOrder → Listed Item → Listed (Option DeviceNo) → Inside D
-with_parts h x order items hands = record h { history = x; order = order; closing = record h.closing { order = items }; away = record h.away { hands = hands } }
+-- held tokens of its runs
+abbrev pub with_parts : {D : Type 0} → Inside D → HistoryState → OrderState → Listed Item → Listed (Option DeviceNo) → Inside D
+with_parts h x order items held_tokens = record h { history = x; order = order; closing = record h.closing { order = items }; checkouts = record h.checkouts { held_tokens = held_tokens } }
 
 -- More room
 
 -- they are the window's own, but that there may be more room
-pub record AreRoomier {D : Type 0} (h : Inside D) (x : HistoryState) (order : KeptOrder) (items : Listed Item) (hands : Listed (Option DeviceNo)) : Type 0 where
+pub record AreRoomier {D : Type 0} (h : Inside D) (x : HistoryState) (order : OrderState) (items : Listed Item) (held_tokens : Listed (Option DeviceNo)) : Type 0 where
   pub setting : x.setting ≡ h.history.setting
   pub history : x.history ≡ h.history.history
   pub entries : h.history.spare ≤ x.spare
@@ -47,16 +47,16 @@ pub record AreRoomier {D : Type 0} (h : Inside D) (x : HistoryState) (order : Ke
   pub table : HasMoreRoom h.order.table order.table
   pub items_are : items.items ≡ h.closing.order.items
   pub items_room : h.closing.order.spare ≤ items.spare
-  pub hands_are : hands.items ≡ h.away.hands.items
+  pub hands_are : held_tokens.items ≡ h.checkouts.held_tokens.items
 
-pub roomier_shown : {D : Type 0} (h : Inside D) (x : HistoryState) (order : KeptOrder) (items : Listed Item) (hands : Listed (Option DeviceNo)) → AreRoomier h x order items hands
-    → open_of (with_parts h x order items hands) ≡ open_of h
-roomier_shown h x order items hands roomier = λ i. record (open_of h) { setting = roomier.setting i; history = roomier.history i }
+pub roomier_shown : {D : Type 0} (h : Inside D) (x : HistoryState) (order : OrderState) (items : Listed Item) (held_tokens : Listed (Option DeviceNo)) → AreRoomier h x order items held_tokens
+    → open_of (with_parts h x order items held_tokens) ≡ open_of h
+roomier_shown h x order items held_tokens roomier = λ i. record (open_of h) { setting = roomier.setting i; history = roomier.history i }
 
-pub roomier_whole : {D : Type 0} (shows : D → Shown) (h : Inside D) (x : HistoryState) (order : KeptOrder) (items : Listed Item) (hands : Listed (Option DeviceNo)) → AreRoomier h x order items hands
-    → IsWhole shows h → IsWhole shows (with_parts h x order items hands)
-roomier_whole shows h x order items hands roomier whole = record {
-  shown = subst (HubIsKept shows) (sym (roomier_shown h x order items hands roomier)) whole.shown;
+pub roomier_whole : {D : Type 0} (shows : D → Shown) (h : Inside D) (x : HistoryState) (order : OrderState) (items : Listed Item) (held_tokens : Listed (Option DeviceNo)) → AreRoomier h x order items held_tokens
+    → IsWhole shows h → IsWhole shows (with_parts h x order items held_tokens)
+roomier_whole shows h x order items held_tokens roomier whole = record {
+  shown = subst (HubIsKept shows) (sym (roomier_shown h x order items held_tokens roomier)) whole.shown;
   room = subst (λ y. HasRoomLeft h.rounds y (record h.closing { order = items })) (sym seen) (record {
     history = let old = whole.room.history in let more = roomier.entries in omega (arith, old, more);
     order = (roomier.items_are ∙ whole.room.order.0, (let old = whole.room.order.1 in let more = roomier.items_room in omega (arith, old, more)));
@@ -67,7 +67,7 @@ roomier_whole shows h x order items hands roomier whole = record {
   });
   order = subst (λ y. OrderIsBeside h.rounds y g order.line order.table) (sym seen)
       (roomier_beside (point h.history.setting (read_in h.history) g) h.rounds h.order.line order.line h.order.table order.table roomier.line roomier.table whole.order);
-  hands = subst (λ w. HandsAre w g hands.items) (sym roomier.setting) (subst (HandsAre h.history.setting g) (sym roomier.hands_are) whole.hands);
+  held_tokens = subst (λ w. HeldTokensAre w g held_tokens.items) (sym roomier.setting) (subst (HeldTokensAre h.history.setting g) (sym roomier.hands_are) whole.held_tokens);
 }
   where
     g : Grips
@@ -79,7 +79,7 @@ roomier_whole shows h x order items hands roomier whole = record {
 -- A run more
 
 -- they are the window's with one run more, which has joined, and there is room for it
-pub record HaveJoined {D : Type 0} (h : Inside D) (q : Run) (x : HistoryState) (order : KeptOrder) (items : Listed Item) (hands : Listed (Option DeviceNo)) : Type 0 where
+pub record HaveJoined {D : Type 0} (h : Inside D) (q : Run) (x : HistoryState) (order : OrderState) (items : Listed Item) (held_tokens : Listed (Option DeviceNo)) : Type 0 where
   pub setting : x.setting ≡ with_joined h.history.setting q
   pub history : x.history ≡ h.history.history
   pub entries : h.history.spare + 132 ≤ x.spare
@@ -90,16 +90,16 @@ pub record HaveJoined {D : Type 0} (h : Inside D) (q : Run) (x : HistoryState) (
   pub table : HasRoomFor q h.order.table order.table
   pub items_are : items.items ≡ h.closing.order.items
   pub items_room : most_items (length h.history.setting.runs + 1) (length h.history.setting.first) h.rounds ≤ items.spare
-  pub hands_are : hands.items ≡ h.away.hands.items ++ None ∷ []
+  pub hands_are : held_tokens.items ≡ h.checkouts.held_tokens.items ++ None ∷ []
 
-pub joined_shown : {D : Type 0} (h : Inside D) (q : Run) (x : HistoryState) (order : KeptOrder) (items : Listed Item) (hands : Listed (Option DeviceNo)) → HaveJoined h q x order items hands
-    → open_of (with_parts h x order items hands) ≡ joined (open_of h) q
-joined_shown h q x order items hands joins = λ i. record (open_of h) { setting = joins.setting i; history = joins.history i }
+pub joined_shown : {D : Type 0} (h : Inside D) (q : Run) (x : HistoryState) (order : OrderState) (items : Listed Item) (held_tokens : Listed (Option DeviceNo)) → HaveJoined h q x order items held_tokens
+    → open_of (with_parts h x order items held_tokens) ≡ joined (open_of h) q
+joined_shown h q x order items held_tokens joins = λ i. record (open_of h) { setting = joins.setting i; history = joins.history i }
 
-pub joined_whole : {D : Type 0} (shows : D → Shown) (h : Inside D) (q : Run) (x : HistoryState) (order : KeptOrder) (items : Listed Item) (hands : Listed (Option DeviceNo)) → MayJoin h.history.setting q → HaveJoined h q x order items hands
-    → IsWhole shows h → IsWhole shows (with_parts h x order items hands)
-joined_whole shows h q x order items hands may joins whole = record {
-  shown = subst (HubIsKept shows) (sym (joined_shown h q x order items hands joins)) (joined_hub shows (open_of h) q may whole.shown);
+pub joined_whole : {D : Type 0} (shows : D → Shown) (h : Inside D) (q : Run) (x : HistoryState) (order : OrderState) (items : Listed Item) (held_tokens : Listed (Option DeviceNo)) → MayJoin h.history.setting q → HaveJoined h q x order items held_tokens
+    → IsWhole shows h → IsWhole shows (with_parts h x order items held_tokens)
+joined_whole shows h q x order items held_tokens may joins whole = record {
+  shown = subst (HubIsKept shows) (sym (joined_shown h q x order items held_tokens joins)) (joined_hub shows (open_of h) q may whole.shown);
   room = subst (λ y. HasRoomLeft h.rounds y (record h.closing { order = items })) (sym seen) (record {
     history = let most = joined_entries w.runs q (length w.first) h.rounds h.history.spare (length h.history.history) whole.room.history in let more = joins.entries in omega (arith, most, more);
     order = (joins.items_are ∙ whole.room.order.0, (let most = joins.items_room in let long = length-append w.runs (q ∷ []) in rw long most));
@@ -111,8 +111,8 @@ joined_whole shows h q x order items hands may joins whole = record {
   order = subst (λ y. OrderIsBeside h.rounds y g order.line order.table) (sym seen)
       (subst (λ n. IsOrderOf h.rounds (point (with_joined w q) n g) order.line order.table) (sym (same_reading w q (entries_of h.history.history) formed))
       (joined_beside w q (read_in h.history) g h.rounds h.order.line order.line h.order.table order.table own whole.order (record { marks = joins.marks; sealed = joins.sealed; spare = joins.spare; runs = joins.runs w.runs whole.order.runs }) joins.table));
-  hands = subst (λ v. HandsAre v g hands.items) (sym joins.setting) (subst (HandsAre (with_joined w q) g) (sym joins.hands_are)
-      (joined_hands w q (read_in h.history) g h.away.hands.items own whole.shown.configuration.grips whole.hands));
+  held_tokens = subst (λ v. HeldTokensAre v g held_tokens.items) (sym joins.setting) (subst (HeldTokensAre (with_joined w q) g) (sym joins.hands_are)
+      (joined_hands w q (read_in h.history) g h.checkouts.held_tokens.items own whole.shown.configuration.grips whole.held_tokens));
 }
   where
     w : Setting

@@ -21,7 +21,7 @@ use Rattle.home_types.specs.declared.modes.Scheduler.{Scheduler}
 use Rattle.home_types.specs.declared.modes.Visibility.TheVariants.{Eventual, Global, Partitioned, Weak}
 use Rattle.home_types.specs.declared.modes.Visibility.{Visibility}
 use Rattle.hub_core.proofs.kept.SealedOrders.{sealed_is}
-use Rattle.hub_core.specs.KeptOrders.{IsOrderOf}
+use Rattle.hub_core.specs.OrderStates.{IsOrderOf}
 use Rattle.lineage_table.specs.Lineages.{LineageState}
 use Rattle.lock_leasing.specs.Configurations.{Grips, point}
 use Rattle.lock_leasing.specs.Places.{GripsFit, in_order}
@@ -31,8 +31,8 @@ use Rattle.std.proofs.Common.{ap, arith, refl, subst, sym, ◌∙◌}
 use Rattle.std.proofs.lemmas.List.{length-map}
 use Rattle.std.specs.Prelude.{Bool, List, Some, [], false, if◌then◌else◌, length, map, slice_get, suc, true, zero, ℕ, ◌++◌, ◌+◌, ◌<◌, ◌∷◌, ◌≡◌}
 use Rattle.window_order.proofs.Cited.{IsRead, fits_same, marks_placed, read_kept, same_parts}
-use Rattle.window_order.specs.KeptOrders.{MayArrange, arranged}
 use Rattle.window_order.specs.MarksKept.{MarksAreKept}
+use Rattle.window_order.specs.OrderStates.{MayArrange, arranged}
 
 -- The set of the timeline may be brought to the front
 

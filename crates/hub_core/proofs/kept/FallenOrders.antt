@@ -21,8 +21,8 @@ use Rattle.home_types.specs.declared.numbers.DeviceNo.{DeviceNo}
 use Rattle.hub_core.proofs.kept.EventsTold.{event_told, line_size, sound_is}
 use Rattle.window_devices.proofs.Cited.{none_found}
 use Rattle.hub_core.proofs.kept.OrderSteps.{entry_kept, length_with, may_note, order_answered_weakly, read_more}
-use Rattle.hub_core.specs.KeptOrders.{HasFallen, IsOrderOf, OrderIsBeside}
-use Rattle.window_order.specs.KeptOrders.{MayNote, is_first, noted_first}
+use Rattle.hub_core.specs.OrderStates.{HasFallen, IsOrderOf, OrderIsBeside}
+use Rattle.window_order.specs.OrderStates.{MayNote, is_first, noted_first}
 use Rattle.history_book.specs.ReadHistories.{HistoryState, read_in, with_entry}
 use Rattle.lineage_table.specs.Lineages.{LineageState, accesses_at, counted_up, lineage_at, with_lineage}
 use Rattle.lineage_table.specs.declared.accesses.Status.TheVariants.{Acquired, Scheduled}

@@ -29,8 +29,8 @@ use Rattle.hub_core.proofs.kept.SealedOrders.{placed_sealed, same_sealed, sealed
 use Rattle.hub_core.proofs.kept.Sizes.{one_at_most}
 use Rattle.hub_core.proofs.kept.TableFits.{committed_bare, doomed_bare, fits_changed, fits_ordered, fits_still, fits_weakly, removed_bare, undone_change_bare}
 use Rattle.hub_core.specs.Bounds.{most_items}
-use Rattle.hub_core.specs.KeptOrders.{IsOrderOf, OrderIsBeside, TableFits}
-use Rattle.window_order.specs.KeptOrders.{IsSealed, IsUnreleased, MayNote, is_first, noted_first}
+use Rattle.hub_core.specs.OrderStates.{IsOrderOf, OrderIsBeside, TableFits}
+use Rattle.window_order.specs.OrderStates.{IsSealed, IsUnreleased, MayNote, is_first, noted_first}
 use Rattle.legal_days.proofs.Cited.{count_cons}
 use Rattle.lineage_table.specs.Accesses.{is_scheduled, status_of}
 use Rattle.lineage_table.specs.Lineages.{LineageState, TableIsOpened, committed_lineage, lineage_at, removed, undone, with_lineage}

@@ -10,8 +10,8 @@ use Rattle.home_types.specs.declared.items.Item.{Item}
 use Rattle.home_types.specs.declared.numbers.DeviceNo.{DeviceNo}
 use Rattle.hub_core.proofs.kept.OrderSteps.{entry_kept, length_with}
 use Rattle.hub_core.proofs.kept.TableFits.{fits_changed, fits_still, fits_turned, unless_bare}
-use Rattle.hub_core.specs.KeptOrders.{IsOrderOf, LineageIsBare, OrderIsBeside}
-use Rattle.window_order.specs.KeptOrders.{IsSealed}
+use Rattle.hub_core.specs.OrderStates.{IsOrderOf, LineageIsBare, OrderIsBeside}
+use Rattle.window_order.specs.OrderStates.{IsSealed}
 use Rattle.history_book.specs.ReadHistories.{HistoryState, read_in, with_entry}
 use Rattle.lineage_table.specs.Lineages.{LineageState, counted_up, with_lineage}
 use Rattle.lock_leasing.specs.Configurations.{Grips, grips_command, point}

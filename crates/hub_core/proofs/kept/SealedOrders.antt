@@ -11,8 +11,8 @@ use Rattle.history_book.specs.declared.entries.Kept.{Kept}
 use Rattle.home_types.specs.declared.items.Item.TheVariants.{Back, Failed, Ran}
 use Rattle.home_types.specs.declared.items.Item.{Item}
 use Rattle.home_types.specs.declared.numbers.RunNo.{RunNo}
-use Rattle.hub_core.specs.KeptOrders.{TableFits}
-use Rattle.window_order.specs.KeptOrders.{IsSealed}
+use Rattle.hub_core.specs.OrderStates.{TableFits}
+use Rattle.window_order.specs.OrderStates.{IsSealed}
 use Rattle.lineage_table.specs.Lineages.{LineageState, accesses_at}
 use Rattle.lineage_table.specs.declared.accesses.Access.{Access}
 use Rattle.lock_leasing.proofs.Cited.{front_is}

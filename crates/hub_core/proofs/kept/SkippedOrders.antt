@@ -7,8 +7,8 @@ use Rattle.history_book.specs.declared.entries.Entry.TheVariants.{Did}
 use Rattle.home_types.specs.declared.commands.Answer.TheVariants.{Skipped}
 use Rattle.hub_core.proofs.kept.OrderSteps.{entry_kept, stands_so}
 use Rattle.hub_core.proofs.kept.TableFits.{fits_ordered, fits_weakly}
-use Rattle.hub_core.specs.KeptOrders.{IsOrderOf, OrderIsBeside}
-use Rattle.window_order.specs.KeptOrders.{IsUnreleased, is_first, left_by}
+use Rattle.hub_core.specs.OrderStates.{IsOrderOf, OrderIsBeside}
+use Rattle.window_order.specs.OrderStates.{IsUnreleased, is_first, left_by}
 use Rattle.history_book.specs.ReadHistories.{HistoryState, read_in, with_entry}
 use Rattle.lineage_table.specs.Lineages.{LineageState, lineage_at, released, removed, with_lineage}
 use Rattle.lock_leasing.specs.Configurations.{Grips, point}

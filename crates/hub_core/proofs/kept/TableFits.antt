@@ -5,7 +5,7 @@ use Rattle.hub_core.proofs.kept.EventsTold.{none_of_detector}
 use Rattle.history_book.specs.Readings.{Reading}
 use Rattle.history_book.specs.Settings.{Setting, is_weak}
 use Rattle.home_types.specs.declared.numbers.DeviceNo.{DeviceNo}
-use Rattle.hub_core.specs.KeptOrders.{LineageIsBare, TableFits}
+use Rattle.hub_core.specs.OrderStates.{LineageIsBare, TableFits}
 use Rattle.lineage_table.specs.Lineages.{LineageState, accesses_at, committed_lineage, lineage_at, removed, undone}
 use Rattle.lock_leasing.specs.Configurations.{Grips, Point, point}
 use Rattle.std.proofs.Common.{ap, refl, subst, sym, ◌∙◌}

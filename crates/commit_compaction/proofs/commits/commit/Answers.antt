@@ -21,4 +21,4 @@ returns-clause-exact c = λ d within. changed_all c.args.r.0 (λ d. committed_li
 pub returns-clause-stands : goal.returns-clause-stands
 returns-clause-stands c = λ d within.
     ap stand_of_lineage (changed_all c.args.r.0 (λ d. committed_lineage c.args.r.0) (λ d. commits_nothing c.args.r.0) c.args.table.now c.devices.table c.devices.from.0 c.devices.invariant c.in_default.ensures.next d)
-    ∙ commit_stands c.args.r (lineage_at c.args.table.now d) (c.kept.ensures d)
+    ∙ commit_stands c.args.r (lineage_at c.args.table.now d) (c.kept_invariant.ensures d)

@@ -1,4 +1,4 @@
-use Rattle.day_clock.proofs.Pieces.{AppendsPart-of_rest, front_goes, front_moves}
+use Rattle.day_clock.proofs.Chunks.{AppendsPart-of_rest, front_goes, front_moves}
 use Rattle.day_clock.proofs.sinks.write_all.Goals as goal
 use Rattle.std.proofs.Common.{arith, drop, length, rules, take, ◌++◌, ◌<◌}
 use Rattle.std.proofs.KnownBytes.{Appends-kept, Appends-trans}

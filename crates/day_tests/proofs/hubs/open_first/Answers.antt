@@ -18,5 +18,5 @@ open_window-requires g c =
     let few : home.opened ≤ 288 = omega (arith, opened) in
     record {
       may = may_open D.shows script _ 0 window home c.in_ok-roster.roster
-          (record { sound = c.requires.sound; goes = refl; at = at; runs = runs; kept = c.kept.ensures; kinds = kinds; opened = few });
+          (record { sound = c.requires.sound; goes = refl; at = at; runs = runs; kept = c.kept_invariant.ensures; kinds = kinds; opened = few });
     }

@@ -35,5 +35,5 @@ returns-clause-free c =
     let kind = get_or_from_slice_get c.args.home.now.kinds c.args.d.0 c.in-Some-Some.kind (States 0) (sym c.kind.ensures ∙ c.in-Some-Some.is-0) in
     let there : slice_get c.args.home.now.devices c.args.d.0 ≡ Some c.in-Some-Some.device.now = search rules in
     let within = slice_get_within c.args.home.now.devices c.args.d.0 c.in-Some-Some.device.now there in
-    let size = c.kept.ensures.size in
+    let size = c.kept_invariant.ensures.size in
     free_by c.args.home.now c.args.d.0 c.args.value (omega (arith, within, size)) (ap (λ k. has_value k c.args.value) kind ∙ sym c.has.ensures ∙ c.if-not-has.false)

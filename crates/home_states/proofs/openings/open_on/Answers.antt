@@ -18,7 +18,7 @@ open-requires c =
     let at : slice_get script.windows.items c.args.number ≡ Some window = search rules in
     let runs : runs_of c.in-Ok.roster ≡ script_runs script c.args.number = search rules in
     let few : home.opened < 2 ^ 31 = search rules in
-    record { may = may_open_ever _ script c.args.mode c.args.number window home c.in-Ok.roster c.script.ensures.sound c.requires.goes at runs c.kept.ensures c.requires.fits few }
+    record { may = may_open_ever _ script c.args.mode c.args.number window home c.in-Ok.roster c.script.ensures.sound c.requires.goes at runs c.kept_invariant.ensures c.requires.fits few }
 
 pub returns-in-Ok-open-clause-free : goal.returns-in-Ok-open-clause-free
 returns-in-Ok-open-clause-free c =
@@ -47,11 +47,11 @@ returns-in-Ok-open-clause-numbers c =
     let runs : runs_of c.in-Ok.roster ≡ script_runs script c.args.number = search rules in
     let few : home.opened < 2 ^ 31 = search rules in
     opened_numbers handed_shows (setting_for home c.in-Ok.roster c.args.mode) window.probes home c.in-Ok-open.table
-    (may_open_ever _ script c.args.mode c.args.number window home c.in-Ok.roster c.script.ensures.sound c.requires.goes at runs c.kept.ensures c.requires.fits few)
-    c.in-Ok-open.ensures.opened c.kept.ensures.size
+    (may_open_ever _ script c.args.mode c.args.number window home c.in-Ok.roster c.script.ensures.sound c.requires.goes at runs c.kept_invariant.ensures c.requires.fits few)
+    c.in-Ok-open.ensures.opened c.kept_invariant.ensures.size
 
 pub returns-in-Ok-open-clause-own : goal.returns-in-Ok-open-clause-own
 returns-in-Ok-open-clause-own c =
     let runs : runs_of c.in-Ok.roster ≡ script_runs c.args.script.now c.args.number = search rules in
     own_opened c.args.script.now c.args.number (setting_for c.args.home c.in-Ok.roster c.args.mode) c.in-Some.window.now.probes c.args.home c.in-Ok-open.table
-    c.in-Ok-open.ensures.opened runs c.requires.fits c.kept.ensures.kinds
+    c.in-Ok-open.ensures.opened runs c.requires.fits c.kept_invariant.ensures.kinds

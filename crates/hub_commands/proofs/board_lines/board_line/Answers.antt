@@ -4,7 +4,7 @@ use Rattle.std.proofs.Common.{List, codes, ℕ, ◌++◌, ◌≡◌, ◌∙◌}
 use Rattle.std.proofs.lemmas.List.{append_assoc}
 use Rattle.std.specs.Fmt.{decimal}
 
--- the pieces, as they are written, are the line
+-- the chunks, as they are written, are the line
 line_is : (windows runs committed aborted : List ℕ) →
     codes "board windows " ++ (windows ++ (codes " runs " ++ (runs ++ (codes " committed " ++ (committed ++ (codes " aborted " ++ (aborted ++ codes "\n")))))))
     ≡ codes "board windows " ++ windows ++ codes " runs " ++ runs ++ codes " committed " ++ committed ++ codes " aborted " ++ aborted ++ codes "\n"

@@ -9,7 +9,7 @@ returns-in-Ok-clause-begun g c course starts head =
     let K = g.K.Sink in (
       ap (λ ws. length ws) c.new.ensures.empty,
       begun (g.W.Way.works c.args._way.now) D.shows course c.args.options
-          (K.holds c.args.sink.now) (K.holds c.write_piece.new.sink) (K.faults c.args.sink.now) (K.faults c.write_piece.new.sink)
+          (K.holds c.args.sink.now) (K.holds c.write_chunk.new.sink) (K.faults c.args.sink.now) (K.faults c.write_chunk.new.sink)
           c.args.home c.new.result.items c.args.head starts c.new.ensures.empty head c.in-Ok.ensures,
     )
 
@@ -19,7 +19,7 @@ returns-in-Err-clause-begun g c course starts head =
     let K = g.K.Sink in (
       c.stop.ensures.status,
       head_stopped (g.W.Way.works c.args._way.now) D.shows course c.args.options
-          (K.holds c.args.sink.now) (K.holds c.write_piece.new.sink) (K.faults c.args.sink.now) (K.faults c.write_piece.new.sink)
+          (K.holds c.args.sink.now) (K.holds c.write_chunk.new.sink) (K.faults c.args.sink.now) (K.faults c.write_chunk.new.sink)
           c.args.home c.new.result c.args.head c.in-Err.fault c.stop.result.day c.stop.result.fault
           starts c.new.ensures.empty head c.in-Err.ensures c.stop.ensures.ends,
     )

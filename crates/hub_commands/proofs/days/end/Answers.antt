@@ -8,7 +8,7 @@ returns-in-Err-clause-ends g c course held f going all =
     let D = g.D.Device in
     let K = g.K.Sink in
     total_stopped (g.W.Way.works c.args._way.now) D.shows course c.args.options
-    held (K.holds c.args.sink.now) (K.holds c.write_piece.new.sink) f (K.faults c.args.sink.now) (K.faults c.write_piece.new.sink)
+    held (K.holds c.args.sink.now) (K.holds c.write_chunk.new.sink) f (K.faults c.args.sink.now) (K.faults c.write_chunk.new.sink)
     c.args.day.home c.args.day.windows c.total_text.result c.in-Err.fault c.stop.result.day c.stop.result.fault
     going all c.total_text.ensures c.in-Err.ensures c.stop.ensures.ends
 
@@ -17,7 +17,7 @@ returns-clause-ends g c course held f going all =
     let D = g.D.Device in
     let K = g.K.Sink in
     finished (g.W.Way.works c.args._way.now) D.shows course c.args.options
-    held (K.holds c.args.sink.now) (K.holds c.write_piece.new.sink) f (K.faults c.args.sink.now) (K.faults c.write_piece.new.sink)
+    held (K.holds c.args.sink.now) (K.holds c.write_chunk.new.sink) f (K.faults c.args.sink.now) (K.faults c.write_chunk.new.sink)
     c.args.day.home c.args.day.windows c.into_devices.result c.total_text.result
     going all c.total_text.ensures c.in_default.ensures c.into_devices.ensures.devices
 

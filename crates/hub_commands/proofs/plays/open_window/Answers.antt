@@ -11,7 +11,7 @@ open_window-requires g c =
     let at = window-there c.args.script.now c.args.number c.as_slice.result.now window c.requires.there c.as_slice.ensures c.index-as_slice-number.is in
     record {
       may = may_open D.shows c.args.script.now c.args.mode c.args.number window c.args.home c.in_ok-roster.roster
-          (record { sound = c.requires.sound; goes = c.requires.goes; at = at; runs = c.in_ok-roster.ensures; kept = c.kept.ensures; kinds = c.requires.kinds; opened = c.requires.few });
+          (record { sound = c.requires.sound; goes = c.requires.goes; at = at; runs = c.in_ok-roster.ensures; kept = c.kept_invariant.ensures; kinds = c.requires.kinds; opened = c.requires.few });
     }
 
 pub returns-in-Ok : goal.returns-in-Ok
@@ -23,5 +23,5 @@ returns-in-Ok g c =
       at = window-there c.args.script.now c.args.number c.as_slice.result.now window c.requires.there c.as_slice.ensures c.index-as_slice-number.is;
       opened = subst (λ runs. IsOpened D.shows (record { runs = runs; mode = c.args.mode; kinds = c.args.home.kinds; first = c.args.home.world }) window.probes c.args.home c.in-Ok.hub)
           c.in_ok-roster.ensures c.in-Ok.ensures.opened;
-      numbered = c.kept.ensures.numbered;
+      numbered = c.kept_invariant.ensures.numbered;
     }

@@ -35,7 +35,7 @@ returns-in-Err-clause-ends g c held f so_far =
     let shown = D.shows in
     let K = g.K.Sink in
     end_stopped (g.C.Clock.earliest c.args._clock.now) (g.C.Clock.latest c.args._clock.now) shown c.args.script.now c.requires.sound c.args.mode c.requires.strong c.args.rooms.now c.requires.rooms c.args.day c.args.day.windows.items c.requires.day
-    held (K.holds c.args.sink.now) (K.holds c.write_piece.new.sink) f (K.faults c.args.sink.now) (K.faults c.write_piece.new.sink) c.total_text.result c.in-Err.fault c.stop.result refl so_far c.requires.all c.total_text.ensures c.in-Err.ensures c.stop.ensures.windows c.stop.ensures.ends
+    held (K.holds c.args.sink.now) (K.holds c.write_chunk.new.sink) f (K.faults c.args.sink.now) (K.faults c.write_chunk.new.sink) c.total_text.result c.in-Err.fault c.stop.result refl so_far c.requires.all c.total_text.ensures c.in-Err.ensures c.stop.ensures.windows c.stop.ensures.ends
 
 pub returns-clause-ends : goal.returns-clause-ends
 returns-clause-ends g c held f so_far =
@@ -43,7 +43,7 @@ returns-clause-ends g c held f so_far =
     let shown = D.shows in
     let K = g.K.Sink in
     end_finished (g.C.Clock.earliest c.args._clock.now) (g.C.Clock.latest c.args._clock.now) shown c.args.script.now c.requires.sound c.args.mode c.requires.strong c.args.rooms.now c.requires.rooms c.args.day c.args.day.windows.items c.requires.day
-    held (K.holds c.args.sink.now) (K.holds c.write_piece.new.sink) f (K.faults c.args.sink.now)
-    (K.faults c.write_piece.new.sink) c.total_text.result c.in_script_order.result refl so_far c.requires.all c.total_text.ensures c.in_default.ensures
+    held (K.holds c.args.sink.now) (K.holds c.write_chunk.new.sink) f (K.faults c.args.sink.now)
+    (K.faults c.write_chunk.new.sink) c.total_text.result c.in_script_order.result refl so_far c.requires.all c.total_text.ensures c.in_default.ensures
     (c.in_script_order.ensures.size ∙ ap (λ l. length l) c.as_slice.ensures)
     (subst (λ (l : List ℕ). AreAllPlaced l c.args.day.homes.items c.in_script_order.result.items) c.as_slice.ensures c.in_script_order.ensures.placed)

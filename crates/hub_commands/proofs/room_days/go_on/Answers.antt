@@ -56,8 +56,8 @@ returns-in-Err g c held f before so_far next =
     held (K.holds c.args.sink.now) f (K.faults c.args.sink.now) before c.in-Err.windows c.end_without_devices.result so_far next'
     c.end_without_devices.ensures.status c.end_without_devices.ensures.windows c.end_without_devices.ensures.devices c.end_without_devices.ensures.fault
 
-pub returns-in-Ok-write_piece : goal.returns-in-Ok-write_piece
-returns-in-Ok-write_piece g c held f before so_far next =
+pub returns-in-Ok-write_chunk : goal.returns-in-Ok-write_chunk
+returns-in-Ok-write_chunk g c held f before so_far next =
     let D = g.Dev.Device in
     let shown = D.shows in
     let K = g.K.Sink in
@@ -66,10 +66,10 @@ returns-in-Ok-write_piece g c held f before so_far next =
     subst (λ n. RoomNextIs (g.C.Clock.earliest c.args._clock.now) (g.C.Clock.latest c.args._clock.now) shown c.args.script.now c.args.mode before n)
     c.in-Ok.is next in
     next_written (g.C.Clock.earliest c.args._clock.now) (g.C.Clock.latest c.args._clock.now) shown c.args.script.now c.requires.sound c.args.mode c.requires.strong c.args.rooms.now c.requires.rooms c.in-Ok.day before next'
-    held (K.holds c.args.sink.now) (K.holds c.write_piece.new.sink) f (K.faults c.args.sink.now) (K.faults c.write_piece.new.sink) c.tell_lines-lines.new.told c.tell_lines-lines.result c.tell_lines-lines.ensures so_far c.in-Ok-write_piece.ensures
+    held (K.holds c.args.sink.now) (K.holds c.write_chunk.new.sink) f (K.faults c.args.sink.now) (K.faults c.write_chunk.new.sink) c.tell_lines-lines.new.told c.tell_lines-lines.result c.tell_lines-lines.ensures so_far c.in-Ok-write_chunk.ensures
 
-pub returns-in-Err-write_piece : goal.returns-in-Err-write_piece
-returns-in-Err-write_piece g c held f before so_far next =
+pub returns-in-Err-write_chunk : goal.returns-in-Err-write_chunk
+returns-in-Err-write_chunk g c held f before so_far next =
     let D = g.Dev.Device in
     let shown = D.shows in
     let K = g.K.Sink in
@@ -78,5 +78,5 @@ returns-in-Err-write_piece g c held f before so_far next =
     subst (λ n. RoomNextIs (g.C.Clock.earliest c.args._clock.now) (g.C.Clock.latest c.args._clock.now) shown c.args.script.now c.args.mode before n)
     c.in-Ok.is next in
     next_stopped (g.C.Clock.earliest c.args._clock.now) (g.C.Clock.latest c.args._clock.now) shown c.args.script.now c.requires.sound c.args.mode c.requires.strong c.args.rooms.now c.requires.rooms c.in-Ok.day before next'
-    held (K.holds c.args.sink.now) (K.holds c.write_piece.new.sink) f (K.faults c.args.sink.now) (K.faults c.write_piece.new.sink) c.tell_lines-lines.new.told c.tell_lines-lines.result c.tell_lines-lines.ensures so_far c.in-Err-write_piece.fault c.stop.result c.in-Err-write_piece.ensures
+    held (K.holds c.args.sink.now) (K.holds c.write_chunk.new.sink) f (K.faults c.args.sink.now) (K.faults c.write_chunk.new.sink) c.tell_lines-lines.new.told c.tell_lines-lines.result c.tell_lines-lines.ensures so_far c.in-Err-write_chunk.fault c.stop.result c.in-Err-write_chunk.ensures
     c.stop.ensures.status c.stop.ensures.windows c.stop.ensures.ends

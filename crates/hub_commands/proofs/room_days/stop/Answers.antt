@@ -1,13 +1,13 @@
 use Rattle.hub_commands.proofs.room_days.stop.Goals as goal
 use Rattle.hub_commands.specs.RoomGoing.{RoomStopEnds}
 use Rattle.hub_commands.specs.declared.faults.Fault.TheVariants.{Write}
-use Rattle.hub_commands.specs.declared.pieces.PieceFault.{PieceFault}
+use Rattle.hub_commands.specs.declared.chunks.ChunkFault.{ChunkFault}
 use Rattle.std.proofs.Common.{List, Some, ap, length, refl, subst, sym, ℕ, ◌∙◌}
 use Rattle.hub_commands.specs.RoomDevices.{AreAllPlaced}
 
 pub returns-in-Sink-clause-ends : goal.returns-in-Sink-clause-ends
 returns-in-Sink-clause-ends g c =
-    subst (λ (fault : PieceFault). RoomStopEnds c.args.rooms.now.room_of.items c.args.day.homes.items fault (Some c.in_script_order.result) (Some Write)) (sym c.in-Sink.is) (
+    subst (λ (fault : ChunkFault). RoomStopEnds c.args.rooms.now.room_of.items c.args.day.homes.items fault (Some c.in_script_order.result) (Some Write)) (sym c.in-Sink.is) (
       c.in_script_order.result,
       refl,
       c.in_script_order.ensures.size ∙ ap (λ l. length l) c.as_slice.ensures,

@@ -5,5 +5,5 @@ use Rattle.lineage_table.specs.Lineages.{accesses_at}
 
 pub seal-requires : goal.seal-requires
 seal-requires c =
-    turned_sealed c.book.result.now.items c.args.first (accesses_at c.args.order.now.table c.args.d.0) (Failed c.args.d c.args.number) c.args.order.now.line c.fell-lost.new.line
-    c.requires.may.unsealed c.fell-lost.ensures.marks c.fell-lost.ensures.sealed c.requires.may.sealed
+    turned_sealed c.book.result.now.items c.args.first (accesses_at c.args.order.now.table c.args.d.0) (Failed c.args.d c.args.number) c.args.order.now.line c.device_failed-lost.new.line
+    c.requires.may.unsealed c.device_failed-lost.ensures.marks c.device_failed-lost.ensures.sealed c.requires.may.sealed

@@ -7,4 +7,4 @@ use Rattle.std.specs.Prelude.{None}
 pub seal-requires : goal.seal-requires
 seal-requires c =
     turned_sealed c.book.result.now.items None (accesses_at c.args.order.now.table c.args.d.0) (Back c.args.d c.args.number) c.args.order.now.line c.rose.new.line
-    c.requires.may.unsealed c.rose.ensures.marks c.rose.ensures.sealed c.requires.may.sealed
+    c.requires.may.unsealed c.device_recovered.ensures.marks c.device_recovered.ensures.sealed c.requires.may.sealed

@@ -3,4 +3,4 @@ use Rattle.lineage_laws.proofs.Statuses.{stand_by_status}
 use Rattle.lineage_table.specs.Lineages.{accesses_at}
 
 pub returns : goal.returns
-returns c = stand_by_status (accesses_at c.args.table.now c.args.d.0) (c.kept.ensures c.args.d.0)
+returns c = stand_by_status (accesses_at c.args.table.now c.args.d.0) (c.kept_invariant.ensures c.args.d.0)

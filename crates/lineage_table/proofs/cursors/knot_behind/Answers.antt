@@ -16,5 +16,5 @@ pub returns-clause-rest : goal.returns-clause-rest
 returns-clause-rest c =
     let ps = c.args.accesses.now.pairs in
     let r = c.in-Some.r.0 in
-    sym (behind_there r c.in_ok-k.k ps (subst (IsKnotOf r ps) c.in_ok-k.was c.knot_near.ensures) c.kept.ensures c.after.result c.after.ensures.behind)
+    sym (behind_there r c.in_ok-k.k ps (subst (IsKnotOf r ps) c.in_ok-k.was c.knot_near.ensures) c.kept_invariant.ensures c.after.result c.after.ensures.behind)
     ∙ ap (λ o. behind_run o (values_of ps)) (sym c.in-Some.is)

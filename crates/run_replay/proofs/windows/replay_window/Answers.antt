@@ -15,7 +15,7 @@ unreachable-requires g c =
       still = c.finish.ensures.stays.window;
       rounds_played = c.play.ensures.stays.rounds;
       rounds_last = c.finish.ensures.stays.rounds;
-    }) c.kept-2.ensures.player.kept c.kept-2.ensures.hub in
+    }) c.kept_invariant-2.ensures.player.kept c.kept_invariant-2.ensures.hub in
     let not_none = sym quiet ∙ c.in-Err-close.ensures.refused in cc
 
 pub returns-clause-replayed : goal.returns-clause-replayed
@@ -23,6 +23,6 @@ returns-clause-replayed g c =
     let D = g.D.Device in
     replayed_so D.shows c.args.hub c.args.turns.now c.args.seed c.args.rounds c.in-Ok.player c.play.new.self c.finish.new.self c.in-Ok-close.closed.0 c.in-Ok-close.closed.1
     (record { opens = c.in-Ok.ensures.opened; plays = c.play.ensures.played; finishes = c.finish.ensures.finished; window = c.play.ensures.stays.window; still = c.finish.ensures.stays.window; rounds_played = c.play.ensures.stays.rounds; rounds_last = c.finish.ensures.stays.rounds })
-    c.kept.ensures c.kept-2.ensures.hub
+    c.kept_invariant.ensures c.kept_invariant-2.ensures.hub
     (c.finish.ensures.stays.plans (plans_of D.shows c.args.hub) (c.play.ensures.stays.plans (plans_of D.shows c.args.hub) (plans_then D.shows c.args.hub c.args.rounds c.in-Ok.player c.in-Ok.ensures.opened)))
     c.in-Ok-close.ensures.closed

@@ -14,5 +14,5 @@ open_window-requires c =
     let few : home.opened ≤ 288 = omega (arith, c.in-Ok-build.ensures.opened) in
     record {
       may = may_open _ script mode 0 window home c.in-Ok.roster
-          (record { sound = c.requires.sound; goes = c.requires.goes; at = at; runs = c.in-Ok.ensures; kept = c.kept.ensures; kinds = c.in-Ok-build.ensures.kinds; opened = few });
+          (record { sound = c.requires.sound; goes = c.requires.goes; at = at; runs = c.in-Ok.ensures; kept = c.kept_invariant.ensures; kinds = c.in-Ok-build.ensures.kinds; opened = few });
     }

@@ -16,5 +16,5 @@ open_window-requires g c =
     let few : home.opened ≤ 288 = omega (arith, new) in
     record {
       may = may_open _ script _ c.args.number window home c.in-Ok.roster
-          (record { sound = c.requires.sound; goes = refl; at = at; runs = runs; kept = c.kept.ensures; kinds = c.requires.kinds; opened = few });
+          (record { sound = c.requires.sound; goes = refl; at = at; runs = runs; kept = c.kept_invariant.ensures; kinds = c.requires.kinds; opened = few });
     }

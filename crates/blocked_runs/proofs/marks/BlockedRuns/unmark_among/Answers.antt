@@ -7,7 +7,7 @@ use Rattle.std.proofs.Common.{arith, sym, ◌<◌, ◌∙◌}
 
 pub overflow_add-from : goal.overflow_add-from
 overflow_add-from c =
-    let low : c.in-Some.d.0 < most_devices = device_below c.in-Some.d.0 most_devices (commands_of (runs_of c.args.roster.now) c.args.r.0) (c.kept.ensures.low_devices c.args.r.0) (sym (c.devices-devices.ensures c.in-Some.d.0) ∙ c.in-Some.ensures.1) in
+    let low : c.in-Some.d.0 < most_devices = device_below c.in-Some.d.0 most_devices (commands_of (runs_of c.args.roster.now) c.args.r.0) (c.kept_invariant.ensures.low_devices c.args.r.0) (sym (c.devices-devices.ensures c.in-Some.d.0) ∙ c.in-Some.ensures.1) in
     omega (arith, low)
 
 pub marked-init : goal.marked-init
@@ -18,7 +18,7 @@ marked-preserved c = left_more _ _ _ (λ e. touches (runs_of c.args.roster.now) 
 
 pub marked-smaller : goal.marked-smaller
 marked-smaller c =
-    let low : c.in-Some.d.0 < most_devices = device_below c.in-Some.d.0 most_devices (commands_of (runs_of c.args.roster.now) c.args.r.0) (c.kept.ensures.low_devices c.args.r.0) (sym (c.devices-devices.ensures c.in-Some.d.0) ∙ c.in-Some.ensures.1) in
+    let low : c.in-Some.d.0 < most_devices = device_below c.in-Some.d.0 most_devices (commands_of (runs_of c.args.roster.now) c.args.r.0) (c.kept_invariant.ensures.low_devices c.args.r.0) (sym (c.devices-devices.ensures c.in-Some.d.0) ∙ c.in-Some.ensures.1) in
     omega (arith, low, c.in-Some.ensures.0)
 
 pub returns : goal.returns

@@ -7,6 +7,6 @@ use Rattle.std.proofs.Common.{ap, arith}
 pub overflow_cast-result : goal.overflow_cast-result
 overflow_cast-result c =
     let low = next_low _ _ c.args.r.0 c.self.invariant in
-    let few = c.kept.ensures.few_commands c.args.r.0 in
+    let few = c.kept_invariant.ensures.few_commands c.args.r.0 in
     let next = ap (λ s. next_of (read_in s) c.args.r.0) c.self.view_is in
     omega (arith, ap (λ p. p.answered) c.progress.ensures, next, low, few)

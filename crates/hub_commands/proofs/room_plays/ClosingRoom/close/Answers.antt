@@ -11,4 +11,4 @@ rooms-preserved g c =
     let more_homes : c.push.new.self.items ≡ c.rooms.homes.items ++ c.in-Some.room.home ∷ [] = search rules in
     let more_windows : c.push-in-Some.new.self.items ≡ c.rooms.windows.items ++ c.in-Some.room.window ∷ [] = search rules in
     taking_goes_on D.shows c.args.done.items c.rooms.backward.items c.pop.new.self.items c.in-Some.room c.rooms.homes c.push.new.self c.rooms.windows c.push-in-Some.new.self
-    c.rooms.invariant c.in-Some.ensures.last c.kept.ensures more_homes (c.push.ensures.used (omega (arith, some, homes_room))) more_windows (c.push-in-Some.ensures.used (omega (arith, some, windows_room)))
+    c.rooms.invariant c.in-Some.ensures.last c.kept_invariant.ensures more_homes (c.push.ensures.used (omega (arith, some, homes_room))) more_windows (c.push-in-Some.ensures.used (omega (arith, some, windows_room)))

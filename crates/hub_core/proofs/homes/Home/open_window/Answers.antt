@@ -9,8 +9,8 @@ use Rattle.hub_core.specs.Bounds.{most_entries}
 use Rattle.hub_core.specs.Homes.{HomeIsKept, setting_for}
 use Rattle.hub_core.specs.HubCalls.{IsOpened}
 use Rattle.hub_core.specs.HubsKept.{HasRoomLeft, HubIsKept}
-use Rattle.window_devices.specs.Away.{HandsAre}
-use Rattle.hub_core.specs.KeptOrders.{OrderIsBeside}
+use Rattle.window_devices.specs.Checkouts.{HeldTokensAre}
+use Rattle.hub_core.specs.OrderStates.{OrderIsBeside}
 use Rattle.hub_core.specs.OpenHubs.{OpenHub, configuration_of}
 use Rattle.std.proofs.Common.{None, ap, arith, length, replicate, subst, sym, ◌<◌, ◌∙◌, ◌≤◌}
 use Rattle.std.proofs.lemmas.List.{length-map}
@@ -34,12 +34,12 @@ empty-requires g c =
 -- the hub of a window that opens, which is kept and has its room
 pub invariant_of-result : goal.invariant_of-result
 invariant_of-result g c =
-    let same = is_first_hub c.args.self c.args.roster c.args.mode c.args.rounds c.in-Ok-behind_gate.home.away.known.items _ _ _ _ _ _ _ _
+    let same = is_first_hub c.args.self c.args.roster c.args.mode c.args.rounds c.in-Ok-behind_gate.home.checkouts.known.items _ _ _ _ _ _ _ _
     (seen_home c.args.self _ _ _ c.in-Ok-behind_gate.ensures.kinds c.in-Ok-behind_gate.ensures.world c.in-Ok-behind_gate.ensures.opened)
     (setting_of_indexed _ _ _ _ _ _ c.empty.ensures.setting c.in-Ok-open.ensures) c.empty.ensures.history c.in-Ok-behind_gate.ensures.places
     c.in-Ok-behind_gate.ensures.tickets in
     let kept : HomeIsKept g.D.Device.shows c.args.self = c.behind_gate.ensures.kept in
-    let opens : Opens g.D.Device.shows c.args.self c.args.roster c.args.mode c.args.rounds c.in-Ok-behind_gate.home.away.known.items = record { kept = kept; may = c.requires.may; knows = c.in-Ok-behind_gate.ensures.known } in
+    let opens : Opens g.D.Device.shows c.args.self c.args.roster c.args.mode c.args.rounds c.in-Ok-behind_gate.home.checkouts.known.items = record { kept = kept; may = c.requires.may; knows = c.in-Ok-behind_gate.ensures.known } in
     let enough : most_entries (length c.args.roster.runs.items) (length c.args.self.world) c.args.rounds ≤ c.empty.result.spare = omega (arith, c.empty.ensures.spare, c.in-Ok.ensures.book.1) in
     record {
       shown = subst (λ (t : OpenHub g.row.D.Denot). HubIsKept g.D.Device.shows t) (sym same) (first_kept _ c.args.self c.args.roster c.args.mode _ _ opens);
@@ -48,8 +48,8 @@ invariant_of-result g c =
           c.in-Ok.room.closing) (sym same) (first_room c.args.self c.args.roster c.args.mode c.args.rounds _ _ kept.size enough c.in-Ok.ensures.closing);
       order = subst (λ (t : OpenHub g.row.D.Denot). OrderIsBeside c.args.rounds (record { setting = t.setting; history = t.history; spare = c.empty.result.spare }) (configuration_of t).grips c.in-Ok.room.state.order.line c.in-Ok.room.state.order.table) (sym same)
           (first_order _ c.args.self c.args.roster c.args.mode c.args.rounds c.empty.result.spare _ _ _ opens c.in-Ok.ensures.order);
-      hands = subst (λ (t : OpenHub g.row.D.Denot). HandsAre t.setting (configuration_of t).grips c.in-Ok-behind_gate.home.away.hands.items) (sym same)
-          (first_hands _ c.args.self c.args.roster c.args.mode c.args.rounds _ _ opens (c.in-Ok-behind_gate.ensures.hands ∙ ap (λ n. replicate n None) c.len-runs.ensures));
+      held_tokens = subst (λ (t : OpenHub g.row.D.Denot). HeldTokensAre t.setting (configuration_of t).grips c.in-Ok-behind_gate.home.checkouts.held_tokens.items) (sym same)
+          (first_hands _ c.args.self c.args.roster c.args.mode c.args.rounds _ _ opens (c.in-Ok-behind_gate.ensures.held_tokens ∙ ap (λ n. replicate n None) c.len-runs.ensures));
     }
 
 -- no run is marked as blocked
@@ -65,9 +65,9 @@ invariant_of-result-in-Ok-behind_gate g c = record {
 pub returns-in-Ok-behind_gate-clause-opened : goal.returns-in-Ok-behind_gate-clause-opened
 returns-in-Ok-behind_gate-clause-opened g c =
     let kept : HomeIsKept g.D.Device.shows c.args.self = c.behind_gate.ensures.kept in
-    let opens : Opens g.D.Device.shows c.args.self c.args.roster c.args.mode c.args.rounds c.in-Ok-behind_gate.home.away.known.items = record { kept = kept; may = c.requires.may; knows = c.in-Ok-behind_gate.ensures.known } in
+    let opens : Opens g.D.Device.shows c.args.self c.args.roster c.args.mode c.args.rounds c.in-Ok-behind_gate.home.checkouts.known.items = record { kept = kept; may = c.requires.may; knows = c.in-Ok-behind_gate.ensures.known } in
     subst (λ (t : OpenHub g.row.D.Denot). IsOpened g.D.Device.shows (setting_for c.args.self c.args.roster c.args.mode) c.args.rounds c.args.self t)
-    (sym (is_first_hub c.args.self c.args.roster c.args.mode c.args.rounds c.in-Ok-behind_gate.home.away.known.items _ _ _ _ _ _ _ _
+    (sym (is_first_hub c.args.self c.args.roster c.args.mode c.args.rounds c.in-Ok-behind_gate.home.checkouts.known.items _ _ _ _ _ _ _ _
     (seen_home c.args.self _ _ _ c.in-Ok-behind_gate.ensures.kinds c.in-Ok-behind_gate.ensures.world c.in-Ok-behind_gate.ensures.opened)
     (setting_of_indexed _ _ _ _ _ _ c.empty.ensures.setting c.in-Ok-open.ensures) c.empty.ensures.history c.in-Ok-behind_gate.ensures.places
     c.in-Ok-behind_gate.ensures.tickets))

@@ -19,7 +19,7 @@ invariant_of-self-else-is_weak g c = record {
   marks =
       marks_given g.D.Device.shows c.self.inside.window c.give.new.self c.args.moment c.args.grip
       c.in-Ok.made _ _ (model_before c.self.inside.window c.give.new.self false c.give.ensures.window (sym c.if-is_weak.ensures))
-      (sym c.if-is_weak.ensures) c.whole.ensures c.whole-in-Ok.ensures
+      (sym c.if-is_weak.ensures) c.whole_invariant.ensures c.whole_invariant-in-Ok.ensures
       (subst (λ made. IsGiven c.self.inside.window c.args.grip c.args.moment made c.give.new.self) c.in-Ok.is c.give.ensures.given) c.self.invariant.marks
       (subst (λ (x : Slip). AreLeft c.self.inside.blocked c.free_back.new.blocked (λ e. IsAnsweredStill (configuration_of c.give.new.self) x.device.0
       c.in-Ok.made ⊎ ((e ≢ x.device.0) × (list_all (is_quiet c.give.new.self.setting e) c.in-Ok.made ≡ true)))) c.slip.ensures
@@ -35,6 +35,6 @@ invariant_of-self g c = record {
 
 pub returns-after-is_weak-clause-sealed : goal.returns-after-is_weak-clause-sealed
 returns-after-is_weak-clause-sealed g c = elim c.if-is_weak.branch [
-  | then-is_weak w ↦ seen_so c.self.view_is w.self-is (given_sealed g.D.Device.shows c.self.inside.window c.give.new.self c.args.grip c.args.moment c.give.result c.give.ensures.given c.whole-in-Ok.ensures)
-  | else-is_weak w ↦ seen_so c.self.view_is w.self-is (given_sealed g.D.Device.shows c.self.inside.window c.give.new.self c.args.grip c.args.moment c.give.result c.give.ensures.given c.whole-in-Ok.ensures)
+  | then-is_weak w ↦ seen_so c.self.view_is w.self-is (given_sealed g.D.Device.shows c.self.inside.window c.give.new.self c.args.grip c.args.moment c.give.result c.give.ensures.given c.whole_invariant-in-Ok.ensures)
+  | else-is_weak w ↦ seen_so c.self.view_is w.self-is (given_sealed g.D.Device.shows c.self.inside.window c.give.new.self c.args.grip c.args.moment c.give.result c.give.ensures.given c.whole_invariant-in-Ok.ensures)
 ]

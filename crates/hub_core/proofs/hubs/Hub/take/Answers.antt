@@ -17,7 +17,7 @@ invariant_of-self g c = record {
   marks =
       marks_goes g.D.Device.shows c.self.inside.window c.hand_out-grip.new.self c.args.r.0 c.args.moment _
       _ _ (sym c.if-not-is_weak.ensures) (ap (λ (w : Setting). is_weak w.mode) c.hand_out-grip.ensures.window.setting ∙ sym c.if-not-is_weak.ensures)
-      c.whole.ensures c.whole-in-HandsOut.ensures c.hand_out-grip.ensures.out c.self.invariant.marks
+      c.whole_invariant.ensures c.whole_invariant-in-HandsOut.ensures c.hand_out-grip.ensures.out c.self.invariant.marks
       (subst (λ (x : Slip). AreLeft c.self.inside.blocked c.free_going.new.blocked
       (λ e. is_out_for_command (configuration_of c.hand_out-grip.new.self) x.device.0 ≡ false → e ≢ x.device.0)) c.slip.ensures c.free_going.ensures);
   scratch = still_for c.self.inside.window c.hand_out-grip.new.self c.self.inside.scratch c.decide-chosen.new.scratch c.decide-chosen.ensures.size c.hand_out-grip.ensures.window c.self.invariant.scratch;
@@ -27,13 +27,13 @@ pub invariant_of-self-then-not-is_weak-2 : goal.invariant_of-self-then-not-is_we
 invariant_of-self-then-not-is_weak-2 g c = record {
   marks =
       marks_wait g.D.Device.shows c.self.inside.window c.wait.new.self c.args.r.0 c.args.moment _ _ _
-      (sym c.if-not-is_weak-2.ensures) (ap (λ (w : Setting). is_weak w.mode) c.wait.ensures.window.setting ∙ sym c.if-not-is_weak-2.ensures) c.whole.ensures
-      c.whole-in-Waits.ensures c.wait.ensures.turn.0 c.self.invariant.marks c.mark_waiting.ensures;
+      (sym c.if-not-is_weak-2.ensures) (ap (λ (w : Setting). is_weak w.mode) c.wait.ensures.window.setting ∙ sym c.if-not-is_weak-2.ensures) c.whole_invariant.ensures
+      c.whole_invariant-in-Waits.ensures c.wait.ensures.turn.0 c.self.invariant.marks c.mark_waiting.ensures;
   scratch = still_for c.self.inside.window c.wait.new.self c.self.inside.scratch c.decide-chosen.new.scratch c.decide-chosen.ensures.size c.wait.ensures.window c.self.invariant.scratch;
 }
 
 pub returns-in-Waits-clause-sealed : goal.returns-in-Waits-clause-sealed
-returns-in-Waits-clause-sealed g c = seen_so c.self.view_is (λ i. c.wait.new.self) (turn_sealed g.D.Device.shows c.self.inside.window c.wait.new.self c.args.r.0 c.args.moment (Wait c.in-Waits.why) c.wait.ensures.turn c.whole-in-Waits.ensures)
+returns-in-Waits-clause-sealed g c = seen_so c.self.view_is (λ i. c.wait.new.self) (turn_sealed g.D.Device.shows c.self.inside.window c.wait.new.self c.args.r.0 c.args.moment (Wait c.in-Waits.why) c.wait.ensures.turn c.whole_invariant-in-Waits.ensures)
 
 pub returns-in_default-clause-earliest : goal.returns-in_default-clause-earliest
 returns-in_default-clause-earliest g c = subst (λ (s : OpenHub g.row.D.Denot). PlansEarliest (configuration_of s) c.args.r.0 c.make_step.result) c.self.view_is

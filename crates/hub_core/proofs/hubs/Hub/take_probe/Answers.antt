@@ -11,7 +11,7 @@ invariant_of-self-else-is_weak g c = record {
   marks =
       marks_probed g.D.Device.shows c.self.inside.window c.take_probe.new.self c.args.d.0 _ _ _
       (model_before c.self.inside.window c.take_probe.new.self false c.take_probe.ensures.window (sym c.if-is_weak.ensures))
-      (sym c.if-is_weak.ensures) c.whole.ensures c.whole-in-Some.ensures c.take_probe.ensures.probed c.self.invariant.marks c.unmark_at.ensures;
+      (sym c.if-is_weak.ensures) c.whole_invariant.ensures c.whole_invariant-in-Some.ensures c.take_probe.ensures.probed c.self.invariant.marks c.unmark_at.ensures;
   scratch = kept_for c.self.inside.window c.take_probe.new.self c.self.inside.scratch c.take_probe.ensures.window c.self.invariant.scratch;
 }
 

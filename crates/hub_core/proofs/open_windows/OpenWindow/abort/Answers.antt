@@ -26,7 +26,7 @@ withdraw-requires-clause-live g c =
 pub withdraw-requires-clause-finished : goal.withdraw-requires-clause-finished
 withdraw-requires-clause-finished g c =
     let ends = aborting _ _ _ _ c.args.r.0 c.args.moment c.args.cause c.self.invariant.shown.configuration (chosen_here c.self.inside c.args.self.now c.args.r.0 c.args.moment (Aborts c.args.cause) c.self.view_is c.requires) in
-    hub_finished c.self.inside c.args.r.0 c.args.moment c.args.cause c.kept.ensures ends c.self.invariant
+    hub_finished c.self.inside c.args.r.0 c.args.moment c.args.cause c.kept_invariant.ensures ends c.self.invariant
 
 pub push-requires-clause-room : goal.push-requires-clause-room
 push-requires-clause-room g c = has_place c.self.inside c.args.r.0 c.args.moment _ (Ending (Aborted c.args.cause)) (chosen_here c.self.inside c.args.self.now c.args.r.0 c.args.moment (Aborts c.args.cause) c.self.view_is c.requires) c.self.invariant

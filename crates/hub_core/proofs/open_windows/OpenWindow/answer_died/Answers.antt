@@ -106,7 +106,7 @@ invariant_of-self g c =
 
 pub returns : goal.returns
 returns g c =
-    let t : Inside g.row.D.Denot = record c.self.inside { history = c.doom_for-doomed.new.history; moment = c.max-self-inside.result; away = c.come_home-came.new.self; order = c.doom_for-doomed.new.order } in
+    let t : Inside g.row.D.Denot = record c.self.inside { history = c.doom_for-doomed.new.history; moment = c.max-self-inside.result; checkouts = c.come_home-came.new.self; order = c.doom_for-doomed.new.order } in
     let back : CameHome g.D.Device.shows c.self.inside t (Commands c.args.k) c.args.grip (death_entries c.slip-slip.result c.args.k c.died_by-cause.result) =
     died_back c.self.inside t c.args.k c.args.grip c.slip-slip.result c.come_home-came.result.events c.is_first-first.result c.died_by-cause.result
     c.note_fall-fell.new.history c.push.new.self (grip_back c.self.inside c.args.self.now

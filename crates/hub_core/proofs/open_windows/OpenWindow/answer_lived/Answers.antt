@@ -116,7 +116,7 @@ invariant_of-self g c =
 
 pub returns : goal.returns
 returns g c =
-    let t : Inside g.row.D.Denot = record c.self.inside { history = c.doom_for-doomed.new.history; moment = c.max-self-inside.result; away = c.come_home-came.new.self; order = c.doom_for-doomed.new.order } in
+    let t : Inside g.row.D.Denot = record c.self.inside { history = c.doom_for-doomed.new.history; moment = c.max-self-inside.result; checkouts = c.come_home-came.new.self; order = c.doom_for-doomed.new.order } in
     let back : CameHome g.D.Device.shows c.self.inside t (Commands c.args.k) c.args.grip (answer_entries c.slip-slip.result.maker c.args.k c.answer-answer.result c.refuted-cause.result) =
     answered_back c.self.inside t c.args.k c.args.grip c.slip-slip.result c.answer-answer.result c.refuted-cause.result c.push.new.self (grip_back c.self.inside c.args.self.now (Commands c.args.k) c.args.grip c.self.view_is c.requires.kept c.requires.purpose c.come_home-came.ensures.called)
     (record { later = omega (arith, c.max-self-inside.ensures); home = c.come_home-came.ensures.home; new = refl })

@@ -29,7 +29,7 @@ invariant_of-self g c =
 
 pub returns : goal.returns
 returns g c =
-    let t : Inside g.row.D.Denot = record c.self.inside { history = c.note_rise.new.history; away = c.come_home-came.new.self; order = c.note_rise.new.order } in
+    let t : Inside g.row.D.Denot = record c.self.inside { history = c.note_rise.new.history; checkouts = c.come_home-came.new.self; order = c.note_rise.new.order } in
     let made = risen_given c.self.inside t c.args.self.now c.args.grip c.slip.result c.come_home-came.result.events c.one_made.result
     (record { seen = c.self.view_is; there = c.requires.kept; maker = c.requires.maker; called = c.come_home-came.ensures.called; same = c.slip.ensures })
     (record { down = c.requires.down; lives = c.requires.lives; events_are = c.come_home-came.ensures.events })

@@ -62,7 +62,7 @@ invariant_of-self g c =
 
 pub returns : goal.returns
 returns g c =
-    let t : Inside g.row.D.Denot = record c.self.inside { history = c.doom_lost-doomed.new.history; away = c.come_home-came.new.self; order = c.doom_lost-doomed.new.order } in
+    let t : Inside g.row.D.Denot = record c.self.inside { history = c.doom_lost-doomed.new.history; checkouts = c.come_home-came.new.self; order = c.doom_lost-doomed.new.order } in
     let made = fallen_given c.self.inside t c.args.self.now c.args.grip c.slip.result c.come_home-came.result.events c.note_fall-fell.result.lost
     c.note_fall-fell.new.history c.note_fall-fell.new.order (entries_made (record { a = Some c.note_fall-fell.result.entry; b = c.doom_lost-doomed.result; c = None }))
     (record { seen = c.self.view_is; there = c.requires.kept; maker = c.requires.maker; called = c.come_home-came.ensures.called; same = c.slip.ensures })

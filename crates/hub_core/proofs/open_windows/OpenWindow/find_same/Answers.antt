@@ -14,7 +14,7 @@ invariant_of-self g c =
 
 pub returns : goal.returns
 returns g c =
-    let t : Inside g.row.D.Denot = record c.self.inside { away = c.come_home.new.self } in
+    let t : Inside g.row.D.Denot = record c.self.inside { checkouts = c.come_home.new.self } in
     let made = same_given c.self.inside t c.args.self.now c.args.grip c.args.grip.slip [] (record { seen = c.self.view_is; there = c.requires.kept; maker = c.requires.maker; called = c.come_home.ensures.called; same = refl }) c.requires.same
     (record { later = omega arith; home = c.come_home.ensures.home; new = refl }) refl refl refl c.self.invariant in
     record { given = made.given; window = made.window }

@@ -12,11 +12,11 @@ use Rattle.std.specs.Prelude.{◌-◌}
 pub unwrap-requires : goal.unwrap-requires
 unwrap-requires g c =
     let place = run_place c.self.inside.history.setting.runs c.args.r.0 (ap (λ s. is_run s.setting.runs c.args.r.0) c.self.view_is ∙ c.requires) in
-    is_there c.self.inside.away.hands.items (c.args.r.0 - 1) _ (omega (arith, place.1, c.self.invariant.hands.size)) c.get.ensures
+    is_there c.self.inside.checkouts.held_tokens.items (c.args.r.0 - 1) _ (omega (arith, place.1, c.self.invariant.held_tokens.size)) c.get.ensures
 
 pub returns : goal.returns
 returns g c =
     let place = run_place c.self.inside.history.setting.runs c.args.r.0 (ap (λ s. is_run s.setting.runs c.args.r.0) c.self.view_is ∙ c.requires) in
-    c.self.invariant.hands.each (c.args.r.0 - 1) _ (sym c.get.ensures ∙ ap option_copied c.unwrap.ensures)
+    c.self.invariant.held_tokens.each (c.args.r.0 - 1) _ (sym c.get.ensures ∙ ap option_copied c.unwrap.ensures)
     ∙ ap (grip_wait c.self.inside.history.setting (configuration_of (open_of c.self.inside)).grips) (sym place.0)
     ∙ ap (λ s. grip_wait s.setting (configuration_of s).grips c.args.r.0) c.self.view_is

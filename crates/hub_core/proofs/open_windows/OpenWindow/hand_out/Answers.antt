@@ -28,7 +28,7 @@ send-requires g c = record {
 
 pub invariant_of-self : goal.invariant_of-self
 invariant_of-self g c =
-    let t : Inside g.row.D.Denot = record c.self.inside { moment = c.max-self-inside.result; away = c.send.new.self; order = c.touch.new.self } in
+    let t : Inside g.row.D.Denot = record c.self.inside { moment = c.max-self-inside.result; checkouts = c.send.new.self; order = c.touch.new.self } in
     let handed : IsHanded g.D.Device.shows c.self.inside t c.args.r.0 c.args.moment c.args.d.0 c.args.purpose c.known-known.result c.task-task.result c.send.result = record {
       chosen = chosen_here c.self.inside c.args.self.now c.args.r.0 c.args.moment (HandsOut c.args.d c.args.purpose) c.self.view_is c.requires;
       does = c.task-task.ensures ∙ ap (λ s. task_of (configuration_of s) c.args.r.0 c.args.purpose) (sym c.self.view_is);
@@ -41,7 +41,7 @@ invariant_of-self g c =
 
 pub returns : goal.returns
 returns g c =
-    let t : Inside g.row.D.Denot = record c.self.inside { moment = c.max-self-inside.result; away = c.send.new.self; order = c.touch.new.self } in
+    let t : Inside g.row.D.Denot = record c.self.inside { moment = c.max-self-inside.result; checkouts = c.send.new.self; order = c.touch.new.self } in
     let handed : IsHanded g.D.Device.shows c.self.inside t c.args.r.0 c.args.moment c.args.d.0 c.args.purpose c.known-known.result c.task-task.result c.send.result = record {
       chosen = chosen_here c.self.inside c.args.self.now c.args.r.0 c.args.moment (HandsOut c.args.d c.args.purpose) c.self.view_is c.requires;
       does = c.task-task.ensures ∙ ap (λ s. task_of (configuration_of s) c.args.r.0 c.args.purpose) (sym c.self.view_is);

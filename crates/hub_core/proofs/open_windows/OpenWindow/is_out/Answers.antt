@@ -7,5 +7,5 @@ use Rattle.std.proofs.Common.{ap, ◌∙◌}
 
 pub returns : goal.returns
 returns g c =
-    c.is_some.ensures ∙ out_by_slip _ (progress_at c.self.inside.away.known.items c.args.d.0).purpose c.slip.result c.slip.ensures
+    c.is_some.ensures ∙ out_by_slip _ (progress_at c.self.inside.checkouts.known.items c.args.d.0).purpose c.slip.result c.slip.ensures
     ∙ ap (λ s. is_out (configuration_of s).grips c.args.d.0) c.self.view_is

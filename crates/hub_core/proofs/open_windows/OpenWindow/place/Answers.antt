@@ -4,7 +4,7 @@ use Rattle.hub_core.proofs.calls.HubChanges.{Going, chosen_here, follows_here, h
 use Rattle.hub_core.proofs.calls.HubOrders.{hub_arranged, hub_arranges, hub_joins, hub_known, joins_behind, joins_planned, joins_whole, joins_within, line_place, marks_then}
 use Rattle.hub_core.proofs.kept.Arranged.{long_arranged}
 use Rattle.hub_core.proofs.open_windows.OpenWindow.place.Goals as goal
-use Rattle.window_order.specs.KeptOrders.{MayArrange, scheduled_with}
+use Rattle.window_order.specs.OrderStates.{MayArrange, scheduled_with}
 use Rattle.history_book.specs.Plans.{planned_times}
 use Rattle.history_book.specs.ReadHistories.{read_in, with_entry}
 use Rattle.hub_core.specs.declared.decisions.Chosen.TheVariants.{Joins}

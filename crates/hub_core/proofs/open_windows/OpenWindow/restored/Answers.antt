@@ -11,4 +11,4 @@ returns-then-is_weak g c =
     (sym c.if-is_weak.ensures) c.self.invariant
 
 pub returns-else-is_weak : goal.returns-else-is_weak
-returns-else-is_weak g c = restores c.self.inside c.args.self.now c.args.d.0 c.stand.result c.is_up.result c.self.view_is c.kept.ensures c.requires c.is_up.ensures c.if-is_up.false c.stand.ensures (sym c.if-is_weak.ensures) c.self.invariant
+returns-else-is_weak g c = restores c.self.inside c.args.self.now c.args.d.0 c.stand.result c.is_up.result c.self.view_is c.kept_invariant.ensures c.requires c.is_up.ensures c.if-is_up.false c.stand.ensures (sym c.if-is_weak.ensures) c.self.invariant

@@ -20,7 +20,7 @@ invariant_of-self g c = sent_whole c.self.inside _ c.args.d.0 c.restored-value.r
 
 pub returns : goal.returns
 returns g c =
-    let t : Inside g.row.D.Denot = record c.self.inside { away = c.send.new.self } in
+    let t : Inside g.row.D.Denot = record c.self.inside { checkouts = c.send.new.self } in
     let made = probe_sent c.self.inside t c.args.self.now c.args.d.0 c.restored-value.result c.known-known.result c.send.result c.self.view_is (record {
       may = ap (λ s. may_probe (configuration_of s) c.args.d.0) c.self.view_is ∙ c.requires;
       value_is = c.restored-value.ensures ∙ ap (λ s. restored (configuration_of s) c.args.d.0) (sym c.self.view_is);

@@ -57,7 +57,7 @@ invariant_of-self g c =
 pub returns : goal.returns
 returns g c =
     let value = undone_value (progress_at c.args.self.now.devices c.args.grip.slip.device.0).purpose c.requires.purpose in
-    let t : Inside g.row.D.Denot = record c.self.inside { history = c.push.new.self; moment = c.max-self-inside.result; away = c.come_home-came.new.self; order = c.note_fall-fell.new.order } in
+    let t : Inside g.row.D.Denot = record c.self.inside { history = c.push.new.self; moment = c.max-self-inside.result; checkouts = c.come_home-came.new.self; order = c.note_fall-fell.new.order } in
     let back : CameHome g.D.Device.shows c.self.inside t (Undoes value.0) c.args.grip (dropped_entries c.slip-slip.result) =
     dropped_back c.self.inside t value.0 c.args.grip c.slip-slip.result c.come_home-came.result.events c.note_fall-fell.new.history (grip_back c.self.inside c.args.self.now (Undoes value.0) c.args.grip c.self.view_is c.requires.kept value.1 c.come_home-came.ensures.called)
     (record { later = omega (arith, c.max-self-inside.ensures); home = c.come_home-came.ensures.home; new = refl })

@@ -29,7 +29,7 @@ invariant_of-self g c =
 pub returns : goal.returns
 returns g c =
     let value = undone_value (progress_at c.args.self.now.devices c.args.grip.slip.device.0).purpose c.requires.purpose in
-    let t : Inside g.row.D.Denot = record c.self.inside { history = c.push.new.self; moment = c.max-self-inside.result; away = c.come_home.new.self } in
+    let t : Inside g.row.D.Denot = record c.self.inside { history = c.push.new.self; moment = c.max-self-inside.result; checkouts = c.come_home.new.self } in
     let back = undone_back c.self.inside t value.0 c.args.grip c.slip-slip.result (grip_back c.self.inside c.args.self.now (Undoes value.0) c.args.grip c.self.view_is c.requires.kept value.1 c.come_home.ensures.called)
     (record { later = omega (arith, c.max-self-inside.ensures); home = c.come_home.ensures.home; new = refl }) c.slip-slip.ensures c.requires.lives c.push.ensures in
     let made = back_given c.self.inside t c.args.self.now c.args.moment (Undoes value.0) c.args.grip _ c.one_made.result c.self.view_is c.requires.maker c.max-self-inside.ensures back c.one_made.ensures c.self.invariant in

@@ -5,4 +5,4 @@ use Rattle.std.specs.Prelude.{length}
 
 pub invariant_of-result : goal.invariant_of-result
 invariant_of-result g c = opens c.in-Ok-open_window.hub.places c.args.home.devices c.empty_hands-grips.result.items c.in-Ok-open_window.ensures.opened.places c.empty_hands-grips.ensures.empty
-    (omega (arith, c.empty_hands-grips.ensures.count, c.len-count.ensures, ap (λ w. length w) c.world.ensures.world, c.kept.ensures.size))
+    (omega (arith, c.empty_hands-grips.ensures.count, c.len-count.ensures, ap (λ w. length w) c.world.ensures.world, c.kept_invariant.ensures.size))

@@ -30,4 +30,4 @@ pub returns-in-Some-clause-stood : goal.returns-in-Some-clause-stood
 returns-in-Some-clause-stood g c =
     subst (λ hub. StoodInOrder hub c.slip-slip.result c.task-task.result) c.self.view_is
     (subst₂ (λ x y. StoodInOrder c.self.inside.hub x y) (sym c.slip-slip.ensures) (sym c.task-task.ensures)
-    (probes_in_order _ c.self.inside.hub c.take_probe.new.self c.args.d.0 c.in-Some.grip c.kept.ensures c.in-Some.ensures.probed c.kept-in-Some.ensures))
+    (probes_in_order _ c.self.inside.hub c.take_probe.new.self c.args.d.0 c.in-Some.grip c.kept_invariant.ensures c.in-Some.ensures.probed c.kept_invariant-in-Some.ensures))

@@ -14,4 +14,4 @@ pub returns-in-Go-clause-stood : goal.returns-in-Go-clause-stood
 returns-in-Go-clause-stood g c =
     subst (λ hub. StoodInOrder hub c.slip-slip.result c.task-task.result) c.self.view_is
     (subst₂ (λ x y. StoodInOrder c.self.inside.hub x y) (sym c.slip-slip.ensures) (sym c.task-task.ensures)
-    (goes_in_order _ c.self.inside.hub c.take.new.self c.args.r.0 c.args.moment c.in-Go.grip c.kept.ensures c.in-Go.ensures.turn c.kept-in-Go.ensures))
+    (goes_in_order _ c.self.inside.hub c.take.new.self c.args.r.0 c.args.moment c.in-Go.grip c.kept_invariant.ensures c.in-Go.ensures.turn c.kept_invariant-in-Go.ensures))

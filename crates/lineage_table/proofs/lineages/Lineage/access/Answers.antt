@@ -15,4 +15,4 @@ pub returns : goal.returns
 returns c =
     let r = c.args.r.0 in
     let ps = c.self.inside.accesses.pairs in
-    read r c.in_ok-k.k ps (subst (IsKnotOf r ps) c.in_ok-k.was c.knot_of.ensures) c.kept.ensures c.get.result.now c.get.ensures ∙ ap (λ v. access_of r v.accesses) c.self.view_is
+    read r c.in_ok-k.k ps (subst (IsKnotOf r ps) c.in_ok-k.was c.knot_of.ensures) c.kept_invariant.ensures c.get.result.now c.get.ensures ∙ ap (λ v. access_of r v.accesses) c.self.view_is

@@ -25,10 +25,10 @@ writer_with-self-inside-requires c = λ only.
     let cut = c.knot_in_turn-waits.ensures.knot in
     let x = c.get_mut-access.result.now in
     let i = length (values_of cut.front) in
-    let at = at_now r c.knot_in_turn-waits.result.0 ps cut c.kept.ensures c.args.self.now.accesses (ap (λ v. v.accesses) c.self.view_is) in
-    let is = read_in_place r c.knot_in_turn-waits.result.0 ps cut c.kept.ensures x c.get_mut-access.ensures.value in
+    let at = at_now r c.knot_in_turn-waits.result.0 ps cut c.kept_invariant.ensures c.args.self.now.accesses (ap (λ v. v.accesses) c.self.view_is) in
+    let is = read_in_place r c.knot_in_turn-waits.result.0 ps cut c.kept_invariant.ensures x c.get_mut-access.ensures.value in
     keeps_written _ c.args.self.now c.self.inside.writer c.self.view_is c.self.invariant c.args.r i c.in-Some.field-0 x (answered_access c.args.view c.args.wrote c.args.is_last) at is (λ y. ap (λ o. option_or o y.wrote) c.in-Some.is) (λ y. refl) only
-    ∙ sym (ap effective_writer (set_in_place r c.knot_in_turn-waits.result.0 ps cut c.kept.ensures c.answered.result ∙ ap (slice_set (values_of ps) i) c.answered.ensures))
+    ∙ sym (ap effective_writer (set_in_place r c.knot_in_turn-waits.result.0 ps cut c.kept_invariant.ensures c.answered.result ∙ ap (slice_set (values_of ps) i) c.answered.ensures))
 
 pub invariant_of-self : goal.invariant_of-self
 invariant_of-self c =
@@ -37,9 +37,9 @@ invariant_of-self c =
     let cut = c.knot_in_turn-waits.ensures.knot in
     let x = c.get_mut-access.result.now in
     let i = length (values_of cut.front) in
-    let at = at_now r c.knot_in_turn-waits.result.0 ps cut c.kept.ensures c.args.self.now.accesses (ap (λ v. v.accesses) c.self.view_is) in
-    let is = read_in_place r c.knot_in_turn-waits.result.0 ps cut c.kept.ensures x c.get_mut-access.ensures.value in
-    let set = set_in_place r c.knot_in_turn-waits.result.0 ps cut c.kept.ensures c.answered.result in
+    let at = at_now r c.knot_in_turn-waits.result.0 ps cut c.kept_invariant.ensures c.args.self.now.accesses (ap (λ v. v.accesses) c.self.view_is) in
+    let is = read_in_place r c.knot_in_turn-waits.result.0 ps cut c.kept_invariant.ensures x c.get_mut-access.ensures.value in
+    let set = set_in_place r c.knot_in_turn-waits.result.0 ps cut c.kept_invariant.ensures c.answered.result in
     record {
       turns = subst IsDisciplined (sym set) (answers _ c.args.self.now r i x c.answered.result c.self.view_is c.self.invariant.turns at is c.requires
           (sym (sym c.if-waits.false ∙ c.knot_in_turn-waits.ensures.waits ∙ ap (λ v. some_scheduled (accesses_before r v.accesses)) c.self.view_is)) (ap (λ (z : Access). z.run.0) c.answered.ensures));
@@ -64,7 +64,7 @@ returns-clause-noted c =
     let cut = c.knot_in_turn-waits.ensures.knot in
     let x = c.get_mut-access.result.now in
     let i = length (values_of cut.front) in
-    let at = at_now r c.knot_in_turn-waits.result.0 ps cut c.kept.ensures c.args.self.now.accesses (ap (λ v. v.accesses) c.self.view_is) in
-    let is = read_in_place r c.knot_in_turn-waits.result.0 ps cut c.kept.ensures x c.get_mut-access.ensures.value in
-    ap (λ l. record { committed = c.self.inside.committed; accesses = l; room = c.self.inside.accesses.spare; up = c.self.inside.up }) (set_in_place r c.knot_in_turn-waits.result.0 ps cut c.kept.ensures c.answered.result ∙ ap (slice_set (values_of ps) i) c.answered.ensures)
+    let at = at_now r c.knot_in_turn-waits.result.0 ps cut c.kept_invariant.ensures c.args.self.now.accesses (ap (λ v. v.accesses) c.self.view_is) in
+    let is = read_in_place r c.knot_in_turn-waits.result.0 ps cut c.kept_invariant.ensures x c.get_mut-access.ensures.value in
+    ap (λ l. record { committed = c.self.inside.committed; accesses = l; room = c.self.inside.accesses.spare; up = c.self.inside.up }) (set_in_place r c.knot_in_turn-waits.result.0 ps cut c.kept_invariant.ensures c.answered.result ∙ ap (slice_set (values_of ps) i) c.answered.ensures)
     ∙ changed_state _ c.args.self.now r i x (answered_access c.args.view c.args.wrote c.args.is_last) c.self.view_is at is

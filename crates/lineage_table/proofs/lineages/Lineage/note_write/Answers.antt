@@ -18,10 +18,10 @@ writer_with-self-inside-requires c = λ only.
     let cut = c.knot-k.ensures in
     let x = c.get_mut.result.now in
     let i = length (values_of cut.front) in
-    let at = at_now r c.knot-k.result ps cut c.kept.ensures c.args.self.now.accesses (ap (λ v. v.accesses) c.self.view_is) in
-    let is = read_in_place r c.knot-k.result ps cut c.kept.ensures x c.get_mut.ensures.value in
+    let at = at_now r c.knot-k.result ps cut c.kept_invariant.ensures c.args.self.now.accesses (ap (λ v. v.accesses) c.self.view_is) in
+    let is = read_in_place r c.knot-k.result ps cut c.kept_invariant.ensures x c.get_mut.ensures.value in
     keeps_written _ c.args.self.now c.self.inside.writer c.self.view_is c.self.invariant c.args.r i c.args.v x (λ (z : Access). record z { wrote = Some c.args.v }) at is (λ z. refl) (λ z. refl) only
-    ∙ sym (ap effective_writer (set_in_place r c.knot-k.result ps cut c.kept.ensures ((λ (z : Access). record z { wrote = Some c.args.v }) x)))
+    ∙ sym (ap effective_writer (set_in_place r c.knot-k.result ps cut c.kept_invariant.ensures ((λ (z : Access). record z { wrote = Some c.args.v }) x)))
 
 pub invariant_of-self : goal.invariant_of-self
 invariant_of-self c =
@@ -30,10 +30,10 @@ invariant_of-self c =
     let cut = c.knot-k.ensures in
     let x = c.get_mut.result.now in
     let i = length (values_of cut.front) in
-    let at = at_now r c.knot-k.result ps cut c.kept.ensures c.args.self.now.accesses (ap (λ v. v.accesses) c.self.view_is) in
-    let is = read_in_place r c.knot-k.result ps cut c.kept.ensures x c.get_mut.ensures.value in
+    let at = at_now r c.knot-k.result ps cut c.kept_invariant.ensures c.args.self.now.accesses (ap (λ v. v.accesses) c.self.view_is) in
+    let is = read_in_place r c.knot-k.result ps cut c.kept_invariant.ensures x c.get_mut.ensures.value in
     record {
-      turns = subst IsDisciplined (sym (set_in_place r c.knot-k.result ps cut c.kept.ensures (record x { wrote = Some c.args.v }))) (writes _ c.args.self.now r i x (Some c.args.v) c.self.view_is c.self.invariant.turns at is);
+      turns = subst IsDisciplined (sym (set_in_place r c.knot-k.result ps cut c.kept_invariant.ensures (record x { wrote = Some c.args.v }))) (writes _ c.args.self.now r i x (Some c.args.v) c.self.view_is c.self.invariant.turns at is);
       last = c.writer_with-self-inside.ensures;
     }
 
@@ -44,7 +44,7 @@ returns c =
     let cut = c.knot-k.ensures in
     let x = c.get_mut.result.now in
     let i = length (values_of cut.front) in
-    let at = at_now r c.knot-k.result ps cut c.kept.ensures c.args.self.now.accesses (ap (λ v. v.accesses) c.self.view_is) in
-    let is = read_in_place r c.knot-k.result ps cut c.kept.ensures x c.get_mut.ensures.value in
-    ap (λ l. record { committed = c.self.inside.committed; accesses = l; room = c.self.inside.accesses.spare; up = c.self.inside.up }) (set_in_place r c.knot-k.result ps cut c.kept.ensures ((λ (z : Access). record z { wrote = Some c.args.v }) x))
+    let at = at_now r c.knot-k.result ps cut c.kept_invariant.ensures c.args.self.now.accesses (ap (λ v. v.accesses) c.self.view_is) in
+    let is = read_in_place r c.knot-k.result ps cut c.kept_invariant.ensures x c.get_mut.ensures.value in
+    ap (λ l. record { committed = c.self.inside.committed; accesses = l; room = c.self.inside.accesses.spare; up = c.self.inside.up }) (set_in_place r c.knot-k.result ps cut c.kept_invariant.ensures ((λ (z : Access). record z { wrote = Some c.args.v }) x))
     ∙ changed_state _ c.args.self.now r i x (λ (z : Access). record z { wrote = Some c.args.v }) c.self.view_is at is

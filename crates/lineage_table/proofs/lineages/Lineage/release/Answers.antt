@@ -18,9 +18,9 @@ invariant_of-self c =
     let cut = c.knot-k.ensures in
     let x = c.get_mut.result.now in
     let i = length (values_of cut.front) in
-    let at = at_now r c.knot-k.result ps cut c.kept.ensures c.args.self.now.accesses (ap (λ v. v.accesses) c.self.view_is) in
-    let is = read_in_place r c.knot-k.result ps cut c.kept.ensures x c.get_mut.ensures.value in
-    let set = set_in_place r c.knot-k.result ps cut c.kept.ensures ((λ (z : Access). record z { status = Released }) x) in
+    let at = at_now r c.knot-k.result ps cut c.kept_invariant.ensures c.args.self.now.accesses (ap (λ v. v.accesses) c.self.view_is) in
+    let is = read_in_place r c.knot-k.result ps cut c.kept_invariant.ensures x c.get_mut.ensures.value in
+    let set = set_in_place r c.knot-k.result ps cut c.kept_invariant.ensures ((λ (z : Access). record z { status = Released }) x) in
     record {
       turns = subst IsDisciplined (sym set) (releases _ c.args.self.now r i x c.self.view_is c.self.invariant.turns at is c.requires.acquired);
       last = keeps_changed _ c.args.self.now c.self.inside.writer c.self.view_is c.self.invariant r i x (λ (z : Access). record z { status = Released }) at is (λ z. refl) (λ z. refl) ∙ sym (ap effective_writer set);
@@ -33,7 +33,7 @@ returns c =
     let cut = c.knot-k.ensures in
     let x = c.get_mut.result.now in
     let i = length (values_of cut.front) in
-    let at = at_now r c.knot-k.result ps cut c.kept.ensures c.args.self.now.accesses (ap (λ v. v.accesses) c.self.view_is) in
-    let is = read_in_place r c.knot-k.result ps cut c.kept.ensures x c.get_mut.ensures.value in
-    ap (λ l. record { committed = c.self.inside.committed; accesses = l; room = c.self.inside.accesses.spare; up = c.self.inside.up }) (set_in_place r c.knot-k.result ps cut c.kept.ensures ((λ (z : Access). record z { status = Released }) x))
+    let at = at_now r c.knot-k.result ps cut c.kept_invariant.ensures c.args.self.now.accesses (ap (λ v. v.accesses) c.self.view_is) in
+    let is = read_in_place r c.knot-k.result ps cut c.kept_invariant.ensures x c.get_mut.ensures.value in
+    ap (λ l. record { committed = c.self.inside.committed; accesses = l; room = c.self.inside.accesses.spare; up = c.self.inside.up }) (set_in_place r c.knot-k.result ps cut c.kept_invariant.ensures ((λ (z : Access). record z { status = Released }) x))
     ∙ changed_state _ c.args.self.now r i x (λ (z : Access). record z { status = Released }) c.self.view_is at is

@@ -12,8 +12,8 @@ writer_of-self-inside-requires c = λ stays.
     let r = c.args.r.0 in
     let ps = c.self.inside.accesses.pairs in
     let cut = c.in-Some.ensures in
-    let at = at_now r c.in-Some.k ps cut c.kept.ensures c.args.self.now.accesses (ap (λ v. v.accesses) c.self.view_is) in
-    let gone = ap values_of c.unlink.ensures.pairs ∙ taken r c.in-Some.k ps cut c.kept.ensures in
+    let at = at_now r c.in-Some.k ps cut c.kept_invariant.ensures c.args.self.now.accesses (ap (λ v. v.accesses) c.self.view_is) in
+    let gone = ap values_of c.unlink.ensures.pairs ∙ taken r c.in-Some.k ps cut c.kept_invariant.ensures in
     keeps_removed _ c.args.self.now c.self.inside.writer c.self.view_is c.self.invariant c.args.r (length (values_of cut.front)) (values_of c.unlink.new.self.pairs) at gone (not_last c.args.r c.self.inside.writer c.ne-stays.result c.ne-stays.ensures stays)
 
 pub invariant_of-self : goal.invariant_of-self
@@ -21,10 +21,10 @@ invariant_of-self c =
     let r = c.args.r.0 in
     let ps = c.self.inside.accesses.pairs in
     let cut = c.in-Some.ensures in
-    let at = at_now r c.in-Some.k ps cut c.kept.ensures c.args.self.now.accesses (ap (λ v. v.accesses) c.self.view_is) in
-    let gone = ap values_of c.unlink.ensures.pairs ∙ taken r c.in-Some.k ps cut c.kept.ensures in
+    let at = at_now r c.in-Some.k ps cut c.kept_invariant.ensures c.args.self.now.accesses (ap (λ v. v.accesses) c.self.view_is) in
+    let gone = ap values_of c.unlink.ensures.pairs ∙ taken r c.in-Some.k ps cut c.kept_invariant.ensures in
     record {
-      turns = subst IsDisciplined (sym (gone ∙ without_remove r (length (values_of cut.front)) (values_of ps) cut.access c.self.invariant.turns (at_now r c.in-Some.k ps cut c.kept.ensures (values_of ps) refl))) (without_keeps (values_of ps) r c.self.invariant.turns);
+      turns = subst IsDisciplined (sym (gone ∙ without_remove r (length (values_of cut.front)) (values_of ps) cut.access c.self.invariant.turns (at_now r c.in-Some.k ps cut c.kept_invariant.ensures (values_of ps) refl))) (without_keeps (values_of ps) r c.self.invariant.turns);
       last = c.writer_of-self-inside.ensures;
     }
 
@@ -39,8 +39,8 @@ returns-in-Some-clause-found c =
     let r = c.args.r.0 in
     let ps = c.self.inside.accesses.pairs in
     let cut = c.in-Some.ensures in
-    let at = at_now r c.in-Some.k ps cut c.kept.ensures c.args.self.now.accesses (ap (λ v. v.accesses) c.self.view_is) in
-    let gone = ap values_of c.unlink.ensures.pairs ∙ taken r c.in-Some.k ps cut c.kept.ensures in
+    let at = at_now r c.in-Some.k ps cut c.kept_invariant.ensures c.args.self.now.accesses (ap (λ v. v.accesses) c.self.view_is) in
+    let gone = ap values_of c.unlink.ensures.pairs ∙ taken r c.in-Some.k ps cut c.kept_invariant.ensures in
     sym (has_place r c.args.self.now.accesses ∙ ap is_some at)
 
 pub returns-in-Some-clause-left : goal.returns-in-Some-clause-left
@@ -48,6 +48,6 @@ returns-in-Some-clause-left c =
     let r = c.args.r.0 in
     let ps = c.self.inside.accesses.pairs in
     let cut = c.in-Some.ensures in
-    let at = at_now r c.in-Some.k ps cut c.kept.ensures c.args.self.now.accesses (ap (λ v. v.accesses) c.self.view_is) in
-    let gone = ap values_of c.unlink.ensures.pairs ∙ taken r c.in-Some.k ps cut c.kept.ensures in
+    let at = at_now r c.in-Some.k ps cut c.kept_invariant.ensures c.args.self.now.accesses (ap (λ v. v.accesses) c.self.view_is) in
+    let gone = ap values_of c.unlink.ensures.pairs ∙ taken r c.in-Some.k ps cut c.kept_invariant.ensures in
     removed_state _ c.args.self.now r (length (values_of cut.front)) _ cut.access (values_of c.unlink.new.self.pairs) c.self.view_is c.self.invariant.turns at gone c.unlink.ensures.spare

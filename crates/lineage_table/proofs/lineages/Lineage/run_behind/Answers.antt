@@ -21,7 +21,7 @@ returns-in_err-behind c =
     let k = c.in_ok-k.k in
     let cut = subst (IsKnotOf r ps) c.in_ok-k.was c.knot_of.ensures in
     c.from_residual-in_err-behind.ensures
-    ∙ sym (ap (λ l. option_map (λ (x : Access). x.run) (slice_get l 0)) (behind_there r k ps cut c.kept.ensures None (subst (λ o. IsBehind k o ps) c.in_err-behind.was c.after.ensures.behind)))
+    ∙ sym (ap (λ l. option_map (λ (x : Access). x.run) (slice_get l 0)) (behind_there r k ps cut c.kept_invariant.ensures None (subst (λ o. IsBehind k o ps) c.in_err-behind.was c.after.ensures.behind)))
     ∙ ap (λ v. run_behind r v.accesses) c.self.view_is
 
 pub returns : goal.returns
@@ -32,7 +32,7 @@ returns c =
     let cut = subst (IsKnotOf r ps) c.in_ok-k.was c.knot_of.ensures in
     let b = c.in_ok-behind.behind in
     sym (
-    ap (λ l. option_map (λ (x : Access). x.run) (slice_get l 0)) (behind_there r k ps cut c.kept.ensures (Some b) (subst (λ o. IsBehind k o ps) c.in_ok-behind.was c.after.ensures.behind))
+    ap (λ l. option_map (λ (x : Access). x.run) (slice_get l 0)) (behind_there r k ps cut c.kept_invariant.ensures (Some b) (subst (λ o. IsBehind k o ps) c.in_ok-behind.was c.after.ensures.behind))
     ∙ ap (option_map (λ (x : Access). x.run)) (first_from b.0 ps c.get.result.now c.get.ensures)
     )
     ∙ ap (λ v. run_behind r v.accesses) c.self.view_is

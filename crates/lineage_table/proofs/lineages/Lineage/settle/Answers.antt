@@ -14,7 +14,7 @@ pub knot-k-requires : goal.knot-k-requires
 knot-k-requires c = ap (λ v. has_access c.args.r.0 v.accesses) c.self.view_is ∙ found_by_value c.args.r.0 c.args.self.now.accesses c.requires.wrote
 
 pub unlink-requires : goal.unlink-requires
-unlink-requires c = record { there = ap (has_knot c.knot-k.result.0) c.drop_left_of.ensures.pairs ∙ left_has c.args.r.0 c.knot-k.result c.self.inside.accesses.pairs c.knot-k.ensures c.kept.ensures }
+unlink-requires c = record { there = ap (has_knot c.knot-k.result.0) c.drop_left_of.ensures.pairs ∙ left_has c.args.r.0 c.knot-k.result c.self.inside.accesses.pairs c.knot-k.ensures c.kept_invariant.ensures }
 
 pub unwrap-self-inside-requires : goal.unwrap-self-inside-requires
 unwrap-self-inside-requires c =
@@ -24,9 +24,9 @@ unwrap-self-inside-requires c =
     let cut = c.knot-k.ensures in
     let i = length (values_of cut.front) in
     let x = c.unlink.result in
-    let at = at_now r k ps cut c.kept.ensures c.args.self.now.accesses (ap (λ v. v.accesses) c.self.view_is) in
-    let read = sym (left_value r k ps cut c.kept.ensures) ∙ sym (ap (value_at k.0) c.drop_left_of.ensures.pairs) ∙ c.unlink.ensures.value in
-    let is = read_in_place r k ps cut c.kept.ensures x read in
+    let at = at_now r k ps cut c.kept_invariant.ensures c.args.self.now.accesses (ap (λ v. v.accesses) c.self.view_is) in
+    let read = sym (left_value r k ps cut c.kept_invariant.ensures) ∙ sym (ap (value_at k.0) c.drop_left_of.ensures.pairs) ∙ c.unlink.ensures.value in
+    let is = read_in_place r k ps cut c.kept_invariant.ensures x read in
     wrote_there _ c.args.self.now r i x c.self.view_is at is c.requires.wrote
 
 pub invariant_of-self : goal.invariant_of-self
@@ -37,11 +37,11 @@ invariant_of-self c =
     let cut = c.knot-k.ensures in
     let i = length (values_of cut.front) in
     let x = c.unlink.result in
-    let at = at_now r k ps cut c.kept.ensures c.args.self.now.accesses (ap (λ v. v.accesses) c.self.view_is) in
-    let read = sym (left_value r k ps cut c.kept.ensures) ∙ sym (ap (value_at k.0) c.drop_left_of.ensures.pairs) ∙ c.unlink.ensures.value in
-    let is = read_in_place r k ps cut c.kept.ensures x read in
+    let at = at_now r k ps cut c.kept_invariant.ensures c.args.self.now.accesses (ap (λ v. v.accesses) c.self.view_is) in
+    let read = sym (left_value r k ps cut c.kept_invariant.ensures) ∙ sym (ap (value_at k.0) c.drop_left_of.ensures.pairs) ∙ c.unlink.ensures.value in
+    let is = read_in_place r k ps cut c.kept_invariant.ensures x read in
     let gone = ap values_of (c.unlink.ensures.pairs ∙ ap (without k.0) c.drop_left_of.ensures.pairs) in
-    let left_is = gone ∙ left r k ps cut c.kept.ensures in
+    let left_is = gone ∙ left r k ps cut c.kept_invariant.ensures in
     record {
       turns = subst IsDisciplined (sym left_is) (drop_keeps (values_of ps) (i + 1) c.self.invariant.turns);
       last = (
@@ -60,11 +60,11 @@ returns c =
     let cut = c.knot-k.ensures in
     let i = length (values_of cut.front) in
     let x = c.unlink.result in
-    let at = at_now r k ps cut c.kept.ensures c.args.self.now.accesses (ap (λ v. v.accesses) c.self.view_is) in
-    let read = sym (left_value r k ps cut c.kept.ensures) ∙ sym (ap (value_at k.0) c.drop_left_of.ensures.pairs) ∙ c.unlink.ensures.value in
-    let is = read_in_place r k ps cut c.kept.ensures x read in
+    let at = at_now r k ps cut c.kept_invariant.ensures c.args.self.now.accesses (ap (λ v. v.accesses) c.self.view_is) in
+    let read = sym (left_value r k ps cut c.kept_invariant.ensures) ∙ sym (ap (value_at k.0) c.drop_left_of.ensures.pairs) ∙ c.unlink.ensures.value in
+    let is = read_in_place r k ps cut c.kept_invariant.ensures x read in
     let gone = ap values_of (c.unlink.ensures.pairs ∙ ap (without k.0) c.drop_left_of.ensures.pairs) in
-    let left_is = gone ∙ left r k ps cut c.kept.ensures in
-    let fewer = left_length r k ps cut c.kept.ensures in
+    let left_is = gone ∙ left r k ps cut c.kept_invariant.ensures in
+    let fewer = left_length r k ps cut c.kept_invariant.ensures in
     settled_state _ c.args.self.now r i _ c.unwrap-self-inside.result x (values_of c.unlink.new.self.pairs) c.self.view_is at is c.unwrap-self-inside.ensures left_is
     (omega (arith, c.unlink.ensures.spare, c.drop_left_of.ensures.room, ap length c.drop_left_of.ensures.pairs, fewer, ap length gone, ap length left_is, length-drop (i + 1) (values_of ps), length_values ps))

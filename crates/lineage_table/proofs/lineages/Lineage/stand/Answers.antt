@@ -12,16 +12,16 @@ pub unwrap-requires : goal.unwrap-requires
 unwrap-requires c =
     let ps = c.self.inside.accesses.pairs in
     let cut = c.knot-k.ensures in
-    let at = at_now c.in-Some.r.0 c.knot-k.result ps cut c.kept.ensures c.args.self.now.accesses (ap (λ v. v.accesses) c.self.view_is) in
-    let is = read_in_place c.in-Some.r.0 c.knot-k.result ps cut c.kept.ensures c.get.result.now c.get.ensures in
+    let at = at_now c.in-Some.r.0 c.knot-k.result ps cut c.kept_invariant.ensures c.args.self.now.accesses (ap (λ v. v.accesses) c.self.view_is) in
+    let is = read_in_place c.in-Some.r.0 c.knot-k.result ps cut c.kept_invariant.ensures c.get.result.now c.get.ensures in
     subst IsSome (sym (stood_there _ c.args.self.now c.self.inside.writer c.self.view_is c.self.invariant c.in-Some.r (length (values_of cut.front)) c.get.result.now c.in-Some.is at is)) (search rules)
 
 pub returns-in-Some : goal.returns-in-Some
 returns-in-Some c =
     let ps = c.self.inside.accesses.pairs in
     let cut = c.knot-k.ensures in
-    let at = at_now c.in-Some.r.0 c.knot-k.result ps cut c.kept.ensures c.args.self.now.accesses (ap (λ v. v.accesses) c.self.view_is) in
-    let is = read_in_place c.in-Some.r.0 c.knot-k.result ps cut c.kept.ensures c.get.result.now c.get.ensures in
+    let at = at_now c.in-Some.r.0 c.knot-k.result ps cut c.kept_invariant.ensures c.args.self.now.accesses (ap (λ v. v.accesses) c.self.view_is) in
+    let is = read_in_place c.in-Some.r.0 c.knot-k.result ps cut c.kept_invariant.ensures c.get.result.now c.get.ensures in
     same (sym c.unwrap.ensures ∙ stood_there _ c.args.self.now c.self.inside.writer c.self.view_is c.self.invariant c.in-Some.r (length (values_of cut.front)) c.get.result.now c.in-Some.is at is)
   where
     same : {a b : ℕ} → Some a ≡ Some b → a ≡ b

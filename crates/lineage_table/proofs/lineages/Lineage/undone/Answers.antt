@@ -14,10 +14,10 @@ writer_of-self-inside-requires c = λ another.
     let cut = c.in-Some.ensures in
     let x = c.get_mut.result.now in
     let i = length (values_of cut.front) in
-    let at = at_now r c.in-Some.k ps cut c.kept.ensures c.args.self.now.accesses (ap (λ v. v.accesses) c.self.view_is) in
-    let is = read_in_place r c.in-Some.k ps cut c.kept.ensures x c.get_mut.ensures.value in
+    let at = at_now r c.in-Some.k ps cut c.kept_invariant.ensures c.args.self.now.accesses (ap (λ v. v.accesses) c.self.view_is) in
+    let is = read_in_place r c.in-Some.k ps cut c.kept_invariant.ensures x c.get_mut.ensures.value in
     keeps_undone _ c.args.self.now c.self.inside.writer c.self.view_is c.self.invariant c.args.r i x at is (not_last c.args.r c.self.inside.writer c.ne-of_another.result c.ne-of_another.ensures another)
-    ∙ sym (ap effective_writer (set_in_place r c.in-Some.k ps cut c.kept.ensures ((λ (z : Access). record z { wrote = None }) x)))
+    ∙ sym (ap effective_writer (set_in_place r c.in-Some.k ps cut c.kept_invariant.ensures ((λ (z : Access). record z { wrote = None }) x)))
 
 pub invariant_of-self : goal.invariant_of-self
 invariant_of-self c =
@@ -26,10 +26,10 @@ invariant_of-self c =
     let cut = c.in-Some.ensures in
     let x = c.get_mut.result.now in
     let i = length (values_of cut.front) in
-    let at = at_now r c.in-Some.k ps cut c.kept.ensures c.args.self.now.accesses (ap (λ v. v.accesses) c.self.view_is) in
-    let is = read_in_place r c.in-Some.k ps cut c.kept.ensures x c.get_mut.ensures.value in
+    let at = at_now r c.in-Some.k ps cut c.kept_invariant.ensures c.args.self.now.accesses (ap (λ v. v.accesses) c.self.view_is) in
+    let is = read_in_place r c.in-Some.k ps cut c.kept_invariant.ensures x c.get_mut.ensures.value in
     record {
-      turns = subst IsDisciplined (sym (set_in_place r c.in-Some.k ps cut c.kept.ensures (record x { wrote = None }))) (writes _ c.args.self.now r i x None c.self.view_is c.self.invariant.turns at is);
+      turns = subst IsDisciplined (sym (set_in_place r c.in-Some.k ps cut c.kept_invariant.ensures (record x { wrote = None }))) (writes _ c.args.self.now r i x None c.self.view_is c.self.invariant.turns at is);
       last = c.writer_of-self-inside.ensures;
     }
 
@@ -40,9 +40,9 @@ returns-in-Some c =
     let cut = c.in-Some.ensures in
     let x = c.get_mut.result.now in
     let i = length (values_of cut.front) in
-    let at = at_now r c.in-Some.k ps cut c.kept.ensures c.args.self.now.accesses (ap (λ v. v.accesses) c.self.view_is) in
-    let is = read_in_place r c.in-Some.k ps cut c.kept.ensures x c.get_mut.ensures.value in
-    ap (λ l. record { committed = c.self.inside.committed; accesses = l; room = c.self.inside.accesses.spare; up = c.self.inside.up }) (set_in_place r c.in-Some.k ps cut c.kept.ensures ((λ (z : Access). record z { wrote = None }) x))
+    let at = at_now r c.in-Some.k ps cut c.kept_invariant.ensures c.args.self.now.accesses (ap (λ v. v.accesses) c.self.view_is) in
+    let is = read_in_place r c.in-Some.k ps cut c.kept_invariant.ensures x c.get_mut.ensures.value in
+    ap (λ l. record { committed = c.self.inside.committed; accesses = l; room = c.self.inside.accesses.spare; up = c.self.inside.up }) (set_in_place r c.in-Some.k ps cut c.kept_invariant.ensures ((λ (z : Access). record z { wrote = None }) x))
     ∙ changed_state _ c.args.self.now r i x (λ (z : Access). record z { wrote = None }) c.self.view_is at is
 
 pub returns-in_default : goal.returns-in_default

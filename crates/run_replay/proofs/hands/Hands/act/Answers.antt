@@ -11,8 +11,8 @@ unreachable-requires g c =
     not_refused_now _ c.give-given.new.self c.args.actor _ c.in-Some.grip c.act.result _
     (done_of _ _ c.args.actor c.index_mut.result.now c.in-Some.grip c.act.result
     c.self.view_is c.self.invariant c.requires.run c.requires.going c.requires.holds
-    c.index_mut.ensures.value (sym c.replace.ensures.value ∙ c.in-Some.is) c.kept.ensures.size
-    c.kept.ensures.grips c.act.ensures.slip c.act.ensures.task) c.in-Err.ensures.given.0
+    c.index_mut.ensures.value (sym c.replace.ensures.value ∙ c.in-Some.is) c.kept_invariant.ensures.size
+    c.kept_invariant.ensures.grips c.act.ensures.slip c.act.ensures.task) c.in-Err.ensures.given.0
 
 pub unreachable-requires-in-None : goal.unreachable-requires-in-None
 unreachable-requires-in-None g c =
@@ -36,8 +36,8 @@ invariant_of-self g c =
       is =
           done_of _ _ c.args.actor c.index_mut.result.now c.in-Some.grip c.act.result
           c.self.view_is c.self.invariant c.requires.run c.requires.going c.requires.holds
-          c.index_mut.ensures.value (sym c.replace.ensures.value ∙ c.in-Some.is) c.kept.ensures.size
-          c.kept.ensures.grips c.act.ensures.slip c.act.ensures.task;
+          c.index_mut.ensures.value (sym c.replace.ensures.value ∙ c.in-Some.is) c.kept_invariant.ensures.size
+          c.kept_invariant.ensures.grips c.act.ensures.slip c.act.ensures.task;
       at = c.moment-now.result + c.from.result;
       step = c.in-Ok.ensures.given.0;
       places = c.in-Ok.ensures.given.1;
@@ -62,8 +62,8 @@ returns g c =
       is =
           done_of _ _ c.args.actor c.index_mut.result.now c.in-Some.grip c.act.result
           c.self.view_is c.self.invariant c.requires.run c.requires.going c.requires.holds
-          c.index_mut.ensures.value (sym c.replace.ensures.value ∙ c.in-Some.is) c.kept.ensures.size
-          c.kept.ensures.grips c.act.ensures.slip c.act.ensures.task;
+          c.index_mut.ensures.value (sym c.replace.ensures.value ∙ c.in-Some.is) c.kept_invariant.ensures.size
+          c.kept_invariant.ensures.grips c.act.ensures.slip c.act.ensures.task;
       at = c.moment-now.result + c.from.result;
       step = c.in-Ok.ensures.given.0;
       places = c.in-Ok.ensures.given.1;

@@ -8,7 +8,7 @@ use Rattle.std.specs.Prelude.{slice_set}
 pub unreachable-requires : goal.unreachable-requires
 unreachable-requires g c =
     probe_not_refused _ c.give_probe-given.new.self c.in-Some.grip c.act.result _
-    (holds _ _ c.index_mut.result.now c.in-Some.grip c.self.view_is c.self.invariant c.kept.ensures.size c.requires.going c.requires.holds
+    (holds _ _ c.index_mut.result.now c.in-Some.grip c.self.view_is c.self.invariant c.kept_invariant.ensures.size c.requires.going c.requires.holds
     c.index_mut.ensures.value (sym c.replace.ensures.value ∙ c.in-Some.is)) c.act.ensures.slip c.act.ensures.task c.in-Err.ensures.given.0
 
 pub unreachable-requires-in-None : goal.unreachable-requires-in-None
@@ -31,7 +31,7 @@ pub invariant_of-self : goal.invariant_of-self
 invariant_of-self g c =
     back_keeps _ _ c.in-Some.grip c.act.result _ (record {
       held =
-          holds _ _ c.index_mut.result.now c.in-Some.grip c.self.view_is c.self.invariant c.kept.ensures.size c.requires.going c.requires.holds
+          holds _ _ c.index_mut.result.now c.in-Some.grip c.self.view_is c.self.invariant c.kept_invariant.ensures.size c.requires.going c.requires.holds
           c.index_mut.ensures.value (sym c.replace.ensures.value ∙ c.in-Some.is);
       slip = c.act.ensures.slip;
       step = c.in-Ok.ensures.given.0;
@@ -47,7 +47,7 @@ pub returns : goal.returns
 returns g c =
     steps_now _ _ _ _ 0 _ c.self.view_is (back_steps g.D.Device.shows _ _ c.in-Some.grip c.act.result c.in-Ok.made (record {
       held =
-          holds _ _ c.index_mut.result.now c.in-Some.grip c.self.view_is c.self.invariant c.kept.ensures.size c.requires.going c.requires.holds
+          holds _ _ c.index_mut.result.now c.in-Some.grip c.self.view_is c.self.invariant c.kept_invariant.ensures.size c.requires.going c.requires.holds
           c.index_mut.ensures.value (sym c.replace.ensures.value ∙ c.in-Some.is);
       slip = c.act.ensures.slip;
       step = c.in-Ok.ensures.given.0;

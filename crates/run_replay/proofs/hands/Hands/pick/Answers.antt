@@ -5,16 +5,16 @@ use Rattle.std.proofs.Common.{sym, ◌∙◌}
 
 pub returns-then-has_ended-clause-picked : goal.returns-then-has_ended-clause-picked
 returns-then-has_ended-clause-picked g c =
-    passed_picks g.D.Device.shows c.args.self.now c.args.actor c.kept.ensures.player (sym c.has_ended.ensures ∙ c.if-has_ended.true)
+    passed_picks g.D.Device.shows c.args.self.now c.args.actor c.kept_invariant.ensures.player (sym c.has_ended.ensures ∙ c.if-has_ended.true)
 
 pub count-requires : goal.count-requires
 count-requires g c =
-    record { low = moves_low c.args.self.now c.step-picked.new.self c.step-picked.ensures.moves c.kept.ensures.player c.requires.few }
+    record { low = moves_low c.args.self.now c.step-picked.new.self c.step-picked.ensures.moves c.kept_invariant.ensures.player c.requires.few }
 
 pub returns-clause-picked : goal.returns-clause-picked
 returns-clause-picked g c =
     counted_picks g.D.Device.shows c.args.self.now c.step-picked.new.self c.count.new.self c.args.actor c.step-picked.result
-    c.kept.ensures.player (sym c.has_ended.ensures ∙ c.if-has_ended.false) c.step-picked.ensures c.count.ensures
+    c.kept_invariant.ensures.player (sym c.has_ended.ensures ∙ c.if-has_ended.false) c.step-picked.ensures c.count.ensures
 
 pub returns-clause-few : goal.returns-clause-few
 returns-clause-few g c =

@@ -19,8 +19,8 @@ actors-preserved g c = elim c.if-not-has_ended.branch [
   | then-not-has_ended w ↦
       let size = ap (λ v. vec_len v) w.actors-is ∙ w.push_reserved.ensures.len in
       let room = ap (λ v. vec_capacity v) w.actors-is ∙ w.push_reserved.ensures.capacity in
-      let hands = c.kept.ensures.player.kept.actors in
-      let few = c.kept.ensures.player.few_runs in
+      let hands = c.kept_invariant.ensures.player.kept.actors in
+      let few = c.kept_invariant.ensures.player.few_runs in
       let own = ap (λ (h : OpenHub _). length h.setting.runs) c.in-Ok-open.ensures.opened.own in (
         one_passes (λ a. not (is_ended c.in-Ok-open.hands a)) c.actors.actor c.actors.actors.items c.if-not-has_ended.actors.items c.actors.invariant.0 (ap not (sym c.has_ended.ensures ∙ w.if-not-has_ended.true)) (ap (λ v. v.items) w.actors-is ∙ w.push_reserved.ensures.items),
         omega (arith, size, c.actors.invariant.1),
@@ -47,12 +47,12 @@ actors-init g c = (c.in-Ok.ensures.items, search rules, search rules, none_below
 -- every actor was looked at
 pub invariant_of-result : goal.invariant_of-result
 invariant_of-result g c =
-    let hands = c.kept.ensures.player.kept.actors in
+    let hands = c.kept_invariant.ensures.player.kept.actors in
     let own = ap (λ (h : OpenHub _). length h.setting.runs) c.in-Ok-open.ensures.opened.own in
     let all : c.actors.actor
     ≡ length c.in-Ok-open.hands.grips = omega (arith, c.actors-test.false, c.actors.auto.actor-end, c.run_count-count.ensures, hands, own) in (
       c.actors.invariant.0 ∙ ap (λ n. filter (λ a. not (is_ended c.in-Ok-open.hands a)) (range_with_len 0 n)) all,
-      few_at_first c.in-Ok-open.hands c.kept.ensures.player.kept
+      few_at_first c.in-Ok-open.hands c.kept_invariant.ensures.player.kept
           (ap (λ (p : Play). p.moves) c.in-Ok-open.ensures.opened.start) c.in-Ok-open.ensures.opened.hands,
-      all_live c.in-Ok-open.hands c.actors.runs c.actors.actor c.kept.ensures.player.kept all c.actors.invariant.3,
+      all_live c.in-Ok-open.hands c.actors.runs c.actors.actor c.kept_invariant.ensures.player.kept all c.actors.invariant.3,
     )

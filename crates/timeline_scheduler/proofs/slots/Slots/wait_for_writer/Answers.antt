@@ -13,7 +13,7 @@ pub overflow_add-from : goal.overflow_add-from
 overflow_add-from c =
     let runs = runs_of c.args.roster.now in
     let waits = next_waiting runs c.args.r.0 c.args.x.0 c.first_reads_of-waiting.result c.first_reads_of-waiting.ensures c.devices.from.0 c.in-Some.d.0 c.in-Some.ensures in
-    let low : c.in-Some.d.0 < most_devices = device_below c.in-Some.d.0 most_devices (commands_of runs c.args.r.0) (c.kept.ensures.low_devices c.args.r.0) (waits_touched runs c.args.r.0 c.args.x.0 c.in-Some.d.0 waits.1) in
+    let low : c.in-Some.d.0 < most_devices = device_below c.in-Some.d.0 most_devices (commands_of runs c.args.r.0) (c.kept_invariant.ensures.low_devices c.args.r.0) (waits_touched runs c.args.r.0 c.args.x.0 c.in-Some.d.0 waits.1) in
     omega (arith, low)
 
 pub index-slot-requires : goal.index-slot-requires

@@ -1,6 +1,0 @@
-use Rattle.run_replay.proofs.hands.Hands.kept.Goals as goal
-use Rattle.run_replay.specs.Players.{PlayerStands}
-use Rattle.std.proofs.Common.{subst}
-
-pub returns-clause-player : goal.returns-clause-player
-returns-clause-player g c = subst PlayerStands c.self.view_is (record { kept = c.self.invariant; size = c.kept.ensures.size; few_runs = c.kept.ensures.few_runs; grips = c.kept.ensures.grips; progress = c.progress.ensures; few_devices = c.kept.ensures.few_devices; bounded = c.bounded.ensures })

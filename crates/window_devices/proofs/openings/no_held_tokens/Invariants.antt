@@ -1,0 +1,6 @@
+use Rattle.window_devices.proofs.openings.no_held_tokens.Given as goal
+use Rattle.std.proofs.Common.{None, replicate, ◌≡◌}
+
+-- so many runs up to here
+abbrev pub invariant-runs : goal.invariant-runs
+invariant-runs l = l.held_tokens.items ≡ replicate l.counter None

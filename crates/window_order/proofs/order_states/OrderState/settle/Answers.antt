@@ -1,0 +1,10 @@
+use Rattle.window_order.proofs.order_states.OrderState.settle.Goals as goal
+use Rattle.serial_line.proofs.Cited.{front_settling}
+use Rattle.std.proofs.Common.{arith}
+
+pub seal-requires : goal.seal-requires
+seal-requires c =
+    let sealed = c.settle.ensures.sealed in
+    let is = c.requires in
+    let more = front_settling c.args.r.0 c.args.self.now.line.marks in
+    rw c.settle.ensures.marks (omega (arith, sealed, is, more))
